@@ -56,9 +56,8 @@ append_none (x ∷ xs) = ap (λ ys. x ∷ ys) (append_none xs)
 -- the parts of one number more
 pub parts-push : (f : ℕ → List (ℕ × ℕ)) (n : ℕ) → flat_map f (numbers_below (n + 1))
     ≡ flat_map f (numbers_below n) ++ f n
-parts-push f n = ap (flat_map f) (numbers_below-push n) ∙ flat_map-append f (numbers_below n)
-    (n ∷ [])
-    ∙ ap (λ xs. flat_map f (numbers_below n) ++ xs) (append_none (f n))
+parts-push f n =
+    cc (numbers_below-push n, flat_map-append f (numbers_below n) (n ∷ []), append_none (f n))
 
 -- the amounts with the parts of one number more
 pub collected-push : (f : ℕ → List (ℕ × ℕ)) (n : ℕ) (s t : Amounts)
@@ -70,5 +69,4 @@ collected-push f n s t is more = more ∙ ap (λ x. added x (f n)) is
 pub added-push : (f : ℕ → List (ℕ × ℕ)) (n : ℕ) (r s t : Amounts)
     → s ≡ added r (flat_map f (numbers_below n)) → t ≡ added s (f n)
     → t ≡ added r (flat_map f (numbers_below (n + 1)))
-added-push f n r s t is more = more ∙ ap (λ x. added x (f n)) is
-    ∙ sym (ap (added r) (parts-push f n) ∙ added-append (flat_map f (numbers_below n)) (f n) r)
+added-push f n r s t is more = search (more, added, parts-push, added-append, arith)

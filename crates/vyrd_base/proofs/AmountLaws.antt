@@ -1,6 +1,6 @@
 -- Laws of amounts by key.
 use Rattle.std.proofs.Common.{◌≡◌, ℕ, Bool, true, false, cond, not, [], ◌∷◌, Option, Some, None}
-use Rattle.std.proofs.Common.{refl, ap, ◌∙◌, sym, arith, subst, ◌<◌, ◌≤◌, ◌++◌, T}
+use Rattle.std.proofs.Common.{refl, ap, ◌∙◌, sym, arith, ◌<◌, ◌≤◌, ◌++◌, T}
 use Rattle.std.specs.Prelude.{◌≢◌, ◌==◌, unwrap_or, filter, ◌&&◌, All}
 use Rattle.std.specs.Ordering.{nat_cmp, eq_by_cmp, is_lt}
 use Rattle.std.proofs.lemmas.List.Elements.{recursion_from_All}
@@ -102,10 +102,7 @@ found_some (entry ∷ s) q v all e =
 
 same_found : (x y : Option ℕ) → ((v : ℕ) → x ≡ Some v → v ≢ 0) → ((v : ℕ) → y ≡ Some v → v ≢ 0)
     → unwrap_or x 0 ≡ unwrap_or y 0 → x ≡ y
-same_found None None some_x some_y e = refl
-same_found None (Some v) some_x some_y e = absurd (some_y v refl (sym e))
-same_found (Some v) None some_x some_y e = absurd (some_x v refl e)
-same_found (Some v) (Some w) some_x some_y e = ap Some e
+same_found x y some_x some_y e = grind arith
 
 -- amounts that agree at every key are the same
 pub same_amounts : (s t : Amounts) → IsAmounts s → IsAmounts t
@@ -142,8 +139,7 @@ second_of_and false b p = absurd p
 
 below_push : (x k a : ℕ) (s : Amounts) → x < k → T (below_all nat_cmp x s)
     → T (below_all nat_cmp x (s ++ (k, a) ∷ []))
-below_push x k a [] low below = and_true (is_lt (nat_cmp x k)) true
-    (subst (λ o. T (is_lt o)) (sym (less_of x k low)) tt) tt
+below_push x k a [] low below = search (and_true, less_of, arith)
 below_push x k a (e ∷ s) low below =
     and_true (is_lt (nat_cmp x e.0)) _ (first_of_and _ _ below)
     (below_push x k a s low (second_of_and (is_lt (nat_cmp x e.0)) _ below))
@@ -177,5 +173,4 @@ same_amount s q is =
   where
     by_key : (r : ℕ) (same : Bool) → (r == q) ≡ same → cond same (amount_of s q) (amount_of s r)
         ≡ amount_of s r
-    by_key r true e = ap (amount_of s) (sym (same_of r q e))
-    by_key r false e = refl
+    by_key r same e = search (same_of, arith)

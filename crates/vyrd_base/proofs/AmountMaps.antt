@@ -1,10 +1,9 @@
 -- The words of a `BTreeMap` are those of amounts.
 use Rattle.std.proofs.Common.{◌≡◌, ℕ, Bool, true, false, cond, not, List, [], ◌∷◌, Some, refl, ap}
-use Rattle.std.proofs.Common.{subst, ◌∙◌, sym, arith, T}
+use Rattle.std.proofs.Common.{◌∙◌, arith, T}
 use Rattle.std.specs.Prelude.{◌==◌, ◌≢◌, filter}
 use Rattle.std.specs.Ordering.{nat_cmp, eq_by_cmp, match_ordering, is_lt}
 use Rattle.std.specs.declared.cmp.Ordering.{Ordering}
-use Rattle.std.specs.declared.cmp.Ordering.TheVariants.{Less, Equal, Greater}
 use Rattle.std.specs.Map.{lookup, remove_entry}
 use Rattle.std.specs.BTreeMap.{insert_entry, is_at}
 use Rattle.std.specs.FinMap.Entries.{find, put, by_order, below_all, is_sorted}
@@ -27,9 +26,7 @@ insert_entry-put k v (e ∷ es) = by_cmp (nat_cmp k e.0) (insert_entry-put k v e
     by_cmp : (o : Ordering) → insert_entry nat_cmp es k v ≡ put nat_cmp k v es
         → match_ordering o ((k, v) ∷ e ∷ es) ((e.0, v) ∷ es) (e ∷ insert_entry nat_cmp es k v)
         ≡ by_order o ((k, v) ∷ e ∷ es) ((e.0, v) ∷ es) (e ∷ put nat_cmp k v es)
-    by_cmp Less rest = refl
-    by_cmp Equal rest = refl
-    by_cmp Greater rest = ap (λ xs. e ∷ xs) rest
+    by_cmp o rest = search arith
 
 above_isnt : (k q : ℕ) → T (is_lt (nat_cmp k q)) → (q == k) ≡ false
 above_isnt k q h = grind (arith, nat_tests)
@@ -63,22 +60,13 @@ remove_entry-filter k (e ∷ es) rising =
         → cond (eq_by_cmp nat_cmp k e.0) es (e ∷ remove_entry (is_at (nat_cmp k)) es)
         ≡ cond (not (e.0 == k)) (e ∷ kept) kept
     by_test rest true is =
-        let same : k ≡ e.0 = grind (arith, nat_tests) in
-        ap (λ b. cond b es (e ∷ remove_entry (is_at (nat_cmp k)) es)) (unsigned_tied k e.0 ∙ is)
-        ∙ sym (kept_above k es
-        (subst (λ x. T (below_all nat_cmp x es)) (sym same) (first_of_and _ _ rising)))
-        ∙ sym (ap (λ b. cond (not b) (e ∷ kept) kept) (flip k e.0 true is))
-    by_test rest false isnt =
-        ap (λ b. cond b es (e ∷ remove_entry (is_at (nat_cmp k)) es)) (unsigned_tied k e.0 ∙ isnt)
-        ∙ ap (λ xs. e ∷ xs) rest
-        ∙ sym (ap (λ b. cond (not b) (e ∷ kept) kept) (flip k e.0 false isnt))
+        search (is_at, kept_above, below_all, first_of_and, rising, kept, flip, arith)
+    by_test rest false isnt = cc (unsigned_tied k e.0, flip k e.0 false isnt)
 
 -- an insert of an amount that isn't 0, and a remove
 pub insert-with_amount : (es : Amounts) (k v : ℕ) → v ≢ 0 → insert_entry nat_cmp es k v
     ≡ with_amount es k v
-insert-with_amount es k v some = insert_entry-put k v es
-    ∙ ap (λ b. cond b (filter (λ entry. not (entry.0 == k)) es) (put nat_cmp k v es))
-    (sym (isnt_same v 0 some))
+insert-with_amount es k v some = grind (arith, insert_entry-put, isnt_same)
 
 pub remove-with_amount : (es : Amounts) (k : ℕ) → T (is_sorted nat_cmp es)
     → remove_entry (is_at (nat_cmp k)) es ≡ with_amount es k 0

@@ -1,10 +1,9 @@
 -- What the loop over the characters of a buffer finds.
-use Rattle.std.proofs.Common.{◌≡◌, ℕ, ◌+◌, ◌*◌, ◌^◌, ◌<◌, ◌≤◌, Bool, true, false, refl, ap, sym}
+use Rattle.std.proofs.Common.{◌≡◌, ℕ, ◌+◌, ◌*◌, ◌^◌, ◌<◌, ◌≤◌, Bool, true, false, refl}
 use Rattle.std.proofs.Common.{arith}
 use Rattle.std.specs.Prelude.{nat_le, None}
-use Rattle.std.specs.Bool.{then_some}
 use Rattle.std.proofs.Math.Nat.{mul-le-mul_right, pow-le-pow_right}
-use Rattle.vyrd_base.specs.Buffers.{Buffer, is_buffer, are_characters, text_of, shown_text}
+use Rattle.vyrd_base.specs.Buffers.{Buffer, is_buffer, are_characters, shown_text}
 use Rattle.vyrd_base.proofs.TextLaws.{character_below}
 use Rattle.vyrd_base.proofs.TestLaws.{second_true}
 
@@ -24,8 +23,7 @@ digit_below c power i low few is =
 
 -- a character that isn't below 255 makes the words no buffer
 pub bad_text : (b : Buffer) (i : ℕ) → i < b.count → 255 ≤ b.character i → None ≡ shown_text b
-bad_text b i low high = ap (λ s. then_some s (text_of b.character b.count))
-    (sym (isnt (is_buffer b) refl))
+bad_text b i low high = cc (isnt (is_buffer b) refl)
   where
     isnt : (s : Bool) → is_buffer b ≡ s → is_buffer b ≡ false
     isnt true e =

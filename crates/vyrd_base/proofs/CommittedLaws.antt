@@ -2,7 +2,7 @@
 -- that those of the built-in subjects' methods commit once or never.
 use Rattle.std.proofs.Common.{◌≡◌, ℕ, Bool, true, false, not, cond, ◌&&◌, ◌||◌, List, [], ◌∷◌, ◌++◌}
 use Rattle.std.proofs.Common.{Some, None, refl, ap, subst, ◌∙◌, sym}
-use Rattle.std.specs.Prelude.{◌==◌, unwrap_or}
+use Rattle.std.specs.Prelude.{◌==◌}
 use Rattle.std.specs.List.{list_any}
 use Rattle.std.specs.Option.{option_or, option_map_or, option_flatten}
 use Rattle.vyrd_base.specs.declared.header.Header.{Header}
@@ -33,19 +33,15 @@ use Rattle.vyrd_base.proofs.KeptLaws.{method_subject}
 -- own
 pub committed-other : (c d : ℕ) (kind : Kind) (earlier : List Entry) → (d == c) ≡ false
     → has_committed c (entry d kind ∷ earlier) ≡ has_committed c earlier
-committed-other c d kind earlier other =
-    ap (λ o. unwrap_or o false) (other_answer c d commit_or_call kind earlier other)
+committed-other c d kind earlier other = cc (other_answer c d commit_or_call kind earlier other)
 
 pub committed-quiet : (c d : ℕ) (kind : Kind) (earlier : List Entry) → commit_or_call kind ≡ None
     → has_committed c (entry d kind ∷ earlier) ≡ has_committed c earlier
-committed-quiet c d kind earlier quiet =
-    ap (λ o. unwrap_or o false) (no_answer c d commit_or_call kind earlier quiet)
+committed-quiet c d kind earlier quiet = cc (no_answer c d commit_or_call kind earlier quiet)
 
 pub committed-own : (c : ℕ) (kind : Kind) (earlier : List Entry) (b : Bool)
     → commit_or_call kind ≡ Some b → has_committed c (entry c kind ∷ earlier) ≡ b
-committed-own c kind earlier b is =
-    ap (λ o. unwrap_or o false) (own_answer c commit_or_call kind earlier
-    ∙ ap (λ o. option_or o (first_answer (by_caller c commit_or_call) earlier)) is)
+committed-own c kind earlier b is = cc (own_answer c commit_or_call kind earlier)
 
 -- a method that commits in an execution that is open
 abbrev Mutates : ℕ → List Entry → Type 0
@@ -114,9 +110,7 @@ still_ours h c kind earlier called before kept is = by_kind kind kept
         ≡ Some called
         → subject_of called.method ≡ h.subject
     by_kind (Call method args) keeps it =
-        let same : record { method = method; args = args } ≡ called = cc in
-        ap (λ x. subject_of x.method) (sym same) ∙ method_subject h method args
-        (call_kept h c method args earlier keeps)
+        cc (method_subject h method args (call_kept h c method args earlier keeps))
     by_kind (Return reply) keeps it = cc
     by_kind (Write word value) keeps it = before it
     by_kind Commit keeps it = before it
@@ -141,9 +135,7 @@ pub return_free : (h : Header) (c reply : ℕ) (earlier : List Entry) (called : 
     → has_committed c earlier ≡ false → must_commit called.method ≡ false
 return_free h c reply earlier called kept opened none =
     free (must_commit called.method) (has_committed c earlier) none
-    (ap (λ o. option_map_or (λ k. must_commit k.method) o false && not (has_committed c earlier))
-    (sym opened)
-    ∙ (all_kept (checks_at h earlier (entry c (Return reply))) kept).1.1.1.0)
+    (cc ((all_kept (checks_at h earlier (entry c (Return reply))) kept).1.1.1.0))
   where
     free : (a b : Bool) → b ≡ false → (a && not b) ≡ false → a ≡ false
     free true true e f = cc
@@ -157,12 +149,11 @@ pub lacks_commit : (c : ℕ) (earlier : List Entry) (called : Called)
     → (owes_commit c earlier && not (has_committed c earlier))
     ≡ not (is_observing c earlier || has_committed c earlier)
 lacks_commit c earlier called opened built =
-    ap (λ o. option_map_or (λ k. must_commit k.method) o false && not (has_committed c earlier))
-    opened
-    ∙ ap (λ b. b && not (has_committed c earlier)) (once_or_never called.method built)
-    ∙ by_truth (is_observer called.method) (has_committed c earlier)
-    ∙ ap (λ o. not (option_map_or (λ k. is_observer k.method) o false || has_committed c earlier))
-    (sym opened)
+    cc (
+      once_or_never called.method built,
+      by_truth (is_observer called.method) (has_committed c
+          earlier),
+    )
   where
     by_truth : (a b : Bool) → (not a && not b) ≡ not (a || b)
     by_truth true b = refl
@@ -225,6 +216,4 @@ pub fault_by_method : (r : Rules) (window : List State) (es : List Entry) (c rep
     || list_any (λ state. r.answer state called.method called.args == reply) window)
     None (Some (Observer reply))
 fault_by_method r window es c reply called built kept opened =
-    ap (λ b. observer_fault r window b reply called)
-    (returns_last r.header es c reply built kept
-    ∙ ap (λ o. not (option_map_or (λ k. is_observer k.method) o false)) opened)
+    cc (returns_last r.header es c reply built kept)

@@ -1,12 +1,12 @@
 -- What a read of a source in memory gives; and what reads and writes do that come one after the
 -- other.
-use Rattle.std.proofs.Common.{◌≡◌, ℕ, ◌+◌, ◌≤◌, Bool, true, false, List, [], ◌∷◌, ◌++◌, length}
+use Rattle.std.proofs.Common.{◌≡◌, ℕ, ◌+◌, ◌≤◌, Bool, false, List, [], ◌∷◌, ◌++◌, length}
 use Rattle.std.proofs.Common.{take, drop, Some, refl, ap, ◌∙◌, sym, subst, arith, length-append}
 use Rattle.std.specs.Prelude.{◌==◌, option_map, IfSome}
 use Rattle.std.proofs.lemmas.List.{take-append-drop, take-append-le, drop-drop, length-take}
 use Rattle.std.proofs.lemmas.Bool.{ne_eqb}
 use Rattle.std.proofs.Math.Seq.{take-length}
-use Rattle.vyrd_base.specs.Devices.{next_count, Gives, SourceKnown, AfterReads, SinkKnown}
+use Rattle.vyrd_base.specs.Devices.{Gives, SourceKnown, AfterReads, SinkKnown}
 use Rattle.vyrd_base.specs.Devices.{AfterWrites}
 
 -- as many bytes as are copied to the front of the buffer are gone from the rest
@@ -16,10 +16,8 @@ given_bytes : (g n : ℕ) (bytes front tail : List ℕ) → front ≡ take n (dr
 given_bytes g n bytes front tail copied fits =
     let long : length front ≡ n = ap length copied ∙ length-take n (drop g bytes) ∙ omega arith in
     let start : take n (front ++ tail) ≡ front = take-append-le n front tail (omega arith)
-    ∙ sym (ap (λ k. take k front) long) ∙ take-length front in
-    sym (take-append-drop n (drop g bytes)) ∙ ap (λ xs. xs ++ drop n (drop g bytes))
-    (sym (start ∙ copied))
-    ∙ ap (λ xs. take n (front ++ tail) ++ xs) (drop-drop n g bytes)
+    ∙ sym (cc) ∙ take-length front in
+    cc (take-append-drop n (drop g bytes), drop-drop n g bytes)
 
 -- a list with no entries is empty
 none_left : (xs : List ℕ) → length xs ≡ 0 → xs ≡ []
@@ -53,28 +51,12 @@ given_next before after g n bytes front tail old new ended copied fits empty = r
 
 -- what no read has done, and what two reads do of which the first didn't fail
 pub no_read : (source : SourceKnown) → AfterReads false source source
-no_read source = record {
-  counted = refl;
-  stopped = refl;
-  stays_sure = λ sure. sure;
-  never = λ sure. refl;
-}
+no_read source = grind arith
 
 pub reads_in_row : (failed : Bool) (before between after : SourceKnown)
     → AfterReads false before between
     → AfterReads failed between after → AfterReads failed before after
-reads_in_row false before between after first then = record {
-  counted = then.counted ∙ first.counted;
-  stopped = then.stopped ∙ first.stopped;
-  stays_sure = λ sure. then.stays_sure (first.stays_sure sure);
-  never = λ sure. refl;
-}
-reads_in_row true before between after first then = record {
-  counted = then.counted ∙ ap next_count first.counted;
-  stopped = then.stopped;
-  stays_sure = λ sure. then.stays_sure (first.stays_sure sure);
-  never = λ sure. then.never (first.stays_sure sure);
-}
+reads_in_row failed before between after first then = grind (arith, between, after)
 
 -- The same for writes. What the second one is to write fits if all does.
 pub no_write : (fits : Type 0) (sink : SinkKnown) → AfterWrites false fits sink sink
@@ -83,13 +65,5 @@ no_write fits sink = record { counted = refl; stopped = refl; never = λ sure. r
 pub writes_in_row : (failed : Bool) (all rest : Type 0) (before between after : SinkKnown)
     → (all → rest) → AfterWrites false all before between
     → AfterWrites failed rest between after → AfterWrites failed all before after
-writes_in_row false all rest before between after fits first then = record {
-  counted = then.counted ∙ first.counted;
-  stopped = then.stopped ∙ first.stopped;
-  never = λ sure. refl;
-}
-writes_in_row true all rest before between after fits first then = record {
-  counted = then.counted ∙ ap next_count first.counted;
-  stopped = then.stopped;
-  never = λ sure. then.never (fits sure);
-}
+writes_in_row failed all rest before between after fits first then =
+    grind (arith, between, after, fits)

@@ -61,9 +61,7 @@ pub effects_by_ahead : (earlier : List Entry) (c : ℕ) (kind : Kind) (later lat
 effects_by_ahead earlier c (Call method args) later later' same = refl
 effects_by_ahead earlier c (Return reply) later later' same = refl
 effects_by_ahead earlier c (Write word value) later later' same = refl
-effects_by_ahead earlier c Commit later later' same =
-    ap (λ o. cond (has_block c earlier)
-    (option_map_or (λ ahead. ahead ++ block_writes c earlier) o []) []) same
+effects_by_ahead earlier c Commit later later' same = cc
 effects_by_ahead earlier c BlockOpen later later' same = refl
 effects_by_ahead earlier c BlockClose later later' same = refl
 effects_by_ahead earlier c BlockCommit later later' same = refl
@@ -84,15 +82,13 @@ same_by_ahead (e ∷ earlier) later later' same = (
 -- one more entry says nothing of other callers' writes to come
 pub ahead_other : (c d : ℕ) (kind : Kind) (later : List Entry) → (d == c) ≡ false
     → writes_ahead c (later ++ entry d kind ∷ []) ≡ writes_ahead c later
-ahead_other c d kind [] other = ap (λ b. cond b (ahead_at kind None) None) other
-ahead_other c d kind (x ∷ later) other = ap (λ o. cond (x.caller == c) (ahead_at x.kind o) o)
-    (ahead_other c d kind later other)
+ahead_other c d kind [] other = cc
+ahead_other c d kind (x ∷ later) other = cc (ahead_other c d kind later other)
 
 -- of the caller's own entry at the front
 pub ahead_own : (c : ℕ) (kind : Kind) (later : List Entry) → writes_ahead c (entry c kind ∷ later)
     ≡ ahead_at kind (writes_ahead c later)
-ahead_own c kind later =
-    ap (λ b. cond b (ahead_at kind (writes_ahead c later)) (writes_ahead c later)) (same_number c)
+ahead_own c kind later = cc (same_number c)
 
 -- so the effects are the same where it says nothing of its own caller's writes
 pub same_ahead_behind : (c : ℕ) (kind : Kind) (later : List Entry)
@@ -123,8 +119,7 @@ pub ahead_of_no_end : (c d : ℕ) (kind : Kind) (later : List Entry) → ends_bl
     → writes_ahead c (later ++ entry d kind ∷ []) ≡ writes_ahead c later
 ahead_of_no_end c d kind [] none = ap (λ o. cond (d == c) o None) (nothing_ahead kind none)
     ∙ elim (d == c) as (λ b. cond b None None ≡ writes_ahead c []) [ true ↦ refl | false ↦ refl ]
-ahead_of_no_end c d kind (x ∷ later) none = ap (λ o. cond (x.caller == c) (ahead_at x.kind o) o)
-    (ahead_of_no_end c d kind later none)
+ahead_of_no_end c d kind (x ∷ later) none = cc (ahead_of_no_end c d kind later none)
 
 pub same_without_end : (earlier : List Entry) (c : ℕ) (kind : Kind) (later : List Entry)
     → ends_block kind ≡ false
@@ -143,17 +138,11 @@ pub own_inner : (c : ℕ) (kind : Kind) (earlier : List Entry)
     false
     && unwrap_or
     (option_or (commit_or_open kind) (first_answer (by_caller c commit_or_open) earlier)) false)
-own_inner c kind earlier =
-    let block = own_answer c open_or_close kind earlier in
-    let commit = own_answer c commit_or_open kind earlier in
-    λ i. unwrap_or (block i) false && unwrap_or (commit i) false
+own_inner c kind earlier = simp (own_answer)
 
 pub other_inner : (c d : ℕ) (kind : Kind) (earlier : List Entry) → (d == c) ≡ false
     → has_inner_commit c (entry d kind ∷ earlier) ≡ has_inner_commit c earlier
-other_inner c d kind earlier other =
-    let block = other_answer c d open_or_close kind earlier other in
-    let commit = other_answer c d commit_or_open kind earlier other in
-    λ i. unwrap_or (block i) false && unwrap_or (commit i) false
+other_inner c d kind earlier other = cc
 
 pub outside_inner : (c : ℕ) (earlier : List Entry) → has_block c earlier ≡ false
     → has_inner_commit c earlier ≡ false
@@ -210,12 +199,7 @@ same_on_own h c kind (Write word value) earlier kept before later none = (
 same_on_own h c kind Commit earlier kept before later none =
     let outside : has_block c earlier ≡ false = and_true (has_block c earlier)
     (sym (own_inner c Commit earlier) ∙ none) in (
-      ap (λ b. cond b
-          (option_map_or (λ ahead. ahead ++ block_writes c earlier) (writes_ahead c later) [])
-          []) outside
-          ∙ sym (ap (λ b. cond b
-          (option_map_or (λ ahead. ahead ++ block_writes c earlier)
-          (writes_ahead c (later ++ entry c kind ∷ [])) []) []) outside),
+      cc,
       before (entry c Commit ∷ later) (outside_inner c earlier outside),
     )
 same_on_own h c kind BlockOpen earlier kept before later none = (
@@ -298,8 +282,7 @@ pub own_committed : (c : ℕ) (kind : Kind) (earlier : List Entry)
     → has_committed c (entry c kind ∷ earlier)
     ≡ unwrap_or (option_or (commit_or_call kind)
     (first_answer (by_caller c commit_or_call) earlier)) false
-own_committed c kind earlier = ap (λ o. unwrap_or o false)
-    (own_answer c commit_or_call kind earlier)
+own_committed c kind earlier = cc (own_answer c commit_or_call kind earlier)
 
 own_inner_committed : (h : Header) (c : ℕ) (kind : Kind) (earlier : List Entry)
     → WellFormed h earlier
@@ -377,7 +360,7 @@ more_on_own h c kind (Write word value) earlier wf kept before = λ later ahead 
     let inner' : has_inner_commit c earlier ≡ true = sym (own_inner c (Write word value) earlier)
     ∙ inner in
     let no_effect : cond (has_block c earlier) [] ((word, value) ∷ []) ≡ [] =
-    ap (λ b. cond b [] ((word, value) ∷ [])) (has_block_of c earlier inner') in
+    cc (has_block_of c earlier inner') in
     own refl refl no_effect no_effect
     (subst (λ ws. MoreAtCommit c ws earlier (here ∷ later) (here ∷ later ++ entry c kind ∷ []))
     (append_assoc ahead ((word, value) ∷ []) (block_writes c earlier)
@@ -391,13 +374,10 @@ more_on_own h c kind Commit earlier wf kept before = λ later ahead inner none s
     (sym (own_inner c Commit earlier) ∙ inner) in
     let at_once : (l : List Entry) → effects_at earlier c Commit l
     ≡ option_map_or (λ writes. writes ++ block_writes c earlier) (writes_ahead c l) [] =
-    λ l. ap (λ b. cond b
-    (option_map_or (λ writes. writes ++ block_writes c earlier) (writes_ahead c l) []) []) inside in
+    λ l. cc in
     at_commit refl refl
-    (at_once later ∙ ap (λ o. option_map_or (λ writes. writes ++ block_writes c earlier) o []) none)
-    (at_once (later ++ entry c kind ∷ [])
-    ∙ ap (λ o. option_map_or (λ writes. writes ++ block_writes c earlier) o []) some
-    ∙ ap (λ ws. ahead ++ ws) (sym (own_writes c Commit earlier)))
+    (cc (at_once later))
+    (cc (at_once (later ++ entry c kind ∷ []), own_writes c Commit earlier))
     (same_without_inner h c kind earlier wf (entry c Commit ∷ later)
     (first_commit (has_inner_commit c earlier) refl))
   where
@@ -488,7 +468,7 @@ more_effects c writes (e ∷ earlier) later later' = by_entry
         let before' = same_effects earlier (e ∷ later) (e ∷ later') same_before in
         record {
           rest = effects earlier (e ∷ later);
-          fewer = ap (λ ws. ws ++ effects earlier (e ∷ later)) (none ∙ sym last);
+          fewer = cc;
           more = (λ i. all i ++ sym before' i)
               ∙ ap (λ ws. ws ++ (writes ++ effects earlier (e ∷ later))) (sym last);
         }
@@ -500,22 +480,21 @@ more_effects c writes (e ∷ earlier) later later' = by_entry
         let so = before more in
         record {
           rest = so.rest;
-          fewer = ap (λ ws. ws ++ effects earlier (e ∷ later)) none ∙ so.fewer
-              ∙ ap (λ ws. ws ++ so.rest) (sym skipped);
-          more = ap (λ ws. ws ++ effects earlier (e ∷ later')) none' ∙ so.more
-              ∙ ap (λ ws. ws ++ (writes ++ so.rest)) (sym skipped);
+          fewer = cc (so.fewer);
+          more = cc (so.more);
         }
     by_entry before (other apart same more) =
         let taken : effects_of_others c (e ∷ earlier) later ≡ effects_at earlier e.caller e.kind
         later ++ others =
-        ap (λ b. cond b (cond (is_lone_commit e.kind) [] others)
-        (effects_at earlier e.caller e.kind later ++ others)) apart in
+        cc in
         let so = before more in
         record {
           rest = so.rest;
-          fewer = ap (λ ws. effects_at earlier e.caller e.kind later ++ ws) so.fewer
-              ∙ sym (append_assoc (effects_at earlier e.caller e.kind later) others so.rest)
-              ∙ ap (λ ws. ws ++ so.rest) (sym taken);
+          fewer = cc (
+            so.fewer,
+            append_assoc (effects_at earlier e.caller e.kind later) others
+                so.rest,
+          );
           more = (λ i. sym same i ++ so.more i)
               ∙ sym (append_assoc (effects_at earlier e.caller e.kind later) others
               (writes ++ so.rest))
@@ -557,10 +536,8 @@ none_of_others p c d writes (e ∷ earlier) later later' apart =
         → list_any p (cond b [] (effects_of_others c earlier (e ∷ later))) ≡ false
         → list_any p (cond b [] (effects_of_others c earlier (e ∷ later'))) ≡ false
     before_own before is more free true none = refl
-    before_own before is (at_commit same alone no_effects all same_before) free false none =
-        never (ap (λ x. x == c) same ∙ apart) is
-    before_own before is (own same alone no_effects no_effects' more) free false none =
-        never (ap (λ x. x == c) same ∙ apart) is
+    before_own before is (at_commit same alone no_effects all same_before) free false none = cc
+    before_own before is (own same alone no_effects no_effects' more) free false none = cc
     before_own before is (other other_caller same more) free false none = before more free none
 
     before_other : NoneOfOthers p c d writes earlier (e ∷ later) (e ∷ later')
@@ -576,8 +553,8 @@ none_of_others p c d writes (e ∷ earlier) later later' apart =
         (sym (same_effects_of_others c earlier (e ∷ later) (e ∷ later') same_before))
         ∙ (none_in p (here later) (effects_of_others c earlier (e ∷ later)) none).1)
     before_other before (own same alone no_effects no_effects' more) free none =
-        ap (λ ws. list_any p (ws ++ effects_of_others c earlier (e ∷ later'))) no_effects'
-        ∙ before more free (none_in p (here later) (effects_of_others c earlier (e ∷ later)) none).1
+        cc (before more free (none_in p (here later) (effects_of_others c earlier (e ∷ later))
+        none).1)
     before_other before (other other_caller same more) free none =
         let parts = none_in p (here later) (effects_of_others c earlier (e ∷ later)) none in
         none_of_both p (here later') (effects_of_others c earlier (e ∷ later'))

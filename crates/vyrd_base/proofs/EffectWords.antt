@@ -41,13 +41,11 @@ pub one_write : (h : Header) (starting : List StartWord) (effects : List (ℕ ×
 one_write h starting effects w v =
     sym (map_set (value_after starting effects) (value_after starting ((w, v) ∷ effects)) 0
     (plain_words h) w v
-    (ap (λ b. unwrap_or (option_or (cond b (Some v) None) (first_answer (given_to (0 + w)) effects))
-    (value_at_start starting (0 + w)))
-    (is_same w (0 + w) (omega arith)))
+    (cc (is_same w (0 + w) (omega arith)))
     (λ q apart. ap
     (λ b. unwrap_or (option_or (cond b (Some v) None) (first_answer (given_to q) effects))
     (value_at_start starting q))
     (other_word q apart)))
   where
     other_word : (q : ℕ) → ((0 + w) == q) ≡ false → (w == q) ≡ false
-    other_word q apart = let e : 0 + w ≡ w = omega arith in ap (λ m. m == q) (sym e) ∙ apart
+    other_word q apart = let e : 0 + w ≡ w = omega arith in cc

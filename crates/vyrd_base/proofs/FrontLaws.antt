@@ -4,23 +4,20 @@ use Rattle.std.proofs.Common.{drop, Some, None, refl, ap, ◌∙◌, sym, arith,
 use Rattle.std.proofs.lemmas.List.{take_more, take-append-drop}
 use Rattle.std.proofs.Math.Seq.{take-length}
 use Rattle.vyrd_base.proofs.PlaceLaws.{newest_first-push}
-use Rattle.std.specs.Option.{option_or}
 use Rattle.vyrd_base.specs.declared.header.Header.{Header}
 use Rattle.vyrd_base.specs.declared.log.Entry.{Entry}
 use Rattle.vyrd_base.specs.declared.verdict.Rule.{Rule}
 use Rattle.vyrd_base.specs.Places.{newest_first}
 use Rattle.vyrd_base.specs.Shape.{broken_rule}
-use Rattle.vyrd_base.specs.Front.{front, first_break, front_after, unless_broken}
-use Rattle.vyrd_base.proofs.Fronts.{break_after, front_after_whole}
+use Rattle.vyrd_base.specs.Front.{front, first_break, front_after}
+use Rattle.vyrd_base.proofs.Fronts.{front_after_whole}
 use Rattle.vyrd_base.proofs.VerdictLaws.{front-append, first_break-append}
 
 -- one more entry that keeps the rules
 pub kept-push : (h : Header) (xs : List Entry) (e : Entry) → first_break h xs ≡ None
     → broken_rule h (newest_first xs) e ≡ None
     → first_break h (xs ++ e ∷ []) ≡ None
-kept-push h xs e kept here = first_break-append h xs (e ∷ [])
-    ∙ ap (λ o. option_or o (break_after h (newest_first xs) (e ∷ []))) kept
-    ∙ ap (λ o. option_or o None) here
+kept-push h xs e kept here = grind (arith, kept, here, first_break-append)
 
 -- if no rule is broken, all is front
 pub front_whole : (h : Header) (xs : List Entry) → first_break h xs ≡ None → front h xs ≡ xs
@@ -31,37 +28,24 @@ front_whole h xs kept = front_after_whole h [] xs kept
 pub front_at_break : (h : Header) (xs rest : List Entry) (e : Entry) (rule : Rule)
     → first_break h xs ≡ None
     → broken_rule h (newest_first xs) e ≡ Some rule → front h (xs ++ e ∷ rest) ≡ xs
-front_at_break h xs rest e rule kept here =
-    front-append h xs (e ∷ rest)
-    ∙ ap (λ o. front h xs ++ unless_broken o (front_after h (newest_first xs) (e ∷ rest))) kept
-    ∙ ap (λ o. front h xs
-    ++ (elim o as (λ _. List Entry) [
-      | None ↦ e ∷ front_after h (e ∷ newest_first xs) rest
-      | Some r ↦
-          []
-    ])) here
-    ∙ no_more (front h xs) ∙ front_whole h xs kept
+front_at_break h xs rest e rule kept here = search (front-append, no_more, front_whole, kept, arith)
   where
     no_more : (ys : List Entry) → ys ++ [] ≡ ys
     no_more [] = refl
-    no_more (y ∷ ys) = ap (λ zs. y ∷ zs) (no_more ys)
+    no_more (y ∷ ys) = cc (no_more ys)
 
 pub break_at_break : (h : Header) (xs rest : List Entry) (e : Entry) (rule : Rule)
     → first_break h xs ≡ None
     → broken_rule h (newest_first xs) e ≡ Some rule → first_break h (xs ++ e ∷ rest) ≡ Some rule
-break_at_break h xs rest e rule kept here =
-    first_break-append h xs (e ∷ rest)
-    ∙ ap (λ o. option_or o (break_after h (newest_first xs) (e ∷ rest))) kept
-    ∙ ap (λ o. option_or o (break_after h (e ∷ newest_first xs) rest)) here
+break_at_break h xs rest e rule kept here = grind (arith, kept, here, first_break-append)
 
 -- The same, entry by entry from the front of a list on, by a header that is the log's.
 pub kept_next : (h g : Header) (es : List Entry) (i : ℕ) (d : Entry) → g ≡ h → i < length es
     → first_break h (take i es) ≡ None
     → broken_rule g (newest_first (take i es)) (get_or es i d) ≡ None
     → first_break h (take (i + 1) es) ≡ None
-kept_next h g es i d same within kept here = ap (first_break h) (take_more es i d within)
-    ∙ kept-push h (take i es) (get_or es i d) kept
-    (ap (λ k. broken_rule k (newest_first (take i es)) (get_or es i d)) (sym same) ∙ here)
+kept_next h g es i d same within kept here =
+    grind (arith, take_more es i d within, within, kept-push, kept, here)
 
 pub newest_next : (es : List Entry) (i : ℕ) (d : Entry) → i < length es
     → newest_first (take (i + 1) es) ≡ get_or es i d ∷ newest_first (take i es)
@@ -70,16 +54,13 @@ newest_next es i d within = ap newest_first (take_more es i d within)
 
 pub split_at_next : (es : List Entry) (i : ℕ) (d : Entry) → i < length es → es ≡ take i es
     ++ get_or es i d ∷ drop (suc i) es
-split_at_next es i d within = sym (take-append-drop i es) ∙ ap (λ rest. take i es ++ rest)
-    (drop-cons es i d within)
+split_at_next es i d within = cc (take-append-drop i es, drop-cons es i d within)
 
 pub front_at : (h g : Header) (es : List Entry) (i : ℕ) (d : Entry) (rule : Rule) → g ≡ h
     → i < length es → first_break h (take i es) ≡ None
     → broken_rule g (newest_first (take i es)) (get_or es i d) ≡ Some rule → take i es ≡ front h es
 front_at h g es i d rule same within kept here =
-    sym (ap (front h) (split_at_next es i d within) ∙ front_at_break h (take i es) (drop (suc i) es)
-    (get_or es i d) rule kept
-    (ap (λ k. broken_rule k (newest_first (take i es)) (get_or es i d)) (sym same) ∙ here))
+    grind (arith, split_at_next es i d within, within, front_at_break, kept, here)
 
 pub break_at : (h g : Header) (es : List Entry) (i : ℕ) (d : Entry) (rule : Rule) → g ≡ h
     → i < length es → first_break h (take i es) ≡ None
@@ -92,8 +73,7 @@ break_at h g es i d rule same within kept here =
 
 -- at the list's end the part that was gone through is the whole
 pub take_past : {A : Type 0} (es : List A) (i : ℕ) → i ≤ length es → length es ≤ i → take i es ≡ es
-take_past es i within past = let e : i ≡ length es = omega arith in ap (λ k. take k es) e
-    ∙ take-length es
+take_past es i within past = grind (arith, take-length es)
 
 pub kept_all : (h : Header) (es : List Entry) (i : ℕ) → i ≤ length es → length es ≤ i
     → first_break h (take i es) ≡ None → first_break h es ≡ None

@@ -1,7 +1,7 @@
 -- How replies, committed executions and states grow with a front.
 use Rattle.std.proofs.Common.{◌≡◌, ℕ, true, false, List, [], ◌∷◌, ◌++◌, Option, Some, None, refl}
 use Rattle.std.proofs.Common.{ap, ◌∙◌}
-use Rattle.std.specs.Option.{option_or, option_and_then}
+use Rattle.std.specs.Option.{option_and_then}
 use Rattle.std.specs.Bool.{then_some}
 use Rattle.vyrd_base.specs.declared.log.Entry.{Entry}
 use Rattle.vyrd_base.specs.Places.{Place, first_answer}
@@ -16,8 +16,7 @@ use Rattle.vyrd_base.specs.Rules.{Rules}
 -- an answer that is there stays
 pub first_answer_stays : {A B : Type 0} (f : A → Option B) (xs ys : List A) (b : B)
     → first_answer f xs ≡ Some b → first_answer f (xs ++ ys) ≡ Some b
-first_answer_stays f xs ys b e = first_answer-append f xs ys
-    ∙ ap (λ o. option_or o (first_answer f ys)) e
+first_answer_stays f xs ys b e = cc (first_answer-append f xs ys)
 
 pub next_reply_stays : (c : ℕ) (later more : List Entry) (r : ℕ) → next_reply c later ≡ Some r
     → next_reply c (later ++ more) ≡ Some r
@@ -64,8 +63,7 @@ with_reply_stays : {B : Type 0} (f : Called → ℕ → Option B) (called : Opti
     → with_reply f called later_reply ≡ Some b
 with_reply_stays f None reply later_reply b stays e = cc
 with_reply_stays f (Some x) None later_reply b stays e = cc
-with_reply_stays f (Some x) (Some r) later_reply b stays e = ap (λ o. option_and_then (f x) o)
-    (stays r refl) ∙ e
+with_reply_stays f (Some x) (Some r) later_reply b stays e = cc (stays r refl)
 
 pub once_returned_stays : {B : Type 0} (f : Called → ℕ → Option B) (x y : Committed) (b : B)
     → Grows x y
@@ -93,8 +91,7 @@ with_reply_decided : {B C : Type 0} (f : Called → ℕ → Option B) (g : Calle
     → with_reply g called later_reply ≡ with_reply g called reply
 with_reply_decided f g None reply later_reply b stays e = refl
 with_reply_decided f g (Some x) None later_reply b stays e = cc
-with_reply_decided f g (Some x) (Some r) later_reply b stays e = ap (λ o. option_and_then (g x) o)
-    (stays r refl)
+with_reply_decided f g (Some x) (Some r) later_reply b stays e = cc (stays r refl)
 
 pub once_returned_decided : {B C : Type 0} (f : Called → ℕ → Option B) (g : Called → ℕ → Option C)
     (x y : Committed) (b : B)

@@ -1,12 +1,10 @@
 -- What the limits of a header say of its version, its size, its callers and its words.
-use Rattle.std.proofs.Common.{◌≡◌, ℕ, zero, suc, ◌+◌, ◌<◌, ◌≤◌, ◌^◌, true, ◌&&◌, List, length, refl}
+use Rattle.std.proofs.Common.{◌≡◌, ℕ, ◌+◌, ◌<◌, ◌≤◌, ◌^◌, true, ◌&&◌, List, length}
 use Rattle.std.proofs.Common.{ap, ◌∙◌, sym, arith}
 use Rattle.std.specs.Prelude.{nat_le, ◌==◌}
 use Rattle.std.proofs.lemmas.Bool.Decides.{nat_tests}
 use Rattle.vyrd_base.specs.declared.header.Header.{Header}
 use Rattle.vyrd_base.specs.declared.subject.Subject.{Subject}
-use Rattle.vyrd_base.specs.declared.subject.Subject.TheVariants.{Multiset, Cache, Tree, Buffers}
-use Rattle.vyrd_base.specs.declared.subject.Subject.TheVariants.{Own}
 use Rattle.vyrd_base.specs.Limits.{is_known_version, is_sized, is_within, is_own_sized}
 use Rattle.vyrd_base.specs.Limits.{is_own_within}
 use Rattle.vyrd_base.specs.Subjects.{is_built_in, limits_of}
@@ -19,28 +17,19 @@ small_number n most m e = grind (arith, nat_tests)
 
 -- numbers within the limits of built-in subjects have 32 bits
 pub small_size : (size callers : ℕ) → is_sized size callers ≡ true → size < 2 ^ 32
-small_size size callers e = small_number size 1024 (omega arith)
-    (second_true (nat_le 1 size) _ (first_true _ _ (first_true _ _ e)))
+small_size size callers e = search (small_number, second_true, first_true, arith)
 
 pub small_callers : (size callers : ℕ) → is_sized size callers ≡ true → callers < 2 ^ 32
-small_callers size callers e = small_number callers 64 (omega arith)
-    (second_true (nat_le 1 size && nat_le size 1024 && nat_le 1 callers) _ e)
+small_callers size callers e = search (small_number, second_true, arith)
 
 -- there are three versions
 pub known_version : (n : ℕ) → is_known_version n ≡ true → n ≤ 2
-known_version zero e = omega arith
-known_version (suc zero) e = omega arith
-known_version (suc (suc zero)) e = omega arith
-known_version (suc (suc (suc n))) e = cc
+known_version n e = grind arith
 
 -- a header of a built-in subject has the limits of these
 pub limits_built_in : (subject : Subject) (version size callers : ℕ) → is_built_in subject ≡ true
     → limits_of subject version size callers ≡ is_within version size callers
-limits_built_in Multiset version size callers built = refl
-limits_built_in Cache version size callers built = refl
-limits_built_in Tree version size callers built = refl
-limits_built_in Buffers version size callers built = refl
-limits_built_in Own version size callers built = cc
+limits_built_in subject version size callers built = grind arith
 
 pub within : (h : Header) → is_built_in h.subject ≡ true → is_within h.version h.size h.callers
     ≡ true
@@ -51,23 +40,15 @@ sized h built = second_true (is_known_version h.version) _ (within h built)
 
 -- the size is from 1 to 1,024 then
 pub some_size : (h : Header) → is_built_in h.subject ≡ true → 1 ≤ h.size
-some_size h built = at_most_of 1 h.size
-    (first_true (nat_le 1 h.size) _ (first_true _ _ (first_true _ _ (sized h built))))
+some_size h built = search (at_most_of, first_true, sized, arith)
 
 pub low_size : (h : Header) → is_built_in h.subject ≡ true → h.size ≤ 1024
-low_size h built = at_most_of h.size 1024
-    (second_true (nat_le 1 h.size) _ (first_true _ _ (first_true _ _ (sized h built))))
+low_size h built = search (at_most_of, second_true, first_true, sized, arith)
 
 -- a header of version 1 is that of a built-in subject, since the user's own has version 3
 of_version_one : (subject : Subject) (version size callers : ℕ)
     → limits_of subject version size callers ≡ true → version ≡ 1 → is_built_in subject ≡ true
-of_version_one Multiset version size callers within one = refl
-of_version_one Cache version size callers within one = refl
-of_version_one Tree version size callers within one = refl
-of_version_one Buffers version size callers within one = refl
-of_version_one Own version size callers within one =
-    let three : version ≡ 3 = same_of version 3 (first_true (version == 3) _ within) in absurd
-    (omega (arith, three, one))
+of_version_one subject version size callers within one = grind (arith, within, same_of, first_true)
 
 pub first_version_built_in : (h : Header) → h.version ≡ 1 → is_built_in h.subject ≡ true
 first_version_built_in h one = of_version_one h.subject h.version h.size h.callers h.within one
@@ -115,15 +96,7 @@ own_limited version size callers e =
 limited : (subject : Subject) (version size callers : ℕ) → limits_of subject version size callers
     ≡ true
     → AreLimited version size callers (plain_words_of subject size + lock_words_of subject size)
-limited Multiset version size callers e = built_in_limited version size callers _
-    (words_within Multiset size) e
-limited Cache version size callers e = built_in_limited version size callers _
-    (words_within Cache size) e
-limited Tree version size callers e = built_in_limited version size callers _
-    (words_within Tree size) e
-limited Buffers version size callers e = built_in_limited version size callers _
-    (words_within Buffers size) e
-limited Own version size callers e = own_limited version size callers e
+limited subject version size callers e = search (built_in_limited, words_within, own_limited, arith)
 
 pub low_version : (h : Header) → h.version ≤ 3
 low_version h = (limited h.subject h.version h.size h.callers h.within).known

@@ -50,29 +50,15 @@ record Small (args : Args) : Type 0 where
 args_1 : (args : Args) → are_padded 1 args ≡ true → Small args → args_from (decimal args.a ∷ [])
     ≡ args
 args_1 args e small =
-    let b_is : args.b ≡ 0 = same_of args.b 0 (or_false _ _ (first_true _ _ e) refl) in
-    let c_is : args.c ≡ 0 = same_of args.c 0
-    (or_false _ _ (second_true (args.b == 0 || nat_lt 1 1) _ e) refl) in
-    λ i. record { a = number_of_decimal args.a small.a i; b = sym b_is i; c = sym c_is i }
+    grind (arith, small, same_of, or_false, first_true, second_true, number_of_decimal)
 
 args_2 : (args : Args) → are_padded 2 args ≡ true → Small args
     → args_from (decimal args.a ∷ decimal args.b ∷ []) ≡ args
-args_2 args e small =
-    let c_is : args.c ≡ 0 = same_of args.c 0
-    (or_false _ _ (second_true (args.b == 0 || nat_lt 1 2) _ e) refl) in
-    λ i. record {
-      a = number_of_decimal args.a small.a i;
-      b = number_of_decimal args.b small.b i;
-      c = sym c_is i;
-    }
+args_2 args e small = grind (arith, small, same_of, or_false, second_true, number_of_decimal)
 
 args_3 : (args : Args) → Small args
     → args_from (decimal args.a ∷ decimal args.b ∷ decimal args.c ∷ []) ≡ args
-args_3 args small = λ i. record {
-  a = number_of_decimal args.a small.a i;
-  b = number_of_decimal args.b small.b i;
-  c = number_of_decimal args.c small.c i;
-}
+args_3 args small = grind (arith, small, number_of_decimal)
 
 -- what the range test of a call says
 module _ (same padded : Bool) (args : Args)
@@ -93,11 +79,7 @@ module _ (same padded : Bool) (args : Args)
 -- as many arguments as there are, read from their fields
 args_guess : (n : ℕ) (args : Args) → 1 ≤ n → n ≤ 3 → are_padded n args ≡ true → Small args
     → args_from (map decimal (take n (args.a ∷ args.b ∷ args.c ∷ []))) ≡ args
-args_guess zero args some few e small = absurd (omega (arith, some))
-args_guess (suc zero) args some few e small = args_1 args e small
-args_guess (suc (suc zero)) args some few e small = args_2 args e small
-args_guess (suc (suc (suc zero))) args some few e small = args_3 args small
-args_guess (suc (suc (suc (suc n)))) args some few e small = absurd (omega (arith, few))
+args_guess n args some few e small = search (few, small, args_1, args_2, args_3, arith)
 
 -- a call is guessed right
 pub call_guess : (subject : Subject) (method : Method) (args : Args)
@@ -111,27 +93,15 @@ call_guess subject method args e =
     (few_arguments method (named_built_in method subject named))
     (padded_of (is_named method subject) _ args e)
     (small_of (is_named method subject) (are_padded (arity_of method) args) args e) in
-    ap (option_map (λ m. Call m (args_from (arg_fields method args))))
-    (method_found subject method named)
-    ∙ ap (λ x. Some (Call method x)) read
+    cc (method_found subject method named)
 
 kind_guess : (subject : Subject) (kind : Kind) → is_kind_of subject kind ≡ true
     → guessed_kind subject (kind_fields kind) ≡ Some kind
-kind_guess subject (Call method args) e = call_guess subject method args e
-kind_guess subject (Return reply) e = ap (λ r. Some (Return r))
-    (number_of_decimal reply (below_64 reply e))
-kind_guess subject (Write word value) e =
-    let w = number_of_decimal word (below_32 word (first_true _ _ e)) in
-    let v = number_of_decimal value (below_64 value (second_true (nat_lt word (2 ^ 32)) _ e)) in
-    λ i. Some (Write (w i) (v i))
-kind_guess subject Commit e = refl
-kind_guess subject BlockOpen e = refl
-kind_guess subject BlockClose e = refl
-kind_guess subject BlockCommit e = refl
+kind_guess subject kind e =
+    search (call_guess, number_of_decimal, below_64, below_32, first_true, second_true, arith)
 
 pub plain_number : (n : ℕ) → n < 2 ^ 64 → is_plain_field (decimal n) ≡ true
-plain_number n small = both_true _ _ (decimal_lacks 32 n no_space small)
-    (decimal_lacks 10 n no_line_feed small)
+plain_number n small = search (both_true, decimal_lacks, no_space, small, no_line_feed, arith)
 
 pub plain_spaces : (fields : List (List ℕ)) → list_all is_plain_field fields ≡ true
     → all_lack 32 fields ≡ true
@@ -155,39 +125,32 @@ plain_take (suc n) (x ∷ numbers) e = both_true _ _ (first_true _ _ e)
 
 plain_args : (method : Method) (args : Args) → Small args
     → list_all is_plain_field (arg_fields method args) ≡ true
-plain_args method args small = plain_take (arity_of method) (args.a ∷ args.b ∷ args.c ∷ [])
-    (both_true _ _ (plain_number args.a small.a)
-    (both_true _ _ (plain_number args.b small.b)
-    (both_true _ _ (plain_number args.c small.c) refl)))
+plain_args method args small = grind (arith, small, plain_take, both_true, plain_number)
 
 plain_kind : (subject : Subject) (kind : Kind) → is_kind_of subject kind ≡ true
     → list_all is_plain_field (kind_fields kind) ≡ true
-plain_kind subject (Call method args) e =
-    both_true _ _ (plain_method method)
-    (plain_args method args
-    (small_of (is_named method subject) (are_padded (arity_of method) args) args e))
-plain_kind subject (Return reply) e = both_true _ _ (plain_number reply (below_64 reply e)) refl
-plain_kind subject (Write word value) e =
-    both_true _ _ (plain_number word (below_32 word (first_true _ _ e)))
-    (both_true _ _ (plain_number value (below_64 value (second_true (nat_lt word (2 ^ 32)) _ e)))
-    refl)
-plain_kind subject Commit e = refl
-plain_kind subject BlockOpen e = refl
-plain_kind subject BlockClose e = refl
-plain_kind subject BlockCommit e = refl
+plain_kind subject kind e =
+    grind (
+      arith,
+      both_true,
+      plain_method,
+      plain_args,
+      plain_number,
+      below_64,
+      below_32,
+      first_true,
+      second_true,
+    )
 
 pub plain_entry : (subject : Subject) (e : Entry) → is_entry_of subject e ≡ true
     → list_all is_plain_field (decimal e.caller ∷ kind_fields e.kind) ≡ true
 plain_entry subject e is =
-    both_true _ _ (plain_number e.caller (below_32 e.caller (first_true _ _ is)))
-    (plain_kind subject e.kind (second_true (nat_lt e.caller (2 ^ 32)) _ is))
+    grind (arith, both_true, plain_number, below_32, first_true, plain_kind, second_true)
 
 -- an entry's line is one line
 pub entry_line_whole : (subject : Subject) (e : Entry) → is_entry_of subject e ≡ true
     → lacks 10 (entry_line e) ≡ true
-entry_line_whole subject e is =
-    lacks-join 10 32 (decimal e.caller) (kind_fields e.kind) refl
-    (plain_line_feeds (decimal e.caller ∷ kind_fields e.kind) (plain_entry subject e is))
+entry_line_whole subject e is = search (lacks-join, plain_line_feeds, plain_entry, arith)
 
 -- an entry is read back from its line
 pub entry_in-entry_line : (subject : Subject) (e : Entry) → is_entry_of subject e ≡ true
@@ -243,15 +206,11 @@ start_numbers s = decimal s.word ∷ decimal s.value ∷ []
 pub plain_start : (s : StartWord) → is_start s ≡ true
     → list_all is_plain_field (codes "start" ∷ start_numbers s) ≡ true
 plain_start s is =
-    both_true _ _ (plain_number s.word (below_32 s.word (first_true _ _ is)))
-    (both_true _ _
-    (plain_number s.value (below_64 s.value (second_true (nat_lt s.word (2 ^ 32)) _ is))) refl)
+    grind (arith, both_true, plain_number, below_32, first_true, below_64, second_true)
 
 -- a starting word's line is one line
 pub start_line_whole : (s : StartWord) → is_start s ≡ true → lacks 10 (start_line s) ≡ true
-start_line_whole s is =
-    lacks-join 10 32 (codes "start") (start_numbers s) refl
-    (plain_line_feeds (codes "start" ∷ start_numbers s) (plain_start s is))
+start_line_whole s is = search (lacks-join, plain_line_feeds, plain_start, arith)
 
 -- a starting word is read back from its line
 pub start_in-start_line : (s : StartWord) → is_start s ≡ true → start_in (start_line s) ≡ Some s
@@ -296,24 +255,8 @@ start_in_sound line s found = by_guess (guessed_start (fields_of line)) found
 -- what begins with a number doesn't begin with the letter s
 number_first : (digits rest more : List ℕ) → lacks 115 digits ≡ true → digits ++ 32 ∷ rest ≡ 115
     ∷ more → ⊥
-number_first [] rest more e same =
-    let head : 32 ≡ 115 = ap first same in
-    omega (arith, head)
-  where
-    first : List ℕ → ℕ
-    first [] = zero
-    first (x ∷ xs) = x
-number_first (x ∷ digits) rest more e same =
-    let head : x ≡ 115 = ap first same in
-    absurd (isnt_both (x == 115) (is_same x 115 head) (first_true _ _ e))
-  where
-    first : List ℕ → ℕ
-    first [] = zero
-    first (y ∷ xs) = y
-
-    isnt_both : (b : Bool) → b ≡ true → not b ≡ true → ⊥
-    isnt_both true e f = cc
-    isnt_both false e f = cc
+number_first [] rest more e same = grind arith
+number_first (x ∷ digits) rest more e same = search (is_same, first_true, arith)
 
 no_letter : ¬ (digit_value 115 < 10)
 no_letter = λ h. omega arith

@@ -67,8 +67,7 @@ slice_get-set_other (y ∷ xs) (suc i) (suc j) x other = slice_get-set_other xs 
 pub take_one_more : {A : Type 0} (xs : List A) (n : ℕ) (x : A) → slice_get xs n ≡ Some x
     → take (n + 1) xs ≡ take n xs ++ x ∷ []
 take_one_more xs n x here =
-    take_more xs n x (slice_get_within xs n x here) ∙ ap (λ y. take n xs ++ y ∷ [])
-    (get_or_from_slice_get xs n x x here)
+    cc (take_more xs n x (slice_get_within xs n x here), get_or_from_slice_get xs n x x here)
 
 -- an option that has no value
 pub is_none : {A : Type 0} (o : Option A) → ((x : A) → o ≡ Some x → ⊥) → o ≡ None

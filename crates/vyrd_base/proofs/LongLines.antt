@@ -12,17 +12,14 @@ use Rattle.std.proofs.lemmas.Slice.Eq.{bytes_eq-Decides}
 use Rattle.vyrd_base.specs.declared.subject.Subject.{Subject}
 use Rattle.vyrd_base.specs.declared.verdict.Rule.TheVariants.{BadHeader, UnknownVersion}
 use Rattle.vyrd_base.specs.declared.log.Kind.{Kind}
-use Rattle.vyrd_base.specs.declared.log.Kind.TheVariants.{Call, Return, Write, Commit, BlockOpen}
-use Rattle.vyrd_base.specs.declared.log.Kind.TheVariants.{BlockClose, BlockCommit}
 use Rattle.vyrd_base.specs.declared.log.Entry.{Entry}
 use Rattle.vyrd_base.specs.declared.log.StartWord.{StartWord}
 use Rattle.vyrd_base.proofs.StructureLaws.{short_method}
 use Rattle.vyrd_base.specs.Limits.{is_sized}
-use Rattle.vyrd_base.specs.Subjects.{arity_of, are_padded, is_named}
 use Rattle.vyrd_base.specs.Spelling.{subject_name, header_line, kind_fields, start_line, entry_line}
 use Rattle.vyrd_base.specs.Spelling.{end_line, is_kind_of, is_entry_of}
-use Rattle.vyrd_base.specs.Lines.{fields_of, number_of, guessed_entry, entry_in, start_in}
-use Rattle.vyrd_base.specs.Lines.{subject_called, header_of, header_spelled, header_from, header_in}
+use Rattle.vyrd_base.specs.Lines.{fields_of, guessed_entry, entry_in, start_in}
+use Rattle.vyrd_base.specs.Lines.{header_of, header_spelled, header_from, header_in}
 use Rattle.vyrd_base.proofs.LineLaws.{is_start, start_numbers, start_in_sound}
 use Rattle.vyrd_base.proofs.TestLaws.{first_true, second_true, below_of}
 use Rattle.vyrd_base.proofs.StructureLaws.{short_subject}
@@ -37,8 +34,7 @@ length-join : (c : ℕ) (fields : List (List ℕ)) → length (join_with_byte c 
 length-join c [] = omega arith
 length-join c (x ∷ []) = omega arith
 length-join c (x ∷ y ∷ fields) =
-    let rest = length-join c (y ∷ fields) in
-    omega (arith, length-append x (c ∷ join_with_byte c (y ∷ fields)), rest)
+    grind (arith, length-append x (c ∷ join_with_byte c (y ∷ fields)), length-join c (y ∷ fields))
 
 -- how many digits a number of 32 bits has, and one of 64 bits
 pub short_number : (n : ℕ) → n < 2 ^ 32 → length (decimal n) ≤ 10
@@ -58,41 +54,13 @@ fewer : (n : ℕ) (numbers : List ℕ) → spaced_length (map decimal (take n nu
     ≤ spaced_length (map decimal numbers)
 fewer zero numbers = omega arith
 fewer (suc n) [] = omega arith
-fewer (suc n) (x ∷ numbers) =
-    let rest = fewer n numbers in
-    omega (arith, rest)
+fewer (suc n) (x ∷ numbers) = grind (arith, fewer n numbers)
 
 -- the fields after the caller have at most 52 bytes, with their spaces
 short_kind : (subject : Subject) (kind : Kind) → is_kind_of subject kind ≡ true
     → spaced_length (kind_fields kind) ≤ 52
-short_kind subject (Call method args) e =
-    let a = short_32 args.a
-    (second_true (is_named method subject && are_padded (arity_of method) args) _
-    (first_true _ _ (first_true _ _ e))) in
-    let b = short_32 args.b
-    (second_true (is_named method subject && are_padded (arity_of method) args
-    && nat_lt args.a (2 ^ 32)) _ (first_true _ _ e)) in
-    let c = short_32 args.c
-    (second_true (is_named method subject && are_padded (arity_of method) args
-    && nat_lt args.a (2 ^ 32) && nat_lt args.b (2 ^ 32)) _ e) in
-    omega (
-      arith,
-      short_method method,
-      fewer (arity_of method)
-          (args.a ∷ args.b ∷ args.c ∷ []),
-      a,
-      b,
-      c,
-    )
-short_kind subject (Return reply) e = omega (arith, short_64 reply e)
-short_kind subject (Write word value) e =
-    let w = short_32 word (first_true _ _ e) in
-    let v = short_64 value (second_true (nat_lt word (2 ^ 32)) _ e) in
-    omega (arith, w, v)
-short_kind subject Commit e = omega arith
-short_kind subject BlockOpen e = omega arith
-short_kind subject BlockClose e = omega arith
-short_kind subject BlockCommit e = omega arith
+short_kind subject kind e =
+    grind (arith, short_32, second_true, first_true, short_method, fewer, short_64)
 
 -- an entry's line has at most 64 bytes
 pub short_entry : (subject : Subject) (e : Entry) → is_entry_of subject e ≡ true
@@ -200,8 +168,7 @@ long_from line (a ∷ []) long = refl
 long_from line (a ∷ b ∷ []) long = refl
 long_from line (a ∷ b ∷ c ∷ []) long = refl
 long_from line (a ∷ b ∷ c ∷ d ∷ []) long = refl
-long_from line (a ∷ b ∷ c ∷ d ∷ e ∷ more) long = long_spelled line (number_of b) (subject_called c)
-    (number_of d) (number_of e) long
+long_from line (a ∷ b ∷ c ∷ d ∷ e ∷ more) long = search (long_spelled, long, arith)
 
 -- a longer line isn't a header
 pub long_header : (line : List ℕ) → 64 < length line → header_in line ≡ Err BadHeader

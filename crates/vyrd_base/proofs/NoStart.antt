@@ -1,13 +1,13 @@
 -- Without starting words the specification starts empty.
 use Rattle.std.proofs.Common.{◌≡◌, ℕ, zero, suc, ◌+◌, List, [], ◌∷◌, ◌++◌, map, length, Some, None}
 use Rattle.std.proofs.Common.{refl, ap, ◌∙◌, arith}
-use Rattle.std.specs.Prelude.{replicate, is_none, option_map}
+use Rattle.std.specs.Prelude.{replicate, option_map}
 use Rattle.std.specs.Bool.{then_some}
 use Rattle.std.specs.Option.{option_or}
 use Rattle.std.proofs.lemmas.List.{replicate-append-replicate}
 use Rattle.vyrd_base.specs.declared.header.Header.{Header}
 use Rattle.vyrd_base.specs.declared.log.Entry.{Entry}
-use Rattle.vyrd_base.specs.declared.verdict.Rule.TheVariants.{StartState, CallOpen}
+use Rattle.vyrd_base.specs.declared.verdict.Rule.TheVariants.{CallOpen}
 use Rattle.vyrd_base.specs.declared.verdict.Verdict.TheVariants.{Malformed}
 use Rattle.vyrd_base.specs.Places.{numbers_from, newest_first}
 use Rattle.vyrd_base.specs.Front.{front}
@@ -49,8 +49,7 @@ states_along-none h xs = ap (λ o. states_of (rules_of h) o xs) (state_at_start-
 
 -- nothing is wrong with no starting words
 pub start_verdict-none : (h : Header) → start_verdict (rules_of h) [] ≡ None
-start_verdict-none h = ap (λ o. then_some (is_none o) (Malformed 2 StartState))
-    (state_at_start-none h)
+start_verdict-none h = cc (state_at_start-none h)
 
 pub begun_verdict-none : (h : Header) (es : List Entry) → begun_verdict (rules_of h) [] es ≡ None
 begun_verdict-none h [] = refl

@@ -1,7 +1,7 @@
 -- How much the parts of a slot and of a node give to a key, and what follows a node on the chain.
-use Rattle.std.proofs.Common.{◌≡◌, ℕ, zero, suc, ◌+◌, ◌*◌, ◌^◌, ◌≤◌, min, Bool, true, false, cond}
-use Rattle.std.proofs.Common.{◌&&◌, List, [], ◌∷◌, ◌++◌, refl, ap, ◌∙◌, arith}
-use Rattle.std.specs.Prelude.{◌==◌, nat_lt, flat_map, map, slice_index}
+use Rattle.std.proofs.Common.{◌≡◌, ℕ, zero, suc, ◌+◌, ◌*◌, ◌^◌, ◌≤◌, min, Bool, true, false}
+use Rattle.std.proofs.Common.{List, [], ◌∷◌, refl, ap, arith}
+use Rattle.std.specs.Prelude.{flat_map, map, slice_index}
 use Rattle.vyrd_base.specs.Places.{numbers_from, numbers_below}
 use Rattle.vyrd_base.specs.Amounts.{Amounts, amount_of, collected, given}
 use Rattle.vyrd_base.specs.Multiset.{slot_parts}
@@ -13,11 +13,7 @@ use Rattle.vyrd_base.proofs.SumLaws.{given_at_most, amount_of-collected, one_at_
 use Rattle.vyrd_base.proofs.TestLaws.{below_of}
 
 slot_at_most : (words : List ℕ) (q i : ℕ) → given q (slot_parts words i) ≤ 1
-slot_at_most words q i = by_state (slice_index words (2 * i) == 2)
-  where
-    by_state : (b : Bool) → given q (cond b ((slice_index words (2 * i + 1), 1) ∷ []) []) ≤ 1
-    by_state true = one_at_most q (slice_index words (2 * i + 1)) 1
-    by_state false = omega arith
+slot_at_most words q i = grind (arith, given, one_at_most)
 
 -- n slots give a value n at most
 pub slots_at_most : (words : List ℕ) (n q : ℕ)
@@ -30,14 +26,7 @@ slots_at_most words n q =
     )
 
 entry_at_most : (q : ℕ) (entry : ℕ × ℕ) → given q (entry_parts entry) ≤ 2 ^ 33
-entry_at_most q (key, value) = by_value (nat_lt key (2 ^ 32)) (nat_lt value (2 ^ 32)) refl
-  where
-    by_value : (a b : Bool) → nat_lt value (2 ^ 32) ≡ b
-        → given q (cond (a && b) ((key, 2 ^ 32 + value) ∷ []) damage) ≤ 2 ^ 33
-    by_value true true e =
-        omega (arith, one_at_most q key (2 ^ 32 + value), below_of value (2 ^ 32) e)
-    by_value true false e = omega (arith, one_at_most q (2 ^ 33) 1)
-    by_value false b e = omega (arith, one_at_most q (2 ^ 33) 1)
+entry_at_most q entry = grind (arith, given, one_at_most, below_of)
 
 -- the parts of the entry in this place of a node
 abbrev pub place_parts : List ℕ → ℕ → ℕ → List (ℕ × ℕ)
@@ -47,19 +36,14 @@ place_parts words n j = entry_parts (node_word words n (4 + j), node_word words 
 pub place_is : (words : List ℕ) (n j : ℕ)
     → entry_parts (slice_index words (12 * n + 4 + j), slice_index words (12 * n + 8 + j))
     ≡ place_parts words n j
-place_is words n j =
-    let key : 12 * n + 4 + j ≡ 12 * n + (4 + j) = omega arith in
-    let value : 12 * n + 8 + j ≡ 12 * n + (8 + j) = omega arith in
-    ap (λ i. entry_parts (slice_index words i, slice_index words (12 * n + 8 + j))) key
-    ∙ ap (λ i. entry_parts (slice_index words (12 * n + (4 + j)), slice_index words i)) value
+place_is words n j = grind arith
 
 entries-places : (words : List ℕ) (n k m : ℕ)
     → flat_map entry_parts (map (λ j. (node_word words n (4 + j), node_word words n (8 + j)))
     (numbers_from k m))
     ≡ flat_map (place_parts words n) (numbers_from k m)
 entries-places words n k zero = refl
-entries-places words n k (suc m) = ap (λ xs. place_parts words n k ++ xs)
-    (entries-places words n (k + 1) m)
+entries-places words n k (suc m) = cc (entries-places words n (k + 1) m)
 
 -- a node's parts, place by place
 pub node_parts-places : (words : List ℕ) (n : ℕ) → node_parts words n
@@ -68,34 +52,15 @@ node_parts-places words n = entries-places words n 0 (min (count_of words n) 4)
 
 pub places_at_most : (words : List ℕ) (n m q : ℕ)
     → given q (flat_map (place_parts words n) (numbers_below m)) ≤ m * 2 ^ 33
-places_at_most words n m q = given_at_most (place_parts words n) (2 ^ 33) q 0 m
-    (λ j. entry_at_most q (
-      node_word words n (4 + j),
-      node_word words n (8 + j),
-    ))
+places_at_most words n m q = grind (arith, given_at_most, entry_at_most)
 
 node_at_most : (words : List ℕ) (n q : ℕ) → given q (node_parts words n) ≤ 2 ^ 35
-node_at_most words n q =
-    let few : min (count_of words n) 4 ≤ 4 = omega arith in
-    omega (
-      arith,
-      ap (given q) (node_parts-places words n),
-      places_at_most words n
-          (min (count_of words n) 4) q,
-      few,
-    )
+node_at_most words n q = search (node_parts-places, places_at_most, arith)
 
 -- a node adds little
 pub node_grows : (words : List ℕ) (n turn q : ℕ) (s t : Amounts) → t ≡ added s (node_parts words n)
     → amount_of s q ≤ turn * 2 ^ 35 → amount_of t q ≤ (turn + 1) * 2 ^ 35
-node_grows words n turn q s t more few =
-    omega (
-      arith,
-      ap (λ x. amount_of x q) more
-          ∙ amount_of-added (node_parts words n) s q,
-      node_at_most words n q,
-      few,
-    )
+node_grows words n turn q s t more few = grind (arith, more, few, amount_of-added, node_at_most)
 
 -- what follows a node, by whether the chain ends there and whether its link goes back or past the
 -- nodes

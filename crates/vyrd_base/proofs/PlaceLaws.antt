@@ -1,6 +1,6 @@
 -- How the places of a list, and the first answer in it, grow with the list.
 use Rattle.std.proofs.Common.{◌≡◌, ℕ, zero, suc, ◌+◌, ◌<◌, ◌≤◌, Bool, true, List, [], ◌∷◌, ◌++◌}
-use Rattle.std.proofs.Common.{length, map, get_or, Option, Some, None, refl, ap, ◌∙◌, sym, arith}
+use Rattle.std.proofs.Common.{length, map, get_or, Option, Some, None, refl, ap, ◌∙◌, arith}
 use Rattle.std.specs.Option.{option_or}
 use Rattle.std.specs.List.{list_all}
 use Rattle.vyrd_base.specs.Places.{Place, places_after, first_answer, newest_first_onto}
@@ -29,9 +29,7 @@ pub places_after-append : {A : Type 0} (earlier xs ys : List A)
     → places_after earlier (xs ++ ys) ≡ map (with_later ys) (places_after earlier xs)
     ++ places_after (newest_first_onto earlier xs) ys
 places_after-append earlier [] ys = refl
-places_after-append earlier (x ∷ xs) ys =
-    ap (λ rest. record { earlier = earlier; here = x; later = xs ++ ys } ∷ rest)
-    (places_after-append (x ∷ earlier) xs ys)
+places_after-append earlier (x ∷ xs) ys = cc (places_after-append (x ∷ earlier) xs ys)
 
 pub newest_first_onto-append : {A : Type 0} (earlier xs ys : List A)
     → newest_first_onto earlier (xs ++ ys) ≡ newest_first_onto (newest_first_onto earlier xs) ys
@@ -54,17 +52,11 @@ length-newest_first xs = length-newest_first_onto [] xs ∙ omega arith
 
 -- one number more
 pub numbers_from-push : (k n : ℕ) → numbers_from k (n + 1) ≡ numbers_from k n ++ (k + n) ∷ []
-numbers_from-push k zero = let e : k + 0 ≡ k = omega arith in ap (λ x. x ∷ []) (sym e)
-numbers_from-push k (suc n) =
-    let one : suc n + 1 ≡ suc (n + 1) = omega arith in
-    let at : k + 1 + n ≡ k + suc n = omega arith in
-    ap (numbers_from k) one
-    ∙ ap (λ xs. k ∷ xs)
-    (numbers_from-push (k + 1) n ∙ ap (λ x. numbers_from (k + 1) n ++ x ∷ []) at)
+numbers_from-push k zero = let e : k + 0 ≡ k = omega arith in cc
+numbers_from-push k (suc n) = grind (arith, numbers_from-push (k + 1) n)
 
 pub numbers_below-push : (n : ℕ) → numbers_below (n + 1) ≡ numbers_below n ++ n ∷ []
-numbers_below-push n = let e : 0 + n ≡ n = omega arith in numbers_from-push 0 n
-    ∙ ap (λ x. numbers_from 0 n ++ x ∷ []) e
+numbers_below-push n = grind (arith, numbers_from-push 0 n)
 
 -- a function's values at n numbers in a row are n
 pub length-mapped : {A : Type 0} (f : ℕ → A) (k n : ℕ) → length (map f (numbers_from k n)) ≡ n
@@ -93,8 +85,7 @@ pub at_map : {A : Type 0} (f : ℕ → A) (k n i : ℕ) (d : A) → i < n
     → get_or (map f (numbers_from k n)) i d ≡ f (k + i)
 at_map f k zero i d low = absurd (omega (arith, low))
 at_map f k (suc n) zero d low = let here : k ≡ k + 0 = omega arith in ap f here
-at_map f k (suc n) (suc i) d low = let there : k + 1 + i ≡ k + suc i = omega arith in at_map f
-    (k + 1) n i d (omega (arith, low)) ∙ ap f there
+at_map f k (suc n) (suc i) d low = grind (arith, at_map f (k + 1) n i d (omega (arith, low)))
 
 pub element_below : {A : Type 0} (f : ℕ → A) (n i : ℕ) (d : A) → i < n
     → get_or (map f (numbers_below n)) i d ≡ f i

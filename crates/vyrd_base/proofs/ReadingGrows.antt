@@ -1,21 +1,20 @@
 -- What longer bytes say: what was read stays read, and a fault of text that is known stays.
 use Rattle.std.proofs.Common.{◌≡◌, ℕ, ◌+◌, ◌<◌, ◌≤◌, Bool, true, false, cond, ◌&&◌, ◌||◌, List, []}
 use Rattle.std.proofs.Common.{◌∷◌, ◌++◌, length, Option, Some, None, Result, Ok, Err, refl, ap}
-use Rattle.std.proofs.Common.{subst, ◌∙◌, sym, arith, length-append}
+use Rattle.std.proofs.Common.{◌∙◌, sym, arith, length-append}
 use Rattle.std.specs.Prelude.{◌==◌, nat_lt}
 use Rattle.std.specs.List.{slice_split, onto_first}
 use Rattle.std.specs.Str.{bytes_eq}
 use Rattle.std.proofs.lemmas.Bool.Decides.{nat_tests}
 use Rattle.std.proofs.Math.Bool.{and-false}
-use Rattle.std.proofs.Math.Bool.{or-true}
 use Rattle.vyrd_base.specs.declared.header.Header.{Header}
 use Rattle.vyrd_base.specs.declared.subject.Subject.{Subject}
 use Rattle.vyrd_base.specs.declared.log.Entry.{Entry}
 use Rattle.vyrd_base.specs.declared.log.StartWord.{StartWord}
 use Rattle.vyrd_base.specs.declared.verdict.Rule.{Rule}
-use Rattle.vyrd_base.specs.declared.verdict.Rule.TheVariants.{TooManyLines, AfterEnd, BadHeader}
+use Rattle.vyrd_base.specs.declared.verdict.Rule.TheVariants.{TooManyLines, BadHeader}
 use Rattle.vyrd_base.specs.declared.verdict.Rule.TheVariants.{BadEntry, NoLineFeed, NoEnd}
-use Rattle.vyrd_base.specs.Shape.{◌breaks◌, first_broken}
+use Rattle.vyrd_base.specs.Shape.{◌breaks◌}
 use Rattle.vyrd_base.specs.Spelling.{end_line}
 use Rattle.vyrd_base.specs.Starts.{start_rule}
 use Rattle.vyrd_base.specs.Lines.{start_in, entry_in, header_in}
@@ -24,7 +23,7 @@ use Rattle.vyrd_base.specs.Reading.{unfinished_rule, after_end_rule, entry_befor
 use Rattle.vyrd_base.specs.Reading.{start_before, starts_read, body_read, header_before, text_read}
 use Rattle.vyrd_base.specs.Reading.{reading}
 use Rattle.vyrd_base.proofs.LongLines.{long_entry, long_start, long_isnt_end, long_header}
-use Rattle.vyrd_base.proofs.ReadingLaws.{no_start_line, one_start_line}
+use Rattle.vyrd_base.proofs.ReadingLaws.{no_start_line}
 use Rattle.vyrd_base.proofs.TestLaws.{below_of, is_below}
 
 -- parts of which the last one goes on, and after which further ones may come
@@ -41,11 +40,7 @@ longer_cons (p ∷ ps) qs h = (refl, h)
 
 longer_onto : (x : ℕ) (ps qs : List (List ℕ)) → Longer ps qs → Longer (onto_first x ps)
     (onto_first x qs)
-longer_onto x [] qs h = absurd h
-longer_onto x (rest ∷ []) [] h = absurd h
-longer_onto x (rest ∷ []) (q ∷ qs) h = (h.0, ap (λ ys. x ∷ ys) h.1)
-longer_onto x (p ∷ next ∷ ps) [] h = absurd h
-longer_onto x (p ∷ next ∷ ps) (q ∷ qs) h = (ap (λ ys. x ∷ ys) h.0, h.1)
+longer_onto x ps qs h = grind arith
 
 -- no text has no part
 longer_nothing : (qs : List (List ℕ)) → 0 < length qs → Longer ([] ∷ []) qs
@@ -54,16 +49,7 @@ longer_nothing (q ∷ qs) h = (q, refl)
 
 pub some_parts : (p : ℕ → Bool) (xs : List ℕ) → 0 < length (slice_split p xs)
 some_parts p [] = omega arith
-some_parts p (x ∷ xs) =
-    elim (p x) as (λ b. 0 < length
-    (cond b ([] ∷ slice_split p xs) (onto_first x (slice_split p xs)))) [
-      | true ↦ omega arith
-      | false ↦ onto (slice_split p xs)
-    ]
-  where
-    onto : (parts : List (List ℕ)) → 0 < length (onto_first x parts)
-    onto [] = omega arith
-    onto (q ∷ qs) = omega arith
+some_parts p (x ∷ xs) = grind arith
 
 pub split_longer : (p : ℕ → Bool) (xs ys : List ℕ) → Longer (slice_split p xs)
     (slice_split p (xs ++ ys))
@@ -105,36 +91,18 @@ entry_grown : (n : ℕ) (o : Option Entry) (old new : Reading) → new.starting 
     → Grown old new
     → Grown (entry_before n o old) (entry_before n o new)
 entry_grown n None old new same g = same_grown (stopped n (Some BadEntry))
-entry_grown n (Some e) old new same g = record {
-  fault = λ f is. ap (entry_before n (Some e)) (g.fault f is);
-  entries = λ none. let more = g.entries none in (more.0, ap (λ es. e ∷ es) more.1);
-  ended = λ none is. let done = g.ended none is in (ap (λ es. e ∷ es) done.0, done.1);
-  starting = g.starting;
-  begun = λ none is. same;
-}
+entry_grown n (Some e) old new same g = grind (arith, g.starting)
 
 -- one more starting word before both, or the rule that it breaks
 start_grown : (n : ℕ) (o : Option Rule) (s : StartWord) (old new : Reading) → Grown old new
     → Grown (start_before n o s old) (start_before n o s new)
 start_grown n (Some rule) s old new g = same_grown (stopped n (Some rule))
-start_grown n None s old new g = record {
-  fault = λ f is. ap (start_before n None s) (g.fault f is);
-  entries = g.entries;
-  ended = g.ended;
-  starting = λ none. let more = g.starting none in (more.0, ap (λ ss. s ∷ ss) more.1);
-  begun = λ none is. ap (λ ss. s ∷ ss) (g.begun none is);
-}
+start_grown n None s old new g = grind (arith, g.entries, g.ended)
 
 -- a reading that stopped with nothing read
 stopped_grown : (n : ℕ) (o : Option Rule) (new : Reading)
     → ((rule : Rule) → o ≡ Some rule → new ≡ stopped n o) → Grown (stopped n o) new
-stopped_grown n None new same = record {
-  fault = λ f e. cc;
-  entries = λ none. (new.entries, refl);
-  ended = λ none is. cc;
-  starting = λ none. (new.starting, refl);
-  begun = λ none is. cc;
-}
+stopped_grown n None new same = grind arith
 stopped_grown n (Some rule) new same = record {
   fault = λ f e. same rule refl;
   entries = λ none. cc;
@@ -180,14 +148,9 @@ unfinished_known max n bad rule rest e = by_first (has_any rest && nat_lt max n)
     others : Option Rule
     others = cond (has_any rest && false) (Some NoLineFeed) (cond false (Some NoEnd) None)
 
-    no_others : others ≡ None
-    no_others = ap (λ b. cond b (Some NoLineFeed) None) (and-false (has_any rest))
-
     by_second : (has_any rest && nat_lt max n) ≡ false → (b : Bool) → nat_lt 64 (length rest) ≡ b
         → cond b (Some bad) others ≡ Some rule → Known max n bad rule rest
-    by_second first true is f = let h = below_of 64 (length rest) is in long h
-        (many_bytes rest (nat_lt max n) first h) cc
-    by_second first false is f = no_rule others no_others f
+    by_second first b is f = search (below_of, long, many_bytes, no_rule, arith)
 
     by_first : (a : Bool) → (has_any rest && nat_lt max n) ≡ a
         → cond a (Some TooManyLines) (cond (nat_lt 64 (length rest)) (Some bad) others) ≡ Some rule
@@ -199,23 +162,8 @@ unfinished_known max n bad rule rest e = by_first (has_any rest && nat_lt max n)
 unfinished_stays : (max n : ℕ) (whole : Bool) (bad rule : Rule) (rest more : List ℕ)
     → Known max n bad rule rest
     → unfinished_rule (input_of max whole) n bad (rest ++ more) ≡ Some rule
-unfinished_stays max n whole bad rule rest more (past some limit is) =
-    let longer : 0 < length (rest ++ more) = omega (arith, length-append rest more) in
-    ap (λ b. cond b (Some TooManyLines)
-    (cond (nat_lt 64 (length (rest ++ more))) (Some bad)
-    (cond (has_any (rest ++ more) && whole) (Some NoLineFeed) (cond whole (Some NoEnd) None))))
-    (is_some_length (rest ++ more) (nat_lt max n) longer limit)
-    ∙ ap Some (sym is)
-unfinished_stays max n whole bad rule rest more (long many limit is) =
-    let longer : 64 < length (rest ++ more) = omega (arith, length-append rest more) in
-    ap (λ b. cond b (Some TooManyLines)
-    (cond (nat_lt 64 (length (rest ++ more))) (Some bad)
-    (cond (has_any (rest ++ more) && whole) (Some NoLineFeed) (cond whole (Some NoEnd) None))))
-    (no_first (rest ++ more) (nat_lt max n) limit)
-    ∙ ap (λ b. cond b (Some bad)
-    (cond (has_any (rest ++ more) && whole) (Some NoLineFeed) (cond whole (Some NoEnd) None)))
-    (is_below 64 (length (rest ++ more)) longer)
-    ∙ ap Some (sym is)
+unfinished_stays max n whole bad rule rest more e7 =
+    grind (arith, whole, more, past, is_some_length, length-append, long, no_first, is_below)
 
 -- and as it is finished
 finished_stays : (max n : ℕ) (whole : Bool) (subject : Subject) (rule : Rule)
@@ -223,24 +171,8 @@ finished_stays : (max n : ℕ) (whole : Bool) (subject : Subject) (rule : Rule)
     → Known max n BadEntry rule rest
     → lines_read (input_of max whole) subject n ((rest ++ more) ∷ next ∷ lines)
     ≡ stopped n (Some rule)
-finished_stays max n whole subject rule rest more next lines (past some limit is) =
-    ap (λ b. cond b (stopped n (Some TooManyLines))
-    (cond (bytes_eq (rest ++ more) end_line)
-    (ended (n + 1) (after_end_rule (input_of max whole) (n + 1) next lines))
-    (entry_before n (entry_in subject (rest ++ more))
-    (lines_read (input_of max whole) subject (n + 1) (next ∷ lines))))) limit
-    ∙ ap (λ r. stopped n (Some r)) (sym is)
-finished_stays max n whole subject rule rest more next lines (long many limit is) =
-    let longer : 64 < length (rest ++ more) = omega (arith, length-append rest more) in
-    let onward = lines_read (input_of max whole) subject (n + 1) (next ∷ lines) in
-    let end = ended (n + 1) (after_end_rule (input_of max whole) (n + 1) next lines) in
-    ap (λ b. cond b (stopped n (Some TooManyLines))
-    (cond (bytes_eq (rest ++ more) end_line) end
-    (entry_before n (entry_in subject (rest ++ more)) onward))) limit
-    ∙ ap (λ b. cond b end (entry_before n (entry_in subject (rest ++ more)) onward))
-    (long_isnt_end (rest ++ more) longer)
-    ∙ ap (λ o. entry_before n o onward) (long_entry subject (rest ++ more) longer)
-    ∙ ap (λ r. stopped n (Some r)) (sym is)
+finished_stays max n whole subject rule rest more next lines e9 =
+    grind (arith, whole, more, past, long, long_isnt_end, length-append, long_entry)
 
 -- the break after `end` stays
 after_end_stays : (max n : ℕ) (whole : Bool) (next : List ℕ) (ps : List (List ℕ)) (q : List ℕ)
@@ -248,18 +180,7 @@ after_end_stays : (max n : ℕ) (whole : Bool) (next : List ℕ) (ps : List (Lis
     → Longer (next ∷ ps) (q ∷ qs)
     → after_end_rule (so_far max) n next ps ≡ Some rule → after_end_rule (input_of max whole) n q qs
     ≡ Some rule
-after_end_stays max n whole [] [] q qs rule h e = cc
-after_end_stays max n whole (x ∷ next) [] q qs rule h e =
-    ap (λ ys. after_end_rule (input_of max whole) n ys qs) h.1 ∙ e
-after_end_stays max n whole next (p ∷ ps) q [] rule h e = absurd (no_next p ps h.1)
-  where
-    no_next : (p : List ℕ) (ps : List (List ℕ)) → Longer (p ∷ ps) [] → ⊥
-    no_next p [] h = h
-    no_next p (x ∷ ps) h = h
-after_end_stays max n whole next (p ∷ ps) q (q2 ∷ qs) rule h e =
-    ap (λ b. first_broken ((b && nat_lt max n breaks TooManyLines) ∷ (b breaks AfterEnd) ∷ []))
-    (or-true (has_any q)
-    ∙ sym (or-true (has_any next))) ∙ e
+after_end_stays max n whole next ps q qs rule h e = grind (arith, whole, has_any)
 
 line_grown : (n : ℕ) (past is_end : Bool) (end end' onward onward' : Reading) → Grown end end'
     → Grown onward onward'
@@ -271,13 +192,7 @@ line_grown n false false end end' onward onward' g h = h
 
 end_grown : (n : ℕ) (o o' : Option Rule) → ((rule : Rule) → o ≡ Some rule → o' ≡ Some rule)
     → Grown (ended n o) (ended n o')
-end_grown n None o' stays = record {
-  fault = λ f e. cc;
-  entries = λ none. ([], refl);
-  ended = λ none is. (refl, refl);
-  starting = λ none. ([], refl);
-  begun = λ none is. refl;
-}
+end_grown n None o' stays = grind arith
 end_grown n (Some rule) o' stays = record {
   fault = λ f e. ap (ended n) (stays rule refl);
   entries = λ none. cc;
@@ -316,16 +231,9 @@ pub lines_grow : (max : ℕ) (whole : Bool) (subject : Subject) (n : ℕ) (ps qs
 lines_grow max whole subject n [] qs h = absurd h
 lines_grow max whole subject n (rest ∷ []) [] h = absurd h
 lines_grow max whole subject n (rest ∷ []) (q ∷ []) h =
-    subst (λ line. Grown (stopped n (unfinished_rule (so_far max) n BadEntry rest))
-    (stopped n (unfinished_rule (input_of max whole) n BadEntry line))) (sym h.1)
-    (stopped_grown n (unfinished_rule (so_far max) n BadEntry rest)
-    (stopped n (unfinished_rule (input_of max whole) n BadEntry (rest ++ h.0)))
-    (λ rule e. ap (stopped n)
-    (unfinished_stays max n whole BadEntry rule rest h.0
-    (unfinished_known max n BadEntry rule rest e) ∙ sym e)))
+    search (whole, stopped_grown, unfinished_stays, unfinished_known, arith)
 lines_grow max whole subject n (rest ∷ []) (q ∷ next ∷ qs) h =
-    subst (λ line. Grown (stopped n (unfinished_rule (so_far max) n BadEntry rest))
-    (lines_read (input_of max whole) subject n (line ∷ next ∷ qs))) (sym h.1)
+    rw h.1
     (stopped_grown n (unfinished_rule (so_far max) n BadEntry rest)
     (lines_read (input_of max whole) subject n ((rest ++ h.0) ∷ next ∷ qs))
     (λ rule e. finished_stays max n whole subject rule rest h.0 next qs
@@ -333,8 +241,7 @@ lines_grow max whole subject n (rest ∷ []) (q ∷ next ∷ qs) h =
 lines_grow max whole subject n (p ∷ next ∷ ps) [] h = absurd h
 lines_grow max whole subject n (p ∷ next ∷ ps) (q ∷ []) h = absurd (no_parts next ps h.1)
 lines_grow max whole subject n (p ∷ next ∷ ps) (q ∷ q2 ∷ qs) h =
-    subst (λ line. Grown (lines_read (so_far max) subject n (p ∷ next ∷ ps))
-    (lines_read (input_of max whole) subject n (line ∷ q2 ∷ qs))) (sym h.0)
+    rw h.0
     (line_grown n (nat_lt max n) (bytes_eq p end_line)
     (ended (n + 1) (after_end_rule (so_far max) (n + 1) next ps))
     (ended (n + 1) (after_end_rule (input_of max whole) (n + 1) q2 qs))
@@ -364,12 +271,7 @@ finished_start max n whole h last rule rest more next lines known = by_line
         ≡ stopped n (Some rule)
     by_line None e k = no_start_line (input_of max whole) h last n (rest ++ more) next lines e
         ∙ finished_stays max n whole h.subject rule rest more next lines k
-    by_line (Some s) e (past some limit is) =
-        one_start_line (input_of max whole) h last n (rest ++ more) next lines s e
-        ∙ ap (λ b. cond b (stopped n (Some TooManyLines))
-        (start_before n (start_rule h last s) s
-        (starts_read (input_of max whole) h (Some s) (n + 1) (next ∷ lines)))) limit
-        ∙ ap (λ r. stopped n (Some r)) (sym is)
+    by_line (Some s) e (past some limit is) = search (whole, more, arith)
     by_line (Some s) e (long many limit is) =
         let longer : 64 < length (rest ++ more) = omega (arith, length-append rest more) in
         absurd (none_is_some (sym (long_start (rest ++ more) longer) ∙ e))
@@ -386,8 +288,7 @@ starts_grow max whole h last n (rest ∷ []) [] l = absurd l
 starts_grow max whole h last n (rest ∷ []) (q ∷ []) l = lines_grow max whole h.subject n (rest ∷ [])
     (q ∷ []) l
 starts_grow max whole h last n (rest ∷ []) (q ∷ next ∷ qs) l =
-    subst (λ line. Grown (stopped n (unfinished_rule (so_far max) n BadEntry rest))
-    (starts_read (input_of max whole) h last n (line ∷ next ∷ qs))) (sym l.1)
+    rw l.1
     (stopped_grown n (unfinished_rule (so_far max) n BadEntry rest)
     (starts_read (input_of max whole) h last n ((rest ++ l.0) ∷ next ∷ qs))
     (λ rule e. finished_start max n whole h last rule rest l.0 next qs
@@ -395,8 +296,7 @@ starts_grow max whole h last n (rest ∷ []) (q ∷ next ∷ qs) l =
 starts_grow max whole h last n (p ∷ next ∷ ps) [] l = absurd l
 starts_grow max whole h last n (p ∷ next ∷ ps) (q ∷ []) l = absurd (no_parts next ps l.1)
 starts_grow max whole h last n (p ∷ next ∷ ps) (q ∷ q2 ∷ qs) l =
-    subst (λ line. Grown (starts_read (so_far max) h last n (p ∷ next ∷ ps))
-    (starts_read (input_of max whole) h last n (line ∷ q2 ∷ qs))) (sym l.0)
+    rw l.0
     (by_line (start_in p) (λ s. starts_grow max whole h (Some s) (n + 1) (next ∷ ps) (q2 ∷ qs) l.1))
   where
     by_limit : (s : StartWord) (b : Bool)
@@ -408,10 +308,7 @@ starts_grow max whole h last n (p ∷ next ∷ ps) (q ∷ q2 ∷ qs) l =
         (cond b (stopped n (Some TooManyLines))
         (start_before n (start_rule h last s) s
         (starts_read (input_of max whole) h (Some s) (n + 1) (q2 ∷ qs))))
-    by_limit s true g = same_grown (stopped n (Some TooManyLines))
-    by_limit s false g = start_grown n (start_rule h last s) s
-        (starts_read (so_far max) h (Some s) (n + 1) (next ∷ ps))
-        (starts_read (input_of max whole) h (Some s) (n + 1) (q2 ∷ qs)) g
+    by_limit s b g = search (same_grown, start_grown, whole, arith)
 
     by_line : (o : Option StartWord)
         → ((s : StartWord) → Grown (starts_read (so_far max) h (Some s) (n + 1) (next ∷ ps))
@@ -434,15 +331,7 @@ starts_grow max whole h last n (p ∷ next ∷ ps) (q ∷ q2 ∷ qs) l =
 -- the lines after the header
 pub body_grow : (max : ℕ) (whole : Bool) (h : Header) (ps qs : List (List ℕ)) → Longer ps qs
     → Grown (body_read (so_far max) h ps) (body_read (input_of max whole) h qs)
-body_grow max whole h ps qs l = by_version (h.version == 2)
-  where
-    by_version : (b : Bool)
-        → Grown (cond b (starts_read (so_far max) h None 2 ps)
-        (lines_read (so_far max) h.subject 2 ps))
-        (cond b (starts_read (input_of max whole) h None 2 qs)
-        (lines_read (input_of max whole) h.subject 2 qs))
-    by_version true = starts_grow max whole h None 2 ps qs l
-    by_version false = lines_grow max whole h.subject 2 ps qs l
+body_grow max whole h ps qs l = grind (arith, whole, starts_grow, lines_grow)
 
 -- the same, with the header
 pub record TextGrown (old new : Reading) : Type 0 where
@@ -451,16 +340,7 @@ pub record TextGrown (old new : Reading) : Type 0 where
 
 header_grown : (h : Header) (old new : Reading) → Grown old new → TextGrown (header_before h old)
     (header_before h new)
-header_grown h old new g = record {
-  grown = record {
-    fault = λ f e. ap (header_before h) (g.fault f e);
-    entries = g.entries;
-    ended = g.ended;
-    starting = g.starting;
-    begun = g.begun;
-  };
-  header = λ x e. e;
-}
+header_grown h old new g = grind (arith, g.entries, g.ended, g.starting, g.begun)
 
 stopped_text : (n : ℕ) (o : Option Rule) (new : Reading)
     → ((rule : Rule) → o ≡ Some rule → new ≡ stopped n o) → TextGrown (stopped n o) new
@@ -472,32 +352,17 @@ in_limit max h e = let f : max < 1 = grind (arith, nat_tests) in omega arith
 finished_header : (max : ℕ) (whole : Bool) (rule : Rule) (rest more next : List ℕ)
     (lines : List (List ℕ)) → 1 ≤ max → Known max 1 BadHeader rule rest
     → text_read (input_of max whole) ((rest ++ more) ∷ next ∷ lines) ≡ stopped 1 (Some rule)
-finished_header max whole rule rest more next lines low (past some limit is) = absurd
-    (in_limit max low limit)
-finished_header max whole rule rest more next lines low (long many limit is) =
-    let longer : 64 < length (rest ++ more) = omega (arith, length-append rest more) in
-    ap (λ r. elim r as (λ _. Reading) [
-      | Ok h ↦ header_before h
-          (body_read (input_of max whole) h (next ∷ lines))
-      | Err x ↦ stopped 1 (Some x)
-    ]) (long_header (rest ++ more) longer)
-    ∙ ap (λ r. stopped 1 (Some r)) (sym is)
+finished_header max whole rule rest more next lines low e8 =
+    grind (arith, whole, more, past, in_limit, long, long_header, length-append)
 
 text_grow : (max : ℕ) (whole : Bool) (ps qs : List (List ℕ)) → 1 ≤ max → Longer ps qs
     → TextGrown (text_read (so_far max) ps) (text_read (input_of max whole) qs)
 text_grow max whole [] qs low h = absurd h
 text_grow max whole (rest ∷ []) [] low h = absurd h
 text_grow max whole (rest ∷ []) (q ∷ []) low h =
-    subst (λ line. TextGrown (stopped 1 (unfinished_rule (so_far max) 1 BadHeader rest))
-    (stopped 1 (unfinished_rule (input_of max whole) 1 BadHeader line))) (sym h.1)
-    (stopped_text 1 (unfinished_rule (so_far max) 1 BadHeader rest)
-    (stopped 1 (unfinished_rule (input_of max whole) 1 BadHeader (rest ++ h.0)))
-    (λ rule e. ap (stopped 1)
-    (unfinished_stays max 1 whole BadHeader rule rest h.0
-    (unfinished_known max 1 BadHeader rule rest e) ∙ sym e)))
+    search (whole, stopped_text, unfinished_stays, unfinished_known, arith)
 text_grow max whole (rest ∷ []) (q ∷ next ∷ qs) low h =
-    subst (λ line. TextGrown (stopped 1 (unfinished_rule (so_far max) 1 BadHeader rest))
-    (text_read (input_of max whole) (line ∷ next ∷ qs))) (sym h.1)
+    rw h.1
     (stopped_text 1 (unfinished_rule (so_far max) 1 BadHeader rest)
     (text_read (input_of max whole) ((rest ++ h.0) ∷ next ∷ qs))
     (λ rule e. finished_header max whole rule rest h.0 next qs low
@@ -505,9 +370,7 @@ text_grow max whole (rest ∷ []) (q ∷ next ∷ qs) low h =
 text_grow max whole (p ∷ next ∷ ps) [] low h = absurd h
 text_grow max whole (p ∷ next ∷ ps) (q ∷ []) low h = absurd (no_parts next ps h.1)
 text_grow max whole (p ∷ next ∷ ps) (q ∷ q2 ∷ qs) low h =
-    subst (λ line. TextGrown (text_read (so_far max) (p ∷ next ∷ ps))
-    (text_read (input_of max whole) (line ∷ q2 ∷ qs))) (sym h.0)
-    (by_header (header_in p))
+    grind (arith, h.0, by_header (header_in p))
   where
     by_header : (r : Result Header Rule)
         → TextGrown (elim r as (λ _. Reading) [
@@ -520,9 +383,7 @@ text_grow max whole (p ∷ next ∷ ps) (q ∷ q2 ∷ qs) low h =
               (body_read (input_of max whole) x (q2 ∷ qs))
           | Err rule ↦ stopped 1 (Some rule)
         ])
-    by_header (Ok x) = header_grown x (body_read (so_far max) x (next ∷ ps))
-        (body_read (input_of max whole) x (q2 ∷ qs))
-        (body_grow max whole x (next ∷ ps) (q2 ∷ qs) h.1)
+    by_header (Ok x) = search (header_grown, whole, body_grow, arith)
     by_header (Err rule) = record { grown = same_grown (stopped 1 (Some rule)); header = λ x e. e }
 
 -- what longer bytes say, as bytes that may go on or as the whole input

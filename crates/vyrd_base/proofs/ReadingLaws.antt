@@ -13,7 +13,7 @@ use Rattle.vyrd_base.specs.declared.header.Header.{Header}
 use Rattle.vyrd_base.specs.declared.subject.Subject.{Subject}
 use Rattle.vyrd_base.specs.declared.log.Entry.{Entry}
 use Rattle.vyrd_base.specs.declared.log.StartWord.{StartWord}
-use Rattle.vyrd_base.specs.declared.verdict.Rule.TheVariants.{TooManyLines, StartRange, StartOrder}
+use Rattle.vyrd_base.specs.declared.verdict.Rule.TheVariants.{TooManyLines}
 use Rattle.vyrd_base.specs.declared.verdict.Rule.TheVariants.{UnknownVersion, BadHeader}
 use Rattle.vyrd_base.specs.Layout.{plain_words}
 use Rattle.vyrd_base.specs.Subjects.{is_built_in, limits_of}
@@ -24,7 +24,7 @@ use Rattle.vyrd_base.specs.Spelling.{subject_name, log_text, is_entry_of}
 use Rattle.vyrd_base.specs.Lines.{start_in, entry_in, header_in, fields_of, header_spelled}
 use Rattle.vyrd_base.specs.Lines.{header_from, header_if, header_of}
 use Rattle.vyrd_base.specs.Reading.{Reading, Input, stopped, ended, after_end_rule, entry_before}
-use Rattle.vyrd_base.specs.Reading.{lines_read, start_before, starts_read, body_read, header_before}
+use Rattle.vyrd_base.specs.Reading.{lines_read, start_before, starts_read, body_read}
 use Rattle.vyrd_base.specs.Reading.{text_read, reading}
 use Rattle.vyrd_base.specs.Verdicts.{verdict_so_far, end_verdict, accepted, verdict}
 use Rattle.vyrd_base.specs.TextVerdicts.{known_verdict, text_verdict}
@@ -139,10 +139,7 @@ first_follows h last s starting e =
 
 pub no_start_rule : (h : Header) (last : Option StartWord) (s : StartWord) → DoesFollow h last s
     → start_rule h last s ≡ None
-no_start_rule h last s is =
-    ap (λ b. cond b (Some StartRange) (cond (is_out_of_order last s) (Some StartOrder) None))
-    is.in_range
-    ∙ ap (λ b. cond b (Some StartOrder) None) is.in_order
+no_start_rule h last s is = grind arith
 
 module _ (input : Input) (h : Header) where
   -- a line that spells no starting word ends them
@@ -233,8 +230,7 @@ module _ (input : Input) (h : Header) where
 -- a line with its line feed before more
 pub regrouped : (line rest more : List ℕ) → (ended_line line ++ rest) ++ more ≡ line
     ++ 10 ∷ (rest ++ more)
-regrouped line rest more = append_assoc (ended_line line) rest more ∙ append_assoc line (10 ∷ [])
-    (rest ++ more)
+regrouped line rest more = search (append_assoc, more, arith)
 
 -- the text of entries and of `end`
 abbrev pub tail_text : List Entry → List ℕ
@@ -276,20 +272,14 @@ pub log_text_parts : (line : List ℕ) (starting : List StartWord) (entries : Li
     → ((ended_line line ++ flat_map (λ s. ended_line (start_line s)) starting)
     ++ flat_map (λ e. ended_line (entry_line e)) entries)
     ++ ended_line end_line ≡ line ++ 10 ∷ body_text starting entries
-log_text_parts line starting entries =
-    let starts = flat_map (λ s. ended_line (start_line s)) starting in
-    let rest = flat_map (λ e. ended_line (entry_line e)) entries in
-    append_assoc (ended_line line ++ starts) rest (ended_line end_line)
-    ∙ append_assoc (ended_line line) starts (tail_text entries)
-    ∙ append_assoc line (10 ∷ []) (body_text starting entries)
+log_text_parts line starting entries = grind (arith, starting, append_assoc)
 
 pub split_body : (h : Header) (starting : List StartWord) (entries : List Entry)
     → may_start h starting ≡ true
     → AllOf h.subject entries → slice_split (λ b. b == 10) (body_text starting entries)
     ≡ body_lines starting entries
 split_body h [] entries may all = split_tail h.subject entries all
-split_body h (s ∷ starting) entries may all = split_starts h None (s ∷ starting) entries
-    (second_true (h.version == 2) _ may) all
+split_body h (s ∷ starting) entries may all = search (split_starts, starting, second_true, arith)
 
 version_fits : (n : ℕ) → n ≤ 3 → nat_lt n (2 ^ 32) ≡ true
 version_fits n h = is_below n (2 ^ 32) (omega arith)
@@ -306,10 +296,7 @@ header_if_within : (version : ℕ) (subject : Subject) (size callers : ℕ)
       callers = callers;
       within = w;
     })
-header_if_within version subject size callers w true e t =
-    ap (λ p. Some
-    (record { version = version; subject = subject; size = size; callers = callers; within = p }))
-    (Bool-set _ _ e w)
+header_if_within version subject size callers w true e t = cc (Bool-set _ _ e w)
 header_if_within version subject size callers w false e t = cc
 
 -- a header of a built-in subject is read back from its line
@@ -390,14 +377,13 @@ lines_of_log : (input : Input) (h : Header) (starting : List StartWord) (entries
     → text_read input (header_line h.version h.subject h.size h.callers
     ∷ body_lines starting entries) ≡ whole h starting entries
 lines_of_log input h starting entries built within may all =
-    let rest = two_lines starting entries in
-    ap (λ ls. text_read input (header_line h.version h.subject h.size h.callers ∷ ls)) rest.3
-    ∙ ap (λ r. elim r as (λ _. Reading) [
-      | Ok g ↦ header_before g (body_read input g (rest.0 ∷ rest.1 ∷ rest.2))
-      | Err rule ↦ stopped 1 (Some rule)
-    ]) (header_in-header_line h built)
-    ∙ ap (λ ls. header_before h (body_read input h ls)) (sym rest.3)
-    ∙ ap (header_before h) (body_tail input h starting entries within may all)
+    grind (
+      arith,
+      (two_lines starting entries).3,
+      header_in-header_line h built,
+      body_tail input h
+          starting entries within may all,
+    )
 
 -- the text of a log is read as that log
 pub reading-log_text : (input : Input) (h : Header) (starting : List StartWord)

@@ -258,9 +258,7 @@ lines_sound_from : (input : Input) (subject : Subject) (n : ℕ) (lines : List (
     → (lines_read input subject n lines).fault ≡ None
     → lines ≡ lines_in (lines_read input subject n lines)
 lines_sound_from input subject n lines done none =
-    lines_sound input subject n lines done none
-    ∙ ap (λ ss. body_lines ss (lines_read input subject n lines).entries)
-    (sym (no_starting input subject n lines))
+    cc (lines_sound input subject n lines done none, no_starting input subject n lines)
 
 -- the same, where starting words may stand
 pub starts_sound : (input : Input) (h : Header) (last : Option StartWord) (n : ℕ)

@@ -2,7 +2,7 @@
 -- that its block has ended.
 use Rattle.std.proofs.Common.{◌≡◌, ℕ, Bool, true, false, cond, List, [], ◌∷◌, ◌++◌, Some, None}
 use Rattle.std.proofs.Common.{refl, ap}
-use Rattle.std.specs.Option.{option_or, option_map_or}
+use Rattle.std.specs.Option.{option_or}
 use Rattle.vyrd_base.specs.declared.header.Header.{Header}
 use Rattle.vyrd_base.specs.declared.log.Kind.{Kind}
 use Rattle.vyrd_base.specs.declared.log.Kind.TheVariants.{Call, Return, Write, Commit, BlockOpen}
@@ -11,9 +11,8 @@ use Rattle.vyrd_base.specs.declared.log.Entry.{Entry}
 use Rattle.vyrd_base.specs.declared.log.StartWord.{StartWord}
 use Rattle.std.specs.Prelude.{◌==◌}
 use Rattle.vyrd_base.specs.Places.{Place}
-use Rattle.vyrd_base.specs.Callers.{has_block}
 use Rattle.vyrd_base.specs.Commits.{is_commit, returned, next_reply}
-use Rattle.vyrd_base.specs.Words.{block_writes, ahead_at, writes_ahead, effects_at, effects}
+use Rattle.vyrd_base.specs.Words.{ahead_at, writes_ahead, effects_at, effects}
 use Rattle.vyrd_base.specs.Words.{words_with, words_at}
 use Rattle.vyrd_base.proofs.PlaceLaws.{with_later}
 
@@ -52,10 +51,7 @@ effects_at_stays earlier c (Call method args) later more is = refl
 effects_at_stays earlier c (Return reply) later more is = refl
 effects_at_stays earlier c (Write word value) later more is = refl
 effects_at_stays earlier c Commit later more is =
-    let reply = is refl in
-    ap (λ o. cond (has_block c earlier)
-    (option_map_or (λ ahead. ahead ++ block_writes c earlier) o []) [])
-    (ahead_stays c later more reply.0 reply.1)
+    cc (ahead_stays c later more (is refl).0 (is refl).1)
 effects_at_stays earlier c BlockOpen later more is = refl
 effects_at_stays earlier c BlockClose later more is = refl
 effects_at_stays earlier c BlockCommit later more is = refl

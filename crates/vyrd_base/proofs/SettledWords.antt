@@ -45,10 +45,9 @@ block_is_a_callers h c (e ∷ earlier) wf = step (block_is_a_callers h c earlier
     step : (has_block c earlier ≡ true → c < h.callers) → has_block c (e ∷ earlier) ≡ true
         → c < h.callers
     step before inside = by_same e.caller c
-        (λ same. subst (λ d. d < h.callers) same (caller_kept h earlier e wf.0))
+        (λ same. rw (← same) (caller_kept h earlier e wf.0))
         (λ other. before
-        (sym (ap (λ o. unwrap_or o false)
-        (other_answer c e.caller open_or_close e.kind earlier other)) ∙ inside))
+        (sym (cc (other_answer c e.caller open_or_close e.kind earlier other)) ∙ inside))
 
 -- what a caller holds after its own entry
 pub own_holds : (c w : ℕ) (kind : Kind) (earlier : List Entry)
@@ -57,10 +56,7 @@ pub own_holds : (c w : ℕ) (kind : Kind) (earlier : List Entry)
     false
     && unwrap_or
     (option_or (write_or_open w kind) (first_answer (by_caller c (write_or_open w)) earlier)) false)
-own_holds c w kind earlier =
-    let block = own_answer c open_or_close kind earlier in
-    let word = own_answer c (write_or_open w) kind earlier in
-    λ i. unwrap_or (block i) false && unwrap_or (word i) false
+own_holds c w kind earlier = simp (own_answer)
 
 -- a word is held by one caller at most
 abbrev pub OneHolds : ℕ → List Entry → Type 0
@@ -160,8 +156,7 @@ none_to w writes none = of_none (first_answer (given_to w) writes) (some_to w wr
 -- in an open block the words held are those written
 pub holds_is : (c w : ℕ) (earlier : List Entry) → has_block c earlier ≡ true
     → holds_word c w earlier ≡ list_any (is_to w) (block_writes c earlier)
-holds_is c w earlier inside = ap (λ b. b && wrote c w earlier) inside ∙ wrote_is c w earlier inside
-    ∙ some_to w (block_writes c earlier)
+holds_is c w earlier inside = cc (wrote_is c w earlier inside, some_to w (block_writes c earlier))
 
 -- A word that the caller's open block has written isn't among those to which other callers' writes
 -- took effect since the commit
@@ -176,24 +171,19 @@ quiet_isnt_passed : (c w : ℕ) (kind : Kind) (earlier : List Entry) → ends_bl
     → list_any (is_to w) (effects_of_others c earlier []) ≡ false
     → list_any (is_to w) (effects_of_others c (entry c kind ∷ earlier) []) ≡ false
 quiet_isnt_passed c w kind earlier goes_on alone none =
-    ap (λ b. list_any (is_to w)
-    (cond b (cond (is_lone_commit kind) [] (effects_of_others c earlier (entry c kind ∷ [])))
-    (effects_at earlier c kind [] ++ effects_of_others c earlier (entry c kind ∷ []))))
-    (same_number c)
-    ∙ ap (λ b. list_any (is_to w) (cond b [] (effects_of_others c earlier (entry c kind ∷ []))))
-    alone
-    ∙ ap (list_any (is_to w))
-    (sym (same_effects_of_others c earlier [] (entry c kind ∷ [])
-    (same_without_end earlier c kind [] goes_on))) ∙ none
+    cc (
+      same_number c,
+      same_effects_of_others c earlier [] (entry c kind ∷ []) (same_without_end
+          earlier c kind [] goes_on),
+    )
 
 not_passed : (h : Header) (c word value : ℕ) (earlier : List Entry)
     → broken_rule h earlier (entry c (Write word value)) ≡ None
     → has_inner_commit c earlier ≡ true → list_any (is_to word) (effects_of_others c earlier [])
     ≡ false
 not_passed h c word value earlier kept inner =
-    sym (ap (λ b. b && list_any (is_to word) (effects_of_others c earlier [])) inner)
-    ∙ or_false_right (is_held_by_other h c word earlier) (is_passed c word earlier)
-    (all_kept (checks_at h earlier (entry c (Write word value))) kept).1.1.1.1.0
+    cc (or_false_right (is_held_by_other h c word earlier) (is_passed c word earlier) (all_kept
+    (checks_at h earlier (entry c (Write word value))) kept).1.1.1.1.0)
 
 own_isnt_passed : (h : Header) (c w : ℕ) (kind : Kind) (earlier : List Entry)
     → broken_rule h earlier (entry c kind) ≡ None
@@ -210,13 +200,11 @@ own_isnt_passed h c w (Write word value) earlier kept before = λ inner holding.
     let inner' : has_inner_commit c earlier ≡ true = sym (own_inner c (Write word value) earlier)
     ∙ inner in
     quiet_isnt_passed c w (Write word value) earlier refl refl (by_same word w
-    (λ same. subst (λ x. list_any (is_to x) (effects_of_others c earlier []) ≡ false) same
+    (λ same. rw (← same)
     (not_passed h c word value earlier kept inner'))
     (λ other. before inner' (sym (other_write c c w word value earlier other) ∙ holding)))
 own_isnt_passed h c w Commit earlier kept before = λ inner holding.
-    ap (λ b. list_any (is_to w)
-    (cond b [] (effects_at earlier c Commit [] ++ effects_of_others c earlier
-    (entry c Commit ∷ [])))) (same_number c)
+    cc (same_number c)
 own_isnt_passed h c w BlockOpen earlier kept before = λ inner holding. never
     (own_inner c BlockOpen earlier) inner
 own_isnt_passed h c w BlockClose earlier kept before = λ inner holding. never
@@ -302,13 +290,9 @@ other_isnt_passed h c d w kind earlier wf kept other before = λ inner holding.
     let holding' : holds_word c w earlier ≡ true = sym (holds_other c d w kind earlier other)
     ∙ holding in
     let e : Entry = entry d kind in
-    ap (λ b. list_any (is_to w)
-    (cond b (cond (is_lone_commit kind) [] (effects_of_others c earlier (e ∷ [])))
-    (effects_at earlier d kind [] ++ effects_of_others c earlier (e ∷ [])))) other
-    ∙ none_of_both (is_to w) (effects_at earlier d kind []) (effects_of_others c earlier (e ∷ []))
-    (here_has_none h c d w kind earlier wf kept other holding')
-    (before_has_none h c w earlier e wf other holding'
-    (before (sym (other_inner c d kind earlier other) ∙ inner) holding'))
+    cc (none_of_both (is_to w) (effects_at earlier d kind []) (effects_of_others c earlier (e ∷ []))
+    (here_has_none h c d w kind earlier wf kept other holding') (before_has_none h c w earlier e
+    wf other holding' (before (sym (other_inner c d kind earlier other) ∙ inner) holding')))
 
 pub held_isnt_passed : (h : Header) (c w : ℕ) (earlier : List Entry) → WellFormed h earlier
     → HeldIsntPassed c w earlier
@@ -355,10 +339,8 @@ same_here earlier c (Return reply) none = refl
 same_here earlier c (Write word value) none = refl
 same_here earlier c Commit none = both_alike (has_block c earlier) []
 same_here earlier c BlockOpen none = refl
-same_here earlier c BlockClose none = end_alone (has_inner_commit c earlier)
-    (block_writes c earlier) none
-same_here earlier c BlockCommit none = end_alone (has_inner_commit c earlier)
-    (block_writes c earlier) none
+same_here earlier c BlockClose none = simp (end_alone)
+same_here earlier c BlockCommit none = simp (end_alone)
 
 -- an end of a block whose writes took effect at the commit in it
 none_here : (earlier : List Entry) (c : ℕ) (kind : Kind)

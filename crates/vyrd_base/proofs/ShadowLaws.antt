@@ -7,14 +7,13 @@ use Rattle.std.specs.Prelude.{◌==◌, is_some, is_none, unwrap_or}
 use Rattle.std.specs.Option.{option_or, option_flatten}
 use Rattle.std.specs.List.{list_any}
 use Rattle.std.proofs.lemmas.Bool.Decides.{nat_tests}
-use Rattle.std.proofs.lemmas.Bool.{not-false}
 use Rattle.vyrd_base.specs.declared.header.Header.{Header}
 use Rattle.vyrd_base.specs.declared.log.Kind.{Kind}
 use Rattle.vyrd_base.specs.declared.log.Kind.TheVariants.{Call, Return, Write, Commit, BlockOpen}
 use Rattle.vyrd_base.specs.declared.log.Kind.TheVariants.{BlockClose, BlockCommit}
 use Rattle.vyrd_base.specs.declared.log.Entry.{Entry}
 use Rattle.vyrd_base.specs.Places.{first_answer, numbers_from, newest_first_onto, newest_first}
-use Rattle.vyrd_base.specs.Callers.{by_caller, open_or_close, has_block, write_or_open, holds_word}
+use Rattle.vyrd_base.specs.Callers.{open_or_close, has_block, write_or_open, holds_word}
 use Rattle.vyrd_base.specs.Callers.{open_call, call_or_return}
 use Rattle.vyrd_base.specs.Shape.{Check, first_broken, checks_at, broken_rule, is_held_by_other}
 use Rattle.vyrd_base.specs.Front.{first_break, WellFormed}
@@ -104,13 +103,11 @@ open_kept h c earlier e = (all_kept (checks_at h earlier (entry c BlockOpen)) e)
 
 pub close_kept : (h : Header) (c : ℕ) (earlier : List Entry)
     → broken_rule h earlier (entry c BlockClose) ≡ None → has_block c earlier ≡ true
-close_kept h c earlier e = not-false (has_block c earlier)
-    (all_kept (checks_at h earlier (entry c BlockClose)) e).1.1.0
+close_kept h c earlier e = search (all_kept, arith)
 
 pub block_commit_kept : (h : Header) (c : ℕ) (earlier : List Entry)
     → broken_rule h earlier (entry c BlockCommit) ≡ None → has_block c earlier ≡ true
-block_commit_kept h c earlier e = not-false (has_block c earlier)
-    (all_kept (checks_at h earlier (entry c BlockCommit)) e).1.1.0
+block_commit_kept h c earlier e = search (all_kept, arith)
 
 -- the last value that was logged for the word, in a block or not
 abbrev pub logged_value : ℕ → Kind → Option ℕ
@@ -131,15 +128,11 @@ pub record Sound (h : Header) (w : ℕ) (earlier : List Entry) : Type 0 where
 -- another caller's entry leaves alone what this caller holds and has written
 pub holds_other : (d c w : ℕ) (kind : Kind) (earlier : List Entry) → (c == d) ≡ false
     → holds_word d w (entry c kind ∷ earlier) ≡ holds_word d w earlier
-holds_other d c w kind earlier other =
-    let block = other_answer d c open_or_close kind earlier other in
-    let word = other_answer d c (write_or_open w) kind earlier other in
-    λ i. unwrap_or (block i) false && unwrap_or (word i) false
+holds_other d c w kind earlier other = grind (arith, other_answer)
 
 value_other : (d c w : ℕ) (kind : Kind) (earlier : List Entry) → (c == d) ≡ false
     → block_value d w (entry c kind ∷ earlier) ≡ block_value d w earlier
-value_other d c w kind earlier other = ap (first_answer (given_to w))
-    (other_writes d c kind earlier other)
+value_other d c w kind earlier other = cc (other_writes d c kind earlier other)
 
 -- an entry that touches no block and no word
 record Quiet (w c : ℕ) (kind : Kind) (earlier : List Entry) : Type 0 where
@@ -172,8 +165,7 @@ quiet_sound h w c kind earlier quiet sound = record {
         (value_other d c w kind earlier)
 
     last : last_logged w (entry c kind ∷ earlier) ≡ last_logged w earlier
-    last = ap (λ o. unwrap_or (option_or o (first_answer (λ e. logged_value w e.kind) earlier)) 0)
-        quiet.logged
+    last = cc (quiet.logged)
 
 outside_holds : (a b : Bool) → a ≡ false → (a && b) ≡ false
 outside_holds true b e = cc
@@ -184,17 +176,7 @@ pub own_edge : (c w : ℕ) (kind : Kind) (earlier : List Entry) (opens : Bool) �
     ≡ Some opens
     → (opens ≡ true → write_or_open w kind ≡ Some false) → holds_word c w (entry c kind ∷ earlier)
     ≡ false
-own_edge c w kind earlier true edge word =
-    ap (λ o. unwrap_or o false && wrote c w (entry c kind ∷ earlier))
-    (own_answer c open_or_close kind earlier
-    ∙ ap (λ o. option_or o (first_answer (by_caller c open_or_close) earlier)) edge)
-    ∙ own_wrote c w kind earlier
-    ∙ ap (λ o. unwrap_or (option_or o (first_answer (by_caller c (write_or_open w)) earlier)) false)
-    (word refl)
-own_edge c w kind earlier false edge word =
-    ap (λ o. unwrap_or o false && wrote c w (entry c kind ∷ earlier))
-    (own_answer c open_or_close kind earlier
-    ∙ ap (λ o. option_or o (first_answer (by_caller c open_or_close) earlier)) edge)
+own_edge c w kind earlier opens edge word = grind (arith, own_answer, own_wrote)
 
 never : {b : Bool} → b ≡ false → b ≡ true → ⊥
 never e f = cc
@@ -237,15 +219,12 @@ close_sound h w c kind earlier low_c inside closes sound = record {
     no_more = own_edge c w kind earlier false closes.edge (λ e. cc)
 
     last : last_logged w (entry c kind ∷ earlier) ≡ last_logged w earlier
-    last = ap (λ o. unwrap_or (option_or o (first_answer (λ e. logged_value w e.kind) earlier)) 0)
-        closes.logged
+    last = cc (closes.logged)
 
     new_value : old_value_after (old_effects (entry c kind ∷ earlier)) w
         ≡ unwrap_or (option_or (block_value c w earlier)
         (first_answer (given_to w) (old_effects earlier))) 0
-    new_value = ap (λ ws. old_value_after (ws ++ old_effects earlier) w) closes.effect
-        ∙ ap (λ o. unwrap_or o 0)
-        (first_answer-append (given_to w) (block_writes c earlier) (old_effects earlier))
+    new_value = search (first_answer-append, arith)
 
     -- as the block is open, a word is held where the block has a value for it
     is_held : holds_word c w earlier ≡ is_some (block_value c w earlier)
@@ -255,9 +234,7 @@ close_sound h w c kind earlier low_c inside closes sound = record {
         → (b : Bool) → holds_word c w earlier ≡ b
         → unwrap_or (option_or (block_value c w earlier)
         (first_answer (given_to w) (old_effects earlier))) 0 ≡ last_logged w earlier
-    by_held none true holding =
-        ap (λ o. unwrap_or (option_or o (first_answer (given_to w) (old_effects earlier))) 0)
-        (sound.held c low_c holding)
+    by_held none true holding = cc (sound.held c low_c holding)
     by_held none false free_c =
         ap (λ o. unwrap_or (option_or o (first_answer (given_to w) (old_effects earlier))) 0)
         (isnt_some (block_value c w earlier) (sym is_held ∙ free_c))
@@ -268,26 +245,15 @@ close_sound h w c kind earlier low_c inside closes sound = record {
 -- what a write of another word leaves alone
 pub other_write : (d c w word value : ℕ) (earlier : List Entry) → (word == w) ≡ false
     → holds_word d w (entry c (Write word value) ∷ earlier) ≡ holds_word d w earlier
-other_write d c w word value earlier other =
-    let block = no_answer d c open_or_close (Write word value) earlier refl in
-    let wrote_it = no_answer d c (write_or_open w) (Write word value) earlier
-    (ap (λ b. cond b (Some true) None) other) in
-    λ i. unwrap_or (block i) false && unwrap_or (wrote_it i) false
+other_write d c w word value earlier other = grind (arith, no_answer)
 
 other_value : (d c w word value : ℕ) (earlier : List Entry) → (word == w) ≡ false
     → block_value d w (entry c (Write word value) ∷ earlier) ≡ block_value d w earlier
-other_value d c w word value earlier other = by_same c d
-    (λ same. subst (λ x. block_value x w (entry c (Write word value) ∷ earlier)
-    ≡ block_value x w earlier) same
-    (own_value c w (Write word value) earlier
-    ∙ ap (λ b. option_or (cond b (Some value) None) (block_value c w earlier)) other))
-    (value_other d c w (Write word value) earlier)
+other_value d c w word value earlier other = grind (arith, by_same, own_value, value_other)
 
 skipped : (w word value : ℕ) (writes : List (ℕ × ℕ)) → (word == w) ≡ false
     → old_value_after ((word, value) ∷ writes) w ≡ old_value_after writes w
-skipped w word value writes other =
-    ap (λ b. unwrap_or (option_or (cond b (Some value) None) (first_answer (given_to w) writes)) 0)
-    other
+skipped w word value writes other = grind arith
 
 -- a write of another word
 write_other_sound : (h : Header) (w c word value : ℕ) (earlier : List Entry) → (word == w) ≡ false
@@ -303,9 +269,7 @@ write_other_sound h w c word value earlier other sound = record {
 }
   where
     last : last_logged w (entry c (Write word value) ∷ earlier) ≡ last_logged w earlier
-    last = ap (λ b. unwrap_or
-        (option_or (cond b (Some value) None) (first_answer (λ e. logged_value w e.kind) earlier))
-        0) other
+    last = cc
 
     effect : (b : Bool) → old_value_after (cond b [] ((word, value) ∷ []) ++ old_effects earlier) w
         ≡ old_value_after (old_effects earlier) w
@@ -318,24 +282,17 @@ write_own_sound : (h : Header) (w c value : ℕ) (earlier : List Entry) → Writ
 write_own_sound h w c value earlier kept = by_block (has_block c earlier) refl
   where
     last : last_logged w (entry c (Write w value) ∷ earlier) ≡ value
-    last = ap (λ b. unwrap_or
-        (option_or (cond b (Some value) None) (first_answer (λ e. logged_value w e.kind) earlier))
-        0) (same_number w)
+    last = cc (same_number w)
 
     not_held : (d : ℕ) → d < h.callers → (c == d) ≡ false
         → holds_word d w (entry c (Write w value) ∷ earlier) ≡ false
-    not_held d low other = holds_other d c w (Write w value) earlier other
-        ∙ kept.free d low (flipped c d other)
+    not_held d low other = search (holds_other, flipped, arith)
 
     own_block_is : has_block c (entry c (Write w value) ∷ earlier) ≡ has_block c earlier
-    own_block_is = ap (λ o. unwrap_or o false)
-        (no_answer c c open_or_close (Write w value) earlier refl)
+    own_block_is = cc (no_answer c c open_or_close (Write w value) earlier refl)
 
     own_wrote_is : wrote c w (entry c (Write w value) ∷ earlier) ≡ true
-    own_wrote_is = own_wrote c w (Write w value) earlier
-        ∙ ap (λ b. unwrap_or
-        (option_or (cond b (Some true) None) (first_answer (by_caller c (write_or_open w)) earlier))
-        false) (same_number w)
+    own_wrote_is = cc (own_wrote c w (Write w value) earlier, same_number w)
 
     by_block : (b : Bool) → has_block c earlier ≡ b → Sound h w (entry c (Write w value) ∷ earlier)
     by_block true inside = record {
@@ -371,30 +328,16 @@ caller_kept h earlier e kept = above_of h.callers e.caller (all_kept (checks_at 
 step_sound : (h : Header) (w c : ℕ) (kind : Kind) (earlier : List Entry)
     → broken_rule h earlier (entry c kind) ≡ None
     → Sound h w earlier → Sound h w (entry c kind ∷ earlier)
-step_sound h w c (Call method args) earlier kept sound =
-    quiet_sound h w c (Call method args) earlier
-    (record { edge = refl; word = refl; writes = refl; effect = refl; logged = refl }) sound
-step_sound h w c (Return reply) earlier kept sound =
-    quiet_sound h w c (Return reply) earlier
-    (record { edge = refl; word = refl; writes = refl; effect = refl; logged = refl }) sound
-step_sound h w c Commit earlier kept sound =
-    quiet_sound h w c Commit earlier
-    (record { edge = refl; word = refl; writes = refl; effect = refl; logged = refl }) sound
-step_sound h w c BlockOpen earlier kept sound = open_sound h w c earlier
-    (open_kept h c earlier kept) sound
+step_sound h w c (Call method args) earlier kept sound = search (quiet_sound, arith)
+step_sound h w c (Return reply) earlier kept sound = search (quiet_sound, arith)
+step_sound h w c Commit earlier kept sound = search (quiet_sound, arith)
+step_sound h w c BlockOpen earlier kept sound = search (open_sound, open_kept, kept, arith)
 step_sound h w c BlockClose earlier kept sound =
-    close_sound h w c BlockClose earlier (caller_kept h earlier (entry c BlockClose) kept)
-    (close_kept h c earlier kept)
-    (record { edge = refl; effect = refl; logged = refl }) sound
+    search (close_sound, caller_kept, kept, close_kept, arith)
 step_sound h w c BlockCommit earlier kept sound =
-    close_sound h w c BlockCommit earlier (caller_kept h earlier (entry c BlockCommit) kept)
-    (block_commit_kept h c earlier kept)
-    (record { edge = refl; effect = refl; logged = refl }) sound
-step_sound h w c (Write word value) earlier kept sound = by_same word w
-    (λ same. subst (λ x. Sound h w (entry c (Write x value) ∷ earlier)) (sym same)
-    (write_own_sound h w c value earlier
-    (subst (λ x. WriteKept h c x earlier) same (write_kept h c word value earlier kept))))
-    (λ other. write_other_sound h w c word value earlier other sound)
+    search (close_sound, caller_kept, kept, block_commit_kept, arith)
+step_sound h w c (Write word value) earlier kept sound =
+    search (by_same, write_own_sound, write_kept, kept, write_other_sound, arith)
 
 -- in a well-formed log each word is so
 pub well_formed_sound : (h : Header) (w : ℕ) (earlier : List Entry) → WellFormed h earlier
@@ -415,31 +358,18 @@ is_some_of (Some a) e = refl
 own_in_call : (h : Header) (c : ℕ) (kind : Kind) (earlier : List Entry)
     → broken_rule h earlier (entry c kind) ≡ None
     → BlockInCall c earlier → BlockInCall c (entry c kind ∷ earlier)
-own_in_call h c (Call method args) earlier kept so =
-    λ inside. ap (λ o. is_some (option_flatten o))
-    (own_answer c call_or_return (Call method args) earlier)
-own_in_call h c (Return reply) earlier kept so = λ inside.
-    absurd (never (all_kept (checks_at h earlier (entry c (Return reply))) kept).1.1.0
-    (sym (ap (λ o. unwrap_or o false) (no_answer c c open_or_close (Return reply) earlier refl))
-    ∙ inside))
-own_in_call h c (Write word value) earlier kept so = λ inside. ap is_some
-    (open_call-quiet c c (Write word value) earlier refl)
-    ∙ is_some_of (open_call c earlier)
-    (all_kept (checks_at h earlier (entry c (Write word value))) kept).1.0
-own_in_call h c Commit earlier kept so = λ inside. ap is_some
-    (open_call-quiet c c Commit earlier refl)
-    ∙ is_some_of (open_call c earlier) (all_kept (checks_at h earlier (entry c Commit)) kept).1.0
-own_in_call h c BlockOpen earlier kept so = λ inside. ap is_some
-    (open_call-quiet c c BlockOpen earlier refl)
-    ∙ is_some_of (open_call c earlier) (all_kept (checks_at h earlier (entry c BlockOpen)) kept).1.0
-own_in_call h c BlockClose earlier kept so = λ inside. ap is_some
-    (open_call-quiet c c BlockClose earlier refl)
-    ∙ is_some_of (open_call c earlier)
-    (all_kept (checks_at h earlier (entry c BlockClose)) kept).1.0
-own_in_call h c BlockCommit earlier kept so = λ inside. ap is_some
-    (open_call-quiet c c BlockCommit earlier refl)
-    ∙ is_some_of (open_call c earlier)
-    (all_kept (checks_at h earlier (entry c BlockCommit)) kept).1.0
+own_in_call h c (Call method args) earlier kept so = search (is_some, own_answer, arith)
+own_in_call h c (Return reply) earlier kept so = search (never, all_kept, kept, no_answer, arith)
+own_in_call h c (Write word value) earlier kept so =
+    search (is_some, open_call-quiet, is_some_of, all_kept, kept, arith)
+own_in_call h c Commit earlier kept so =
+    search (is_some, open_call-quiet, is_some_of, all_kept, kept, arith)
+own_in_call h c BlockOpen earlier kept so =
+    search (is_some, open_call-quiet, is_some_of, all_kept, kept, arith)
+own_in_call h c BlockClose earlier kept so =
+    search (is_some, open_call-quiet, is_some_of, all_kept, kept, arith)
+own_in_call h c BlockCommit earlier kept so =
+    search (is_some, open_call-quiet, is_some_of, all_kept, kept, arith)
 
 pub block_in_call : (h : Header) (c : ℕ) (earlier : List Entry) → WellFormed h earlier
     → BlockInCall c earlier
@@ -454,8 +384,7 @@ block_in_call h c (e ∷ earlier) wf = step (block_in_call h c earlier wf.1)
         (λ other. λ inside.
         ap (λ o. is_some (option_flatten o))
         (other_answer c e.caller call_or_return e.kind earlier other)
-        ∙ so (sym (ap (λ o. unwrap_or o false)
-        (other_answer c e.caller open_or_close e.kind earlier other)) ∙ inside))
+        ∙ so (sym (cc (other_answer c e.caller open_or_close e.kind earlier other)) ∙ inside))
 
 -- with no call open, each word has the value logged last
 pub words_at_rest : (h : Header) (w : ℕ) (earlier : List Entry) → WellFormed h earlier

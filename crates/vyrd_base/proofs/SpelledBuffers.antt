@@ -12,26 +12,14 @@ use Rattle.vyrd_base.proofs.SplitLaws.{is_plain_field}
 use Rattle.vyrd_base.proofs.Spelled.{IsSpelled}
 
 plain : (m : BuffersMethod) → is_plain_field (buffers.called m) ≡ true
-plain Append = refl
-plain AppendFrom = refl
-plain Cut = refl
-plain Length = refl
-plain Read = refl
+plain m = grind arith
 
 short : (m : BuffersMethod) → length (buffers.called m) ≤ longest_method
-short Append = omega arith
-short AppendFrom = omega arith
-short Cut = omega arith
-short Length = omega arith
-short Read = omega arith
+short m = grind arith
 
 found : (m : BuffersMethod) → find (λ x. bytes_eq (buffers.called x) (buffers.called m))
     buffers.methods ≡ Some m
-found Append = refl
-found AppendFrom = refl
-found Cut = refl
-found Length = refl
-found Read = refl
+found m = grind arith
 
 abbrev place : BuffersMethod → ℕ
 place Append = 0
@@ -41,33 +29,17 @@ place Length = 3
 place Read = 4
 
 listed : (m : BuffersMethod) → slice_get buffers.methods (place m) ≡ Some m
-listed Append = refl
-listed AppendFrom = refl
-listed Cut = refl
-listed Length = refl
-listed Read = refl
+listed m = grind arith
 
 some_arguments : (m : BuffersMethod) → 1 ≤ buffers.arity m
-some_arguments Append = omega arith
-some_arguments AppendFrom = omega arith
-some_arguments Cut = omega arith
-some_arguments Length = omega arith
-some_arguments Read = omega arith
+some_arguments m = grind arith
 
 few_arguments : (m : BuffersMethod) → buffers.arity m ≤ 3
-few_arguments Append = omega arith
-few_arguments AppendFrom = omega arith
-few_arguments Cut = omega arith
-few_arguments Length = omega arith
-few_arguments Read = omega arith
+few_arguments m = grind arith
 
 once_or_never : (m : BuffersMethod) → always_commits (buffers.commits m)
     ≡ not (never_commits (buffers.commits m))
-once_or_never Append = refl
-once_or_never AppendFrom = refl
-once_or_never Cut = refl
-once_or_never Length = refl
-once_or_never Read = refl
+once_or_never m = grind arith
 
 pub buffers_is : IsSpelled buffers
 buffers_is = record {

@@ -11,23 +11,14 @@ use Rattle.vyrd_base.proofs.SplitLaws.{is_plain_field}
 use Rattle.vyrd_base.proofs.Spelled.{IsSpelled}
 
 plain : (m : CacheMethod) → is_plain_field (cache.called m) ≡ true
-plain Write = refl
-plain Flush = refl
-plain Evict = refl
-plain Read = refl
+plain m = grind arith
 
 short : (m : CacheMethod) → length (cache.called m) ≤ longest_method
-short Write = omega arith
-short Flush = omega arith
-short Evict = omega arith
-short Read = omega arith
+short m = grind arith
 
 found : (m : CacheMethod) → find (λ x. bytes_eq (cache.called x) (cache.called m)) cache.methods
     ≡ Some m
-found Write = refl
-found Flush = refl
-found Evict = refl
-found Read = refl
+found m = grind arith
 
 abbrev place : CacheMethod → ℕ
 place Write = 0
@@ -36,29 +27,17 @@ place Evict = 2
 place Read = 3
 
 listed : (m : CacheMethod) → slice_get cache.methods (place m) ≡ Some m
-listed Write = refl
-listed Flush = refl
-listed Evict = refl
-listed Read = refl
+listed m = grind arith
 
 some_arguments : (m : CacheMethod) → 1 ≤ cache.arity m
-some_arguments Write = omega arith
-some_arguments Flush = omega arith
-some_arguments Evict = omega arith
-some_arguments Read = omega arith
+some_arguments m = grind arith
 
 few_arguments : (m : CacheMethod) → cache.arity m ≤ 3
-few_arguments Write = omega arith
-few_arguments Flush = omega arith
-few_arguments Evict = omega arith
-few_arguments Read = omega arith
+few_arguments m = grind arith
 
 once_or_never : (m : CacheMethod) → always_commits (cache.commits m)
     ≡ not (never_commits (cache.commits m))
-once_or_never Write = refl
-once_or_never Flush = refl
-once_or_never Evict = refl
-once_or_never Read = refl
+once_or_never m = grind arith
 
 pub cache_is : IsSpelled cache
 cache_is = record {

@@ -12,23 +12,14 @@ use Rattle.vyrd_base.proofs.SplitLaws.{is_plain_field}
 use Rattle.vyrd_base.proofs.Spelled.{IsSpelled}
 
 plain : (m : MultisetMethod) → is_plain_field (multiset.called m) ≡ true
-plain Insert = refl
-plain InsertPair = refl
-plain Delete = refl
-plain Lookup = refl
+plain m = grind arith
 
 short : (m : MultisetMethod) → length (multiset.called m) ≤ longest_method
-short Insert = omega arith
-short InsertPair = omega arith
-short Delete = omega arith
-short Lookup = omega arith
+short m = grind arith
 
 found : (m : MultisetMethod) → find (λ x. bytes_eq (multiset.called x) (multiset.called m))
     multiset.methods ≡ Some m
-found Insert = refl
-found InsertPair = refl
-found Delete = refl
-found Lookup = refl
+found m = grind arith
 
 abbrev place : MultisetMethod → ℕ
 place Insert = 0
@@ -37,29 +28,17 @@ place Delete = 2
 place Lookup = 3
 
 listed : (m : MultisetMethod) → slice_get multiset.methods (place m) ≡ Some m
-listed Insert = refl
-listed InsertPair = refl
-listed Delete = refl
-listed Lookup = refl
+listed m = grind arith
 
 some_arguments : (m : MultisetMethod) → 1 ≤ multiset.arity m
-some_arguments Insert = omega arith
-some_arguments InsertPair = omega arith
-some_arguments Delete = omega arith
-some_arguments Lookup = omega arith
+some_arguments m = grind arith
 
 few_arguments : (m : MultisetMethod) → multiset.arity m ≤ 3
-few_arguments Insert = omega arith
-few_arguments InsertPair = omega arith
-few_arguments Delete = omega arith
-few_arguments Lookup = omega arith
+few_arguments m = grind arith
 
 once_or_never : (m : MultisetMethod) → always_commits (multiset.commits m)
     ≡ not (never_commits (multiset.commits m))
-once_or_never Insert = refl
-once_or_never InsertPair = refl
-once_or_never Delete = refl
-once_or_never Lookup = refl
+once_or_never m = grind arith
 
 pub multiset_is : IsSpelled multiset
 multiset_is = record {

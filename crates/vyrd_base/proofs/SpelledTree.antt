@@ -11,20 +11,14 @@ use Rattle.vyrd_base.proofs.SplitLaws.{is_plain_field}
 use Rattle.vyrd_base.proofs.Spelled.{IsSpelled}
 
 plain : (m : TreeMethod) → is_plain_field (tree.called m) ≡ true
-plain Insert = refl
-plain Delete = refl
-plain Lookup = refl
+plain m = grind arith
 
 short : (m : TreeMethod) → length (tree.called m) ≤ longest_method
-short Insert = omega arith
-short Delete = omega arith
-short Lookup = omega arith
+short m = grind arith
 
 found : (m : TreeMethod) → find (λ x. bytes_eq (tree.called x) (tree.called m)) tree.methods
     ≡ Some m
-found Insert = refl
-found Delete = refl
-found Lookup = refl
+found m = grind arith
 
 abbrev place : TreeMethod → ℕ
 place Insert = 0
@@ -32,25 +26,17 @@ place Delete = 1
 place Lookup = 2
 
 listed : (m : TreeMethod) → slice_get tree.methods (place m) ≡ Some m
-listed Insert = refl
-listed Delete = refl
-listed Lookup = refl
+listed m = grind arith
 
 some_arguments : (m : TreeMethod) → 1 ≤ tree.arity m
-some_arguments Insert = omega arith
-some_arguments Delete = omega arith
-some_arguments Lookup = omega arith
+some_arguments m = grind arith
 
 few_arguments : (m : TreeMethod) → tree.arity m ≤ 3
-few_arguments Insert = omega arith
-few_arguments Delete = omega arith
-few_arguments Lookup = omega arith
+few_arguments m = grind arith
 
 once_or_never : (m : TreeMethod) → always_commits (tree.commits m)
     ≡ not (never_commits (tree.commits m))
-once_or_never Insert = refl
-once_or_never Delete = refl
-once_or_never Lookup = refl
+once_or_never m = grind arith
 
 pub tree_is : IsSpelled tree
 tree_is = record {

@@ -1,11 +1,10 @@
 -- Words for which a state stands where all locks are 0, and that zeroed words are the start.
-use Rattle.std.proofs.Common.{◌≡◌, ℕ, cond, zero, suc, ◌+◌, ◌*◌, ◌/◌, ◌%◌, ◌≤◌, min, Bool, true}
+use Rattle.std.proofs.Common.{◌≡◌, ℕ, zero, suc, ◌+◌, ◌*◌, ◌≤◌, Bool, true}
 use Rattle.std.proofs.Common.{false, not, ◌&&◌, ◌||◌, List, [], ◌∷◌, ◌++◌, length, map, Some, refl}
 use Rattle.std.proofs.Common.{ap, ◌∙◌, sym, arith, length-append}
-use Rattle.std.specs.Prelude.{◌==◌, nat_lt, nat_le, drop, flat_map, find, count_by, is_none}
+use Rattle.std.specs.Prelude.{◌==◌, nat_lt, nat_le, drop, flat_map, find, is_none}
 use Rattle.std.specs.Prelude.{replicate, slice_index}
 use Rattle.std.specs.Bool.{then_some}
-use Rattle.std.specs.Option.{option_map_or}
 use Rattle.std.specs.List.{list_all, list_any}
 use Rattle.std.proofs.Math.Seq.{drop-append_seam}
 use Rattle.std.proofs.lemmas.List.{replicate-append-replicate, length-replicate}
@@ -13,7 +12,7 @@ use Rattle.vyrd_base.specs.declared.header.Header.{Header}
 use Rattle.vyrd_base.specs.declared.subject.Subject.{Subject}
 use Rattle.vyrd_base.specs.declared.subject.Subject.TheVariants.{Multiset, Cache, Tree, Buffers}
 use Rattle.vyrd_base.specs.declared.subject.Subject.TheVariants.{Own}
-use Rattle.vyrd_base.specs.Places.{numbers_from, numbers_below}
+use Rattle.vyrd_base.specs.Places.{numbers_from}
 use Rattle.vyrd_base.specs.Layout.{plain_words, lock_words}
 use Rattle.vyrd_base.specs.Amounts.{plus_amount, collected}
 use Rattle.vyrd_base.specs.Tree.{entries_of, entry_parts, node_parts, right_of, damage}
@@ -45,22 +44,14 @@ padded (word ∷ words) k (suc i) = padded words k i
 
 -- Each definition reads words one by one, so it tells the same of both lists.
 chunk_same : (v w : List ℕ) → SameWords v w → (h : ℕ) → chunk_at v h ≡ chunk_at w h
-chunk_same v w same h = λ i. record {
-  state = same (5 * h) i;
-  cached_lo = same (5 * h + 1) i;
-  cached_hi = same (5 * h + 2) i;
-  stored_lo = same (5 * h + 3) i;
-  stored_hi = same (5 * h + 4) i;
-}
+chunk_same v w same h = grind arith
 
 buffer_same : (v w : List ℕ) → SameWords v w → (b : ℕ) → buffer_at v b ≡ buffer_at w b
 buffer_same v w same b =
     λ i. record { count = same (8 * b) i; character = λ k. same (8 * b + (1 + k)) i }
 
 entries_same : (v w : List ℕ) → SameWords v w → (n : ℕ) → entries_of v n ≡ entries_of w n
-entries_same v w same n = λ i.
-    map (λ j. (same (12 * n + (4 + j)) i, same (12 * n + (8 + j)) i))
-    (numbers_below (min (same (12 * n + 1) i) 4))
+entries_same v w same n = grind arith
 
 keys_same : (v w : List ℕ) → SameWords v w → (n : ℕ) → keys_at v n ≡ keys_at w n
 keys_same v w same n = ap (map (λ entry. entry.0)) (entries_same v w same n)
@@ -69,30 +60,19 @@ left_same : (v w : List ℕ) → SameWords v w → (last n : ℕ) → left_of la
 left_same v w same last n = λ i. find (λ m. same (12 * m + 3) i == n && not (n == 0)) (nodes last)
 
 low_same : (v w : List ℕ) → SameWords v w → (last n : ℕ) → low_of last v n ≡ low_of last w n
-low_same v w same last n = λ i. option_map_or (λ m. same (12 * m + 2) i)
-    (left_same v w same last n i) 0
+low_same v w same last n = search (left_same, arith)
 
 linked_same : (v w : List ℕ) → SameWords v w → (last n : ℕ) → is_linked last v n
     ≡ is_linked last w n
-linked_same v w same last n = λ i.
-    nat_le (count_by (λ m. same (12 * m + 3) i == n && not (n == 0)) (nodes last)) 1
-    && (same (12 * n + 3) i == 0
-    || nat_le (same (12 * n + 3) i) last && same (12 * same (12 * n + 3) i + 0) i == same
-    (12 * n + 0) i)
+linked_same v w same last n = search arith
 
 bounded_same : (v w : List ℕ) → SameWords v w → (last n : ℕ) → is_bounded last v n
     ≡ is_bounded last w n
-bounded_same v w same last n = λ i.
-    (same (12 * n + 2) i == 0 && same (12 * n + 3) i == 0)
-    || (not (same (12 * n + 3) i == 0) && nat_lt (low_same v w same last n i) (same (12 * n + 2) i))
+bounded_same v w same last n = grind (arith, low_same)
 
 sound_keys_same : (v w : List ℕ) → SameWords v w → (last n : ℕ) → has_sound_keys last v n
     ≡ has_sound_keys last w n
-sound_keys_same v w same last n = λ i.
-    nat_le (same (12 * n + 1) i) 4 && rises (keys_same v w same n i)
-    && list_all (λ key. nat_le (low_same v w same last n i) key
-    && (same (12 * n + 2) i == 0 || nat_lt key (same (12 * n + 2) i)))
-    (keys_same v w same n i)
+sound_keys_same v w same last n = grind (arith, rises, keys_same, low_same)
 
 sound_entries_same : (v w : List ℕ) → SameWords v w → (last n : ℕ) → has_sound_entries last v n
     ≡ has_sound_entries last w n
@@ -106,9 +86,7 @@ sound_entries_same v w same last n = λ i.
 
 only_first_same : (v w : List ℕ) → SameWords v w → (last n : ℕ) → is_only_first last v n
     ≡ is_only_first last w n
-only_first_same v w same last n = λ i.
-    count_by (λ m. same (12 * m + 0) i == same (12 * n + 0) i
-    && is_none (left_same v w same last m i)) (nodes last) == 1
+only_first_same v w same last n = grind (arith, is_none, left_same)
 
 sound_node_same : (v w : List ℕ) → SameWords v w → (last n : ℕ) → is_sound_node last v n
     ≡ is_sound_node last w n
@@ -129,15 +107,7 @@ tree_same v w same size = λ i.
 -- words that have the same word in each place are sound together
 pub sound_same : (v w : List ℕ) → SameWords v w → (subject : Subject) (size : ℕ)
     → is_sound subject size v ≡ is_sound subject size w
-sound_same v w same Multiset size = λ i.
-    list_all (λ slot. not (same (2 * slot) i == 2) || same (2 * slot + 1) i % size == slot / 4)
-    (numbers_below (4 * size))
-sound_same v w same Cache size = λ i. list_all (λ h. is_sound_chunk (chunk_same v w same h i))
-    (numbers_below size)
-sound_same v w same Tree size = tree_same v w same size
-sound_same v w same Own size = refl
-sound_same v w same Buffers size = λ i. list_all (λ b. is_buffer (buffer_same v w same b i))
-    (numbers_below size)
+sound_same v w same subject size = grind (arith, chunk_same, tree_same, buffer_same)
 
 -- They show the same too.
 node_parts_same : (v w : List ℕ) → SameWords v w → (n : ℕ) → node_parts v n ≡ node_parts w n
@@ -162,15 +132,7 @@ chain_same v w same size (suc left) seen n =
 
 pub parts_same : (v w : List ℕ) → SameWords v w → (subject : Subject) (size : ℕ)
     → parts_of subject size v ≡ parts_of subject size w
-parts_same v w same Multiset size = λ i.
-    flat_map (λ slot. cond (same (2 * slot) i == 2) ((same (2 * slot + 1) i, 1) ∷ []) [])
-    (numbers_below (4 * size))
-parts_same v w same Cache size = λ i. flat_map (λ h. chunk_parts size h (chunk_same v w same h i))
-    (numbers_below size)
-parts_same v w same Tree size = chain_same v w same size size [] 0
-parts_same v w same Own size = refl
-parts_same v w same Buffers size = λ i. flat_map
-    (λ b. buffer_parts size b (buffer_same v w same b i)) (numbers_below size)
+parts_same v w same subject size = grind (arith, chunk_same, chain_same, buffer_same)
 
 pub view_same : (h : Header) (v w : List ℕ) → SameWords v w → view_of_words h v ≡ view_of_words h w
 unfolding view_of_words
@@ -181,10 +143,7 @@ free zero = refl
 free (suc k) = free k
 
 all_of : (a b c : Bool) → a ≡ true → c ≡ true → (a && (b && c)) ≡ b
-all_of true true true e f = refl
-all_of true false true e f = refl
-all_of false b c e f = cc
-all_of true b false e f = cc
+all_of a b c e f = grind arith
 
 -- If all locks are 0, the state is told by the plain words alone.
 pub with_free_locks : (h : Header) (words : List ℕ) → length words ≡ plain_words h
@@ -232,8 +191,7 @@ no_words_sound Cache size some = free_chunks 0 size
 no_words_sound Buffers size some = free_buffers 0 size
 no_words_sound Own size some = refl
 no_words_sound Tree zero some = absurd (omega (arith, some refl))
-no_words_sound Tree (suc size) some = ap (λ b. b && true && true && true && true)
-    (is_below 0 (suc size) (omega arith))
+no_words_sound Tree (suc size) some = cc (is_below 0 (suc size) (omega arith))
 
 no_slots : (k n : ℕ) → flat_map (slot_parts []) (numbers_from k n) ≡ []
 no_slots k zero = refl

@@ -1,10 +1,9 @@
 -- How what a caller is in the middle of, and the states along the commits, go on with one more
 -- entry.
 use Rattle.std.proofs.Common.{◌≡◌, ℕ, ◌+◌, ◌≤◌, Bool, true, false, cond, ◌&&◌, List, [], ◌∷◌, ◌++◌}
-use Rattle.std.proofs.Common.{length, take, drop, Option, Some, None, slice_get, refl, ap, ◌∙◌, sym}
+use Rattle.std.proofs.Common.{length, take, drop, Option, Some, None, slice_get, ap, ◌∙◌, sym}
 use Rattle.std.proofs.Common.{arith, length-drop}
 use Rattle.std.specs.Prelude.{◌==◌}
-use Rattle.std.specs.Option.{option_flatten}
 use Rattle.std.proofs.lemmas.List.{drop-take, drop-append-le, length-take, drop-drop}
 use Rattle.std.proofs.lemmas.Option.{slice_get_within}
 use Rattle.vyrd_base.specs.declared.log.Kind.{Kind}
@@ -17,15 +16,12 @@ use Rattle.vyrd_base.specs.Faults.{states_since_call}
 use Rattle.vyrd_base.proofs.BlockLaws.{entry, other_answer, no_answer}
 use Rattle.vyrd_base.proofs.Lasting.{commit_count-cons, states_begin}
 use Rattle.vyrd_base.proofs.ListLaws.{slice_get-drop, take_one_more}
-use Rattle.std.specs.Bool.{then_some}
-use Rattle.std.specs.List.{cons_option}
 use Rattle.vyrd_base.specs.Rules.{Rules}
 
 -- another caller's entry
 pub open_call-other : (c d : ℕ) (kind : Kind) (earlier : List Entry) → (d == c) ≡ false
     → open_call c (entry d kind ∷ earlier) ≡ open_call c earlier
-open_call-other c d kind earlier other = ap option_flatten
-    (other_answer c d call_or_return kind earlier other)
+open_call-other c d kind earlier other = cc (other_answer c d call_or_return kind earlier other)
 
 pub next_reply-other : (c d : ℕ) (kind : Kind) (later : List Entry) → (d == c) ≡ false
     → next_reply c (entry d kind ∷ later) ≡ next_reply c later
@@ -33,8 +29,7 @@ next_reply-other c d kind later other = other_answer c d returned kind later oth
 
 pub before_call-other : (c d : ℕ) (kind : Kind) (earlier : List Entry) → (d == c) ≡ false
     → entries_before_call c (entry d kind ∷ earlier) ≡ entries_before_call c earlier
-before_call-other c d kind earlier other =
-    ap (λ b. cond (b && is_call kind) earlier (entries_before_call c earlier)) other
+before_call-other c d kind earlier other = cc
 
 -- an entry that neither begins nor ends an execution
 pub next_reply-quiet : (c d : ℕ) (kind : Kind) (later : List Entry) → returned kind ≡ None
@@ -43,10 +38,7 @@ next_reply-quiet c d kind later quiet = no_answer c d returned kind later quiet
 
 pub before_call-quiet : (c d : ℕ) (kind : Kind) (earlier : List Entry) → is_call kind ≡ false
     → entries_before_call c (entry d kind ∷ earlier) ≡ entries_before_call c earlier
-before_call-quiet c d kind earlier quiet =
-    ap (λ b. cond ((d == c) && b) earlier (entries_before_call c earlier)) quiet
-    ∙ elim (d == c) as (λ b. cond (b && false) earlier (entries_before_call c earlier)
-    ≡ entries_before_call c earlier) [ true ↦ refl | false ↦ refl ]
+before_call-quiet c d kind earlier quiet = grind (arith, quiet)
 
 -- the entries before a call have no more commits
 pub commits_before_call : (c : ℕ) (earlier : List Entry)
@@ -64,23 +56,18 @@ commits_before_call c (e ∷ earlier) = by_call (commits_before_call c earlier)
 -- how many commits there are after an entry
 pub count-quiet : (e : Entry) (earlier : List Entry) → is_commit e.kind ≡ false
     → commit_count (e ∷ earlier) ≡ commit_count earlier
-count-quiet e earlier quiet = commit_count-cons e earlier
-    ∙ ap (λ b. cond b 1 0 + commit_count earlier) quiet ∙ omega arith
+count-quiet e earlier quiet = cc (commit_count-cons e earlier)
 
 pub count-commit : (e : Entry) (earlier : List Entry) → is_commit e.kind ≡ true
     → commit_count (e ∷ earlier) ≡ commit_count earlier + 1
-count-commit e earlier commits = commit_count-cons e earlier
-    ∙ ap (λ b. cond b 1 0 + commit_count earlier) commits ∙ omega arith
+count-commit e earlier commits = grind (arith, commit_count-cons e earlier)
 
 -- the window of states since a call stays where no commit comes
 pub window-quiet : (states : List State) (c : ℕ) (e : Entry) (earlier : List Entry)
     → is_commit e.kind ≡ false
     → entries_before_call c (e ∷ earlier) ≡ entries_before_call c earlier
     → states_since_call states c (e ∷ earlier) ≡ states_since_call states c earlier
-window-quiet states c e earlier quiet before =
-    ap (λ es. drop (commit_count es) (take (commit_count (e ∷ earlier) + 1) states)) before
-    ∙ ap (λ n. drop (commit_count (entries_before_call c earlier)) (take (n + 1) states))
-    (count-quiet e earlier quiet)
+window-quiet states c e earlier quiet before = grind (arith, quiet, count-quiet)
 
 -- a commit adds the state after it to every window
 pub window-commit : (states : List State) (c : ℕ) (e : Entry) (earlier : List Entry) (next : State)
@@ -106,18 +93,14 @@ pub window-call : (states : List State) (c : ℕ) (e : Entry) (earlier : List En
     ∷ rest
     → states_since_call states c (e ∷ earlier) ≡ state ∷ []
 window-call states c e earlier state rest quiet before going =
-    ap (λ es. drop (commit_count es) (take (commit_count (e ∷ earlier) + 1) states)) before
-    ∙ ap (λ n. drop (commit_count earlier) (take (n + 1) states)) (count-quiet e earlier quiet)
-    ∙ drop-take (commit_count earlier) 1 states ∙ ap (take 1) going
+    cc (count-quiet e earlier quiet, drop-take (commit_count earlier) 1 states)
 
 -- the state at a place is known
 pub state_here : (r : Rules) (states : List State) (earlier : List Entry) (state : State)
     (xs : List Committed)
     → drop (commit_count earlier) states ≡ states_from r state xs
     → slice_get states (commit_count earlier) ≡ Some state
-state_here r states earlier state xs going =
-    sym (slice_get-drop states (commit_count earlier)) ∙ ap (λ ss. slice_get ss 0) going
-    ∙ states_begin r state xs
+state_here r states earlier state xs going = grind (arith, slice_get-drop, states_begin)
 
 -- the states go on as they did after an entry that doesn't commit
 pub going-quiet : (r : Rules) (states : List State) (e : Entry) (earlier later : List Entry)
@@ -125,12 +108,7 @@ pub going-quiet : (r : Rules) (states : List State) (e : Entry) (earlier later :
     → drop (commit_count earlier) states ≡ states_from r state (commits_after earlier (e ∷ later))
     → drop (commit_count (e ∷ earlier)) states ≡ states_from r state
     (commits_after (e ∷ earlier) later)
-going-quiet r states e earlier later state quiet going =
-    ap (λ n. drop n states) (count-quiet e earlier quiet) ∙ going
-    ∙ ap (λ b. states_from r state
-    (cons_option
-    (then_some b (committed_at (record { earlier = earlier; here = e; later = later })))
-    (commits_after (e ∷ earlier) later))) quiet
+going-quiet r states e earlier later state quiet going = cc (count-quiet e earlier quiet)
 
 -- after a commit they go on from the next state, or no later one is known
 going_at : (r : Rules) (states : List State) (e : Entry) (earlier later : List Entry)
@@ -143,18 +121,7 @@ going_at : (r : Rules) (states : List State) (e : Entry) (earlier later : List E
       | Some next ↦ states_from r next
           (commits_after (e ∷ earlier) later)
     ])
-going_at r states e earlier later state o commits after going =
-    going
-    ∙ ap (λ b. states_from r state
-    (cons_option
-    (then_some b (committed_at (record { earlier = earlier; here = e; later = later })))
-    (commits_after (e ∷ earlier) later))) commits
-    ∙ ap (λ a. state
-    ∷ (elim a as (λ _. List State) [
-      | None ↦ []
-      | Some next ↦ states_from r next
-          (commits_after (e ∷ earlier) later)
-    ])) after
+going_at r states e earlier later state o commits after going = cc
 
 pub going-commit : (r : Rules) (states : List State) (e : Entry) (earlier later : List Entry)
     (state next : State) → is_commit e.kind ≡ true

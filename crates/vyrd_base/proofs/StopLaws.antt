@@ -2,7 +2,7 @@
 use Rattle.std.proofs.Common.{◌≡◌, ℕ, ◌+◌, ◌<◌, Bool, true, false, cond, ◌&&◌, List, [], ◌∷◌}
 use Rattle.std.proofs.Common.{length, Option, Some, None, Result, Ok, Err, refl, ap, ◌∙◌, sym}
 use Rattle.std.proofs.Common.{arith}
-use Rattle.std.specs.Prelude.{◌==◌, nat_lt, unwrap_or, option_map, option_and_then}
+use Rattle.std.specs.Prelude.{◌==◌, nat_lt, unwrap_or, option_map}
 use Rattle.std.specs.Option.{option_or, option_map_or}
 use Rattle.std.specs.List.{slice_split}
 use Rattle.std.specs.Str.{bytes_eq}
@@ -25,7 +25,7 @@ use Rattle.vyrd_base.specs.Reading.{unfinished_rule, after_end_rule, entry_befor
 use Rattle.vyrd_base.specs.Reading.{start_before, starts_read, body_read, header_before, text_read}
 use Rattle.vyrd_base.specs.Reading.{reading}
 use Rattle.vyrd_base.specs.Verdicts.{verdict_so_far, end_verdict, accepted, verdict, verdict_at}
-use Rattle.vyrd_base.specs.TextVerdicts.{entries_verdict, known_verdict, text_verdict, stop_of}
+use Rattle.vyrd_base.specs.TextVerdicts.{known_verdict, text_verdict, stop_of}
 use Rattle.vyrd_base.proofs.ReadingGrows.{input_of, some_parts}
 use Rattle.vyrd_base.proofs.ListLaws.{or_none}
 use Rattle.vyrd_base.specs.Rules.{rules_of}
@@ -43,21 +43,14 @@ pub record Stops (n : ℕ) (read : Reading) : Type 0 where
       × (f.line ≡ n + read_lines read)
 
 stops_at : (n : ℕ) (rule : Rule) → Stops n (stopped n (Some rule))
-stops_at n rule =
-    record {
-      behind_end = λ is f e. cc;
-      at_fault = λ is. (record { line = n; rule = rule }, refl, omega arith);
-    }
+stops_at n rule = grind arith
 
 fault_line : (n : ℕ) (o : Option Rule) (f : TextFault) → fault_on n o ≡ Some f → f.line ≡ n
 fault_line n None f e = cc
 fault_line n (Some rule) f e = cc
 
 stops_after_end : (n : ℕ) (o : Option Rule) → Stops n (ended (n + 1) o)
-stops_after_end n o = record {
-  behind_end = λ is f e. fault_line (n + 1) o f e ∙ omega arith;
-  at_fault = λ is. cc;
-}
+stops_after_end n o = grind (arith, fault_line)
 
 -- what stands after the last line feed of a whole input is always at fault
 stops_unfinished : (max n : ℕ) (bad : Rule) (rest : List ℕ)
@@ -69,26 +62,17 @@ stops_unfinished max n bad rest = by_tests (has_any rest && nat_lt max n) (nat_l
         → Stops n (stopped n
         (first_broken ((past breaks TooManyLines) ∷ (long breaks bad) ∷ (some breaks NoLineFeed)
         ∷ (true breaks NoEnd) ∷ [])))
-    by_tests true long some = stops_at n TooManyLines
-    by_tests false true some = stops_at n bad
-    by_tests false false true = stops_at n NoLineFeed
-    by_tests false false false = stops_at n NoEnd
+    by_tests past long some = search (long, stops_at, arith)
 
 stops_with_entry : (n : ℕ) (o : Option Entry) (read : Reading) → Stops (n + 1) read
     → Stops n (entry_before n o read)
 stops_with_entry n None read s = stops_at n BadEntry
-stops_with_entry n (Some e) read s = record {
-  behind_end = λ is f at. s.behind_end is f at ∙ omega arith;
-  at_fault = λ is. let found = s.at_fault is in (found.0, found.1, found.2 ∙ omega arith);
-}
+stops_with_entry n (Some e) read s = grind arith
 
 stops_with_start : (n : ℕ) (o : Option Rule) (s : StartWord) (read : Reading) → Stops (n + 1) read
     → Stops n (start_before n o s read)
 stops_with_start n (Some rule) s read st = stops_at n rule
-stops_with_start n None s read st = record {
-  behind_end = λ is f at. st.behind_end is f at ∙ omega arith;
-  at_fault = λ is. let found = st.at_fault is in (found.0, found.1, found.2 ∙ omega arith);
-}
+stops_with_start n None s read st = grind arith
 
 lines_stop : (max : ℕ) (subject : Subject) (n : ℕ) (line : List ℕ) (lines : List (List ℕ))
     → Stops n (lines_read (input_of max true) subject n (line ∷ lines))
@@ -102,11 +86,7 @@ lines_stop max subject n line (next ∷ lines) =
         (cond is_end (ended (n + 1) (after_end_rule (input_of max true) (n + 1) next lines))
         (entry_before n (entry_in subject line)
         (lines_read (input_of max true) subject (n + 1) (next ∷ lines)))))
-    by_tests s true is_end = stops_at n TooManyLines
-    by_tests s false true = stops_after_end n
-        (after_end_rule (input_of max true) (n + 1) next lines)
-    by_tests s false false = stops_with_entry n (entry_in subject line)
-        (lines_read (input_of max true) subject (n + 1) (next ∷ lines)) s
+    by_tests s past is_end = search (stops_at, stops_after_end, stops_with_entry, arith)
 
 starts_stop : (max : ℕ) (h : Header) (last : Option StartWord) (n : ℕ) (line : List ℕ)
     (lines : List (List ℕ))
@@ -120,9 +100,7 @@ starts_stop max h last n line (next ∷ lines) = by_line (start_in line)
         → Stops n (cond past (stopped n (Some TooManyLines))
         (start_before n (start_rule h last s) s
         (starts_read (input_of max true) h (Some s) (n + 1) (next ∷ lines))))
-    by_limit s true st = stops_at n TooManyLines
-    by_limit s false st = stops_with_start n (start_rule h last s) s
-        (starts_read (input_of max true) h (Some s) (n + 1) (next ∷ lines)) st
+    by_limit s past st = search (stops_at, stops_with_start, arith)
 
     by_line : (o : Option StartWord)
         → ((s : StartWord)
@@ -138,13 +116,7 @@ starts_stop max h last n line (next ∷ lines) = by_line (start_in line)
 
 body_stop : (max : ℕ) (h : Header) (line : List ℕ) (lines : List (List ℕ))
     → Stops 2 (body_read (input_of max true) h (line ∷ lines))
-body_stop max h line lines = by_version (h.version == 2)
-  where
-    by_version : (b : Bool)
-        → Stops 2 (cond b (starts_read (input_of max true) h None 2 (line ∷ lines))
-        (lines_read (input_of max true) h.subject 2 (line ∷ lines)))
-    by_version true = starts_stop max h None 2 line lines
-    by_version false = lines_stop max h.subject 2 line lines
+body_stop max h line lines = grind (arith, starts_stop, lines_stop)
 
 -- Where a whole text stops: after a header as its lines do, and without one at a fault and with no
 -- entry.
@@ -237,17 +209,11 @@ by_stop h starting entries false (Some f) behind at =
 with_header : (read : Reading) (h : Header) → read.header ≡ Some h → Stops 2 read
     → unwrap_or (known_verdict read) (accepted read.entries) ≡ verdict_at (rules_of h) read.starting
     read.entries (stop_of read)
-with_header read h has s =
-    ap (λ o. unwrap_or (option_or (option_and_then (entries_verdict read) o)
-    (option_map (λ f. Malformed f.line f.rule) read.fault)) (accepted read.entries)) has
-    ∙ by_stop h read.starting read.entries read.ended read.fault s.behind_end s.at_fault
+with_header read h has s = grind (arith, read, by_stop)
 
 without_header : (read : Reading) (f : TextFault) → read.header ≡ None → read.fault ≡ Some f
     → unwrap_or (known_verdict read) (accepted read.entries) ≡ Malformed f.line f.rule
-without_header read f none at =
-    ap (λ o. unwrap_or (option_or (option_and_then (entries_verdict read) o)
-    (option_map (λ g. Malformed g.line g.rule) read.fault)) (accepted read.entries)) none
-    ∙ ap (λ o. unwrap_or (option_map (λ g. Malformed g.line g.rule) o) (accepted read.entries)) at
+without_header read f none at = grind (arith, read)
 
 -- The verdict about a whole input: with a header that of its starting words, its entries and how
 -- they stop, and otherwise its fault of text.

@@ -1,5 +1,5 @@
 -- What parts give to a key, whose amount is the sum of it.
-use Rattle.std.proofs.Common.{◌≡◌, ◌≢◌, ℕ, zero, suc, ◌+◌, ◌*◌, ◌<◌, ◌≤◌, Bool, true, false, cond}
+use Rattle.std.proofs.Common.{◌≡◌, ◌≢◌, ℕ, zero, suc, ◌+◌, ◌*◌, ◌<◌, ◌≤◌, Bool, cond}
 use Rattle.std.proofs.Common.{List, [], ◌∷◌, ◌++◌, length, get_or, set, refl, ap, ◌∙◌, sym, arith}
 use Rattle.std.proofs.Common.{T}
 use Rattle.std.specs.Prelude.{◌==◌, flat_map, Some, unwrap_or}
@@ -15,12 +15,7 @@ use Rattle.vyrd_base.proofs.TestLaws.{same_of, same_number, isnt_same}
 
 pub amount_of-plus : (s : Amounts) (k a q : ℕ) → amount_of (plus_amount s k a) q ≡ amount_of s q
     + part_given q (k, a)
-amount_of-plus s k a q = amount_of-with_amount s k (amount_of s k + a) q ∙ by_key (q == k) refl
-  where
-    by_key : (b : Bool) → (q == k) ≡ b → cond b (amount_of s k + a) (amount_of s q) ≡ amount_of s q
-        + cond b a 0
-    by_key true e = ap (λ x. amount_of s x + a) (sym (same_of q k e))
-    by_key false e = omega arith
+amount_of-plus s k a q = grind (arith, amount_of-with_amount, same_of)
 
 pub amount_of-collected : (parts : List (ℕ × ℕ)) (q : ℕ) → amount_of (collected parts) q
     ≡ given q parts
@@ -83,44 +78,14 @@ other_part q k a apart = ap (λ b. cond b a 0) (isnt_same q k apart)
 
 -- at most its amount
 pub part_at_most : (q k a : ℕ) → part_given q (k, a) ≤ a
-part_at_most q k a = by_key (q == k)
-  where
-    by_key : (b : Bool) → cond b a 0 ≤ a
-    by_key true = omega arith
-    by_key false = omega arith
+part_at_most q k a = grind arith
 
 pub one_at_most : (q k a : ℕ) → given q ((k, a) ∷ []) ≤ a
 one_at_most q k a = omega (arith, part_at_most q k a)
 
 -- nothing gives nothing
 pub nothing_given : (q k : ℕ) → part_given q (k, 0) ≡ 0
-nothing_given q k = by_key (q == k)
-  where
-    by_key : (b : Bool) → cond {A = ℕ} b 0 0 ≡ 0
-    by_key true = refl
-    by_key false = refl
-
--- no pair gives to the key
-pub none_gives : (q : ℕ) (pairs : List (ℕ × ℕ))
-    → ((j : ℕ) → part_given q (get_or pairs j (0, 0)) ≡ 0) → given q pairs ≡ 0
-none_gives q [] nothing = refl
-none_gives q (p ∷ pairs) nothing =
-    omega (arith, nothing 0, none_gives q pairs (λ j. nothing (suc j)))
-
--- one pair alone gives to it
-pub only_gives : (q : ℕ) (pairs : List (ℕ × ℕ)) (i : ℕ)
-    → ((j : ℕ) → j ≢ i → part_given q (get_or pairs j (0, 0)) ≡ 0)
-    → given q pairs ≡ part_given q (get_or pairs i (0, 0))
-only_gives q [] i nothing = sym (nothing_given q 0)
-only_gives q (p ∷ pairs) zero nothing =
-    omega (arith, none_gives q pairs (λ j. nothing (suc j) (λ e. absurd (omega (arith, e)))))
-only_gives q (p ∷ pairs) (suc i) nothing =
-    omega (
-      arith,
-      nothing 0 (λ e. absurd (omega (arith, e))),
-      only_gives q pairs i
-          (λ j other. nothing (suc j) (λ e. other (omega (arith, e)))),
-    )
+nothing_given q k = grind arith
 
 -- ---- keys that rise
 
@@ -141,14 +106,8 @@ given_amount (e ∷ s) is q =
     let rest : IsAmounts s =
     record { rising = second_of_and (below_all nat_cmp e.0 s) _ is.rising; some = is.some.1 } in
     by_key (q == e.0) refl (given_amount s rest q)
-    ∙ sym (ap (λ b. unwrap_or (cond b (Some e.1) (find nat_cmp q s)) 0) (unsigned_tied q e.0))
+    ∙ sym (cc (unsigned_tied q e.0))
   where
     by_key : (b : Bool) → (q == e.0) ≡ b → given q s ≡ amount_of s q → cond b e.1 0 + given q s
         ≡ unwrap_or (cond b (Some e.1) (find nat_cmp q s)) 0
-    by_key true f same =
-        omega (
-          arith,
-          none_below q e.0 s (let e : q ≤ e.0 = omega (arith, same_of q e.0 f) in e)
-              (first_of_and _ _ is.rising),
-        )
-    by_key false f same = (let e : 0 + given q s ≡ given q s = omega arith in e) ∙ same
+    by_key b f same = search (none_below, same_of, first_of_and, given, arith)

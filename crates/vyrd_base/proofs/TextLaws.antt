@@ -1,11 +1,11 @@
 -- Texts of string buffers as numbers: how long they are, how they are joined, and how they are cut.
 use Rattle.std.proofs.Common.{◌≡◌, ℕ, zero, suc, ◌+◌, ◌-◌, ◌*◌, ◌/◌, ◌^◌, ◌%◌, ◌<◌, ◌≤◌, min, Bool}
-use Rattle.std.proofs.Common.{true, false, cond, ◌&&◌, refl, ap, ◌∙◌, sym, subst, arith}
+use Rattle.std.proofs.Common.{true, false, cond, ◌&&◌, refl, ap, ◌∙◌, sym, arith}
 use Rattle.std.specs.Prelude.{◌==◌, nat_lt, nat_le}
 use Rattle.std.proofs.Math.Bool.{and-true}
 use Rattle.std.proofs.Math.Nat.{pow-suc, pow-le-pow_right, mul-le-mul_right, add-mul-mod_self_right}
-use Rattle.std.proofs.Math.Nat.{mod-eq_of_lt, mod-le}
-use Rattle.std.proofs.lemmas.Nat.{pow-add, mul-add-lt, div-mul-add}
+use Rattle.std.proofs.Math.Nat.{mod-eq_of_lt}
+use Rattle.std.proofs.lemmas.Nat.{pow-add, mul-add-lt}
 use Rattle.vyrd_base.specs.Buffers.{text_of, powers_within, text_length, has_room, joined, cut_to}
 use Rattle.vyrd_base.specs.Buffers.{are_characters}
 use Rattle.vyrd_base.proofs.TestLaws.{same_of, apart_of, both_true, first_true, second_true}
@@ -33,9 +33,7 @@ character_below f (suc n) e i low = by_place
     (character_below f n (first_true (are_characters f n) _ e) i) (i == n) refl
   where
     by_place : (i < n → f i < 255) → (b : Bool) → (i == n) ≡ b → f i < 255
-    by_place before true same =
-        subst (λ j. f j < 255) (sym (same_of i n same))
-        (below_of (f n) 255 (second_true (are_characters f n) _ e))
+    by_place before true same = search (same_of, below_of, second_true, arith)
     by_place before false apart = before (let isnt = apart_of i n apart in omega (arith, low, isnt))
 
 pub all_characters : (f : ℕ → ℕ) (n : ℕ) → ((i : ℕ) → i < n → f i < 255) → are_characters f n ≡ true
@@ -61,10 +59,7 @@ characters_split f n (suc m) =
 
 pub text_split : (f : ℕ → ℕ) (n m : ℕ) → text_of f (n + m) ≡ text_of f n
     + text_of (λ i. f (n + i)) m * 256 ^ n
-text_split f n zero =
-    let none : n + 0 ≡ n = omega arith in
-    let alone : text_of f n ≡ text_of f n + 0 * 256 ^ n = omega arith in
-    ap (text_of f) none ∙ alone
+text_split f n zero = grind arith
 text_split f n (suc m) =
     let one : n + suc m ≡ suc (n + m) = omega arith in
     let last : text_of f (n + m) + (f (n + m) + 1) * 256 ^ (n + m)
@@ -91,10 +86,7 @@ powers_counted text n (suc k) below each = by_power (powers_counted text n k bel
   where
     by_power : powers_within k text ≡ min k n → (b : Bool) → nat_lt k n ≡ b
         → powers_within k text + cond (nat_le (256 ^ k) text) 1 0 ≡ min (suc k) n
-    by_power before true low =
-        let k_low = below_of k n low in
-        let here : nat_le (256 ^ k) text ≡ true = is_at_most (256 ^ k) text (each k k_low) in
-        ap (λ b. powers_within k text + cond b 1 0) here ∙ omega (arith, before, k_low)
+    by_power before true low = search (is_at_most, below_of, arith)
     by_power before false high =
         let k_high = not_below_of k n high in
         let power : 256 ^ n ≤ 256 ^ k = pow-le-pow_right (omega arith) k_high in
@@ -109,13 +101,8 @@ power_within f (suc n) i low = by_place (power_within f n i) (i == n) refl
   where
     by_place : (i < n → 256 ^ i ≤ text_of f n) → (b : Bool) → (i == n) ≡ b → 256 ^ i ≤ text_of f n
         + (f n + 1) * 256 ^ n
-    by_place before true same =
-        subst (λ j. 256 ^ j ≤ text_of f n + (f n + 1) * 256 ^ n) (sym (same_of i n same))
-        (omega arith)
-    by_place before false apart =
-        let isnt = apart_of i n apart in
-        let at_most = before (omega (arith, low, isnt)) in
-        omega (arith, at_most)
+    by_place before true same = grind (arith, same_of i n same)
+    by_place before false apart = grind (arith, before (omega (arith, low, (apart_of i n apart))))
 
 pub length_of_text : (f : ℕ → ℕ) (n : ℕ) → n ≤ 7 → are_characters f n ≡ true
     → text_length (text_of f n) ≡ n
@@ -132,8 +119,7 @@ one_character x low =
 
 pub joined_texts : (f g : ℕ → ℕ) (n m : ℕ) → n ≤ 7 → are_characters f n ≡ true
     → joined (text_of f n) (text_of g m) ≡ text_of f n + text_of g m * 256 ^ n
-joined_texts f g n m few e = ap (λ l. text_of f n + text_of g m * 256 ^ l)
-    (length_of_text f n few e)
+joined_texts f g n m few e = cc (length_of_text f n few e)
 
 -- the characters after the first n are joined after them
 pub joined_characters : (f : ℕ → ℕ) (n m : ℕ) → n ≤ 7 → are_characters f n ≡ true
@@ -157,35 +143,21 @@ cut_text f n k few e low =
 
 pub uncut_text : (f : ℕ → ℕ) (n k : ℕ) → n ≤ 7 → are_characters f n ≡ true → n ≤ k
     → cut_to k (text_of f n) ≡ text_of f n
-uncut_text f n k few e high =
-    ap (λ l. cond (nat_lt k l) (text_of f n % 256 ^ k) (text_of f n)) (length_of_text f n few e)
-    ∙ ap (λ b. cond b (text_of f n % 256 ^ k) (text_of f n)) (isnt_below k n high)
+uncut_text f n k few e high = grind (arith, few, length_of_text, isnt_below)
 
 -- a cut keeps the first k characters, or all if there are no more
 pub cut_characters : (f : ℕ → ℕ) (n k : ℕ) → n ≤ 7 → are_characters f n ≡ true
     → cut_to k (text_of f n) ≡ text_of f (min k n)
-cut_characters f n k few e = by_length (nat_lt k n) refl
-  where
-    by_length : (b : Bool) → nat_lt k n ≡ b → cut_to k (text_of f n) ≡ text_of f (min k n)
-    by_length true low =
-        let few_kept : k ≡ min k n = omega (arith, below_of k n low) in
-        cut_text f n k few e (below_of k n low) ∙ ap (text_of f) few_kept
-    by_length false high =
-        let all_kept : n ≡ min k n = omega (arith, not_below_of k n high) in
-        uncut_text f n k few e (not_below_of k n high) ∙ ap (text_of f) all_kept
+cut_characters f n k few e = grind (arith, few, cut_text, below_of, uncut_text, not_below_of)
 
 -- the last character of a text, plus 1
 last_digit : (f : ℕ → ℕ) (n : ℕ) → are_characters f n ≡ true → text_of f (suc n) / 256 ^ n ≡ f n + 1
-last_digit f n e =
-    let places : text_of f n + (f n + 1) * 256 ^ n ≡ (f n + 1) * 256 ^ n + text_of f n =
-    omega arith in
-    ap (λ t. t / 256 ^ n) places ∙ div-mul-add (f n + 1) (256 ^ n) (text_of f n) (text_below f n e)
+last_digit f n e = grind (arith, text_below)
 
 -- the characters before the last
 digits_before : (f : ℕ → ℕ) (n : ℕ) → are_characters f n ≡ true → text_of f (suc n) % 256 ^ n
     ≡ text_of f n
-digits_before f n e =
-    add-mul-mod_self_right (text_of f n) (f n + 1) (256 ^ n) ∙ mod-eq_of_lt (text_below f n e)
+digits_before f n e = search (text_below, arith)
 
 -- a text tells its characters
 pub same_characters : (f g : ℕ → ℕ) (n : ℕ) → are_characters f n ≡ true → are_characters g n ≡ true
@@ -201,17 +173,13 @@ same_characters f g (suc n) fs gs same i low =
     before_g = first_true (are_characters g n) _ gs
 
     last : f n ≡ g n
-    last =
-        let plus_one : f n + 1 ≡ g n + 1 =
-        sym (last_digit f n before_f) ∙ ap (λ t. t / 256 ^ n) same ∙ last_digit g n before_g in
-        omega (arith, plus_one)
+    last = grind (arith, last_digit f n before_f, last_digit g n before_g)
 
     before : text_of f n ≡ text_of g n
-    before = sym (digits_before f n before_f) ∙ ap (λ t. t % 256 ^ n) same
-        ∙ digits_before g n before_g
+    before = cc (digits_before f n before_f, digits_before g n before_g)
 
     by_place : ((j : ℕ) → j < n → f j ≡ g j) → (b : Bool) → (i == n) ≡ b → f i ≡ g i
-    by_place each true here = subst (λ j. f j ≡ g j) (sym (same_of i n here)) last
+    by_place each true here = rw (same_of i n here) last
     by_place each false apart = each i (let isnt = apart_of i n apart in omega (arith, low, isnt))
 
 -- Of any number, a text or not.
@@ -220,8 +188,7 @@ powers_at_most zero text = omega arith
 powers_at_most (suc k) text = by_power (powers_at_most k text) (nat_le (256 ^ k) text)
   where
     by_power : powers_within k text ≤ k → (b : Bool) → powers_within k text + cond b 1 0 ≤ suc k
-    by_power before true = omega (arith, before)
-    by_power before false = omega (arith, before)
+    by_power before b = search arith
 
 pub length_at_most : (text : ℕ) → text_length text ≤ 7
 unfolding text_length
@@ -241,12 +208,7 @@ below_power (suc k) text below = by_power (below_power k text) (nat_le (256 ^ k)
     by_power : (text < 256 ^ k → text < 256 ^ powers_within k text) → (b : Bool)
         → nat_le (256 ^ k) text ≡ b
         → text < 256 ^ (powers_within k text + cond (nat_le (256 ^ k) text) 1 0)
-    by_power before true high =
-        subst (λ n. text < 256 ^ n) (sym (all_within k text (at_most_of (256 ^ k) text high))) below
-    by_power before false low =
-        let same : powers_within k text ≡ powers_within k text + cond (nat_le (256 ^ k) text) 1 0 =
-        sym (ap (λ b. powers_within k text + cond b 1 0) low ∙ omega arith) in
-        subst (λ n. text < 256 ^ n) same (before (above_of (256 ^ k) text low))
+    by_power before b high = search (all_within, at_most_of, above_of, arith)
 
 pub within_length : (text : ℕ) → text < 256 ^ 7 → text < 256 ^ text_length text
 unfolding text_length
@@ -262,8 +224,4 @@ joined_below text more text_low more_low room =
     omega (arith, place, power, pow-add 256 (text_length text) (text_length more))
 
 pub cut_below : (n text : ℕ) → text < 256 ^ 7 → cut_to n text < 256 ^ 7
-cut_below n text low = by_length (nat_lt n (text_length text))
-  where
-    by_length : (b : Bool) → cond b (text % 256 ^ n) text < 256 ^ 7
-    by_length true = let less = mod-le text (256 ^ n) in omega (arith, less, low)
-    by_length false = low
+cut_below n text low = grind arith

@@ -2,13 +2,13 @@
 -- text, and acceptance. The starting words stand for a state, so that nothing is wrong with them.
 use Rattle.std.proofs.Common.{◌≡◌, ℕ, ◌+◌, Bool, true, false, cond, List, [], ◌∷◌, length, Option}
 use Rattle.std.proofs.Common.{Some, None, refl, ap, ◌∙◌, sym, arith}
-use Rattle.std.specs.Prelude.{◌==◌, is_none, option_map, unwrap_or}
+use Rattle.std.specs.Prelude.{◌==◌, option_map, unwrap_or}
 use Rattle.std.specs.Option.{option_or}
 use Rattle.std.specs.Bool.{then_some}
 use Rattle.vyrd_base.specs.declared.log.Entry.{Entry}
 use Rattle.vyrd_base.specs.declared.log.StartWord.{StartWord}
 use Rattle.vyrd_base.specs.declared.verdict.Rule.{Rule}
-use Rattle.vyrd_base.specs.declared.verdict.Rule.TheVariants.{StartState, CallOpen}
+use Rattle.vyrd_base.specs.declared.verdict.Rule.TheVariants.{CallOpen}
 use Rattle.vyrd_base.specs.declared.verdict.Stop.{Stop}
 use Rattle.vyrd_base.specs.declared.verdict.Stop.TheVariants.{End, Text}
 use Rattle.vyrd_base.specs.declared.verdict.Verdict.{Verdict}
@@ -27,8 +27,7 @@ use Rattle.vyrd_base.specs.Rules.{Rules}
 pub sound_start : (r : Rules) (starting : List StartWord) (state : State)
     → state_at_start r starting ≡ Some state
     → start_verdict r starting ≡ None
-sound_start r starting state stands =
-    ap (λ o. then_some (is_none o) (Malformed 2 StartState)) stands
+sound_start r starting state stands = cc
 
 sound_begun : (r : Rules) (starting : List StartWord) (entries : List Entry)
     → start_verdict r starting ≡ None
@@ -92,8 +91,7 @@ pub so_far_fault : (r : Rules) (starting : List StartWord) (entries kept : List 
     → kept ≡ front r.header entries → first_fault r starting kept ≡ Some v
     → verdict_so_far r starting entries ≡ Some v
 so_far_fault r starting entries kept v sound is_front fault =
-    so_far_by r starting entries kept sound is_front
-    ∙ ap (λ o. option_or o (shape_verdict r.header starting entries)) fault
+    cc (so_far_by r starting entries kept sound is_front)
 
 pub so_far_break : (r : Rules) (starting : List StartWord) (entries kept : List Entry) (n : ℕ)
     (rule : Rule) → start_verdict r starting ≡ None
@@ -217,5 +215,4 @@ at_text_closed r starting entries line rule sound none closed =
     sound none refl closed
   where
     either : (b : Bool) → Malformed line rule ≡ text_answer starting entries line rule None b false
-    either true = refl
-    either false = refl
+    either b = search arith

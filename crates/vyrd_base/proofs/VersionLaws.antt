@@ -1,6 +1,6 @@
 -- A log of version 1 has the verdict of old.
-use Rattle.std.proofs.Common.{◌≡◌, List, [], ◌∷◌, length, Option, Some, None, refl, ap, ◌∙◌, sym}
-use Rattle.std.specs.Prelude.{unwrap_or, option_map, option_and_then, slice_get, ◌+◌}
+use Rattle.std.proofs.Common.{◌≡◌, List, [], ◌∷◌, length, Option, Some, None, refl, ap, ◌∙◌}
+use Rattle.std.specs.Prelude.{unwrap_or, option_map, ◌+◌}
 use Rattle.std.specs.Option.{option_or}
 use Rattle.std.specs.Bool.{then_some}
 use Rattle.vyrd_base.specs.declared.header.Header.{Header}
@@ -17,9 +17,8 @@ use Rattle.vyrd_base.specs.States.{State}
 use Rattle.vyrd_base.specs.Specification.{start}
 use Rattle.vyrd_base.specs.Shape.{broken_rule}
 use Rattle.vyrd_base.specs.Front.{front, front_after, first_break, WellFormed}
-use Rattle.vyrd_base.specs.Commits.{states_of, committed_at, commit_count}
-use Rattle.vyrd_base.specs.Views.{view_of_words}
-use Rattle.vyrd_base.specs.Faults.{commit_fault, fault_of_kind, fault_at}
+use Rattle.vyrd_base.specs.Commits.{states_of}
+use Rattle.vyrd_base.specs.Faults.{fault_of_kind, fault_at}
 use Rattle.vyrd_base.specs.Verdicts.{line_of, violation_at, first_fault, shape_verdict}
 use Rattle.vyrd_base.specs.Verdicts.{is_call_open, verdict_so_far, end_verdict, accepted, verdict}
 use Rattle.vyrd_base.specs.FirstVersion.{old_broken_rule, old_front_after, old_front}
@@ -50,21 +49,8 @@ front_after-old h earlier (e ∷ es) one wf = by_rule (broken_rule h earlier e) 
           | Some rule ↦
               []
         ]) ≡ old_front_after h earlier (e ∷ es)
-    by_rule None is rest =
-        ap (λ xs. e ∷ xs) (rest is)
-        ∙ ap (λ o. elim o as (λ _. List Entry) [
-          | None ↦ e ∷ old_front_after h
-              (e ∷ earlier) es
-          | Some rule ↦ []
-        ])
-        (sym is ∙ broken_rule-old h earlier e one wf)
-    by_rule (Some rule) is rest =
-        ap (λ o. elim o as (λ _. List Entry) [
-          | None ↦ e ∷ old_front_after h (e ∷ earlier) es
-          | Some
-              rule ↦ []
-        ])
-        (sym is ∙ broken_rule-old h earlier e one wf)
+    by_rule None is rest = cc (rest is, broken_rule-old h earlier e one wf)
+    by_rule (Some rule) is rest = cc (broken_rule-old h earlier e one wf)
 
 break_after-old : (h : Header) (earlier es : List Entry) → h.version ≡ 1 → WellFormed h earlier
     → break_after h earlier es ≡ old_break_after h earlier es
@@ -76,11 +62,8 @@ break_after-old h earlier (e ∷ es) one wf = by_rule (broken_rule h earlier e) 
         → (broken_rule h earlier e ≡ None → break_after h (e ∷ earlier) es ≡ old_break_after h
         (e ∷ earlier) es)
         → option_or o (break_after h (e ∷ earlier) es) ≡ old_break_after h earlier (e ∷ es)
-    by_rule None is rest =
-        rest is ∙ ap (λ o. option_or o (old_break_after h (e ∷ earlier) es))
-        (sym is ∙ broken_rule-old h earlier e one wf)
-    by_rule (Some rule) is rest = ap (λ o. option_or o (old_break_after h (e ∷ earlier) es))
-        (sym is ∙ broken_rule-old h earlier e one wf)
+    by_rule None is rest = cc (rest is, broken_rule-old h earlier e one wf)
+    by_rule (Some rule) is rest = cc (broken_rule-old h earlier e one wf)
 
 -- the first fault of the places from one on
 abbrev pub old_fault_after : Header → List State → List Entry → List Entry → Option Verdict
@@ -91,16 +74,8 @@ old_fault_after h states earlier later = first_answer
 fault-old : (h : Header) (states : List State) (place : Place Entry) (kind : Kind) → h.version ≡ 1
     → WellFormed h (place.here ∷ place.earlier)
     → fault_of_kind (rules_of h) [] states place kind ≡ old_fault_of_kind h states place kind
-fault-old h states place Commit one wf =
-    ap (λ words. option_and_then
-    (commit_fault (rules_of h) (view_of_words h words) (committed_at place))
-    (slice_get states (commit_count place.earlier)))
-    (first_words_at h place one wf)
-fault-old h states place BlockCommit one wf =
-    ap (λ words. option_and_then
-    (commit_fault (rules_of h) (view_of_words h words) (committed_at place))
-    (slice_get states (commit_count place.earlier)))
-    (first_words_at h place one wf)
+fault-old h states place Commit one wf = cc (first_words_at h place one wf)
+fault-old h states place BlockCommit one wf = cc (first_words_at h place one wf)
 fault-old h states place (Return reply) one wf = refl
 fault-old h states place (Call method args) one wf = refl
 fault-old h states place (Write word value) one wf = refl

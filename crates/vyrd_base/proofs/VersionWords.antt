@@ -1,25 +1,19 @@
 -- In version 1 no commit stands inside a block, so the words of a well-formed log are those of
 -- version 1's definition.
-use Rattle.std.proofs.Common.{◌≡◌, ℕ, ◌^◌, Bool, true, false, cond, ◌&&◌, ◌||◌, List, [], ◌∷◌, ◌++◌}
+use Rattle.std.proofs.Common.{◌≡◌, ℕ, Bool, true, false, ◌&&◌, ◌||◌, List, [], ◌∷◌, ◌++◌}
 use Rattle.std.proofs.Common.{None, refl, ap, subst, ◌∙◌, sym}
-use Rattle.std.specs.Prelude.{◌==◌, is_none, nat_le}
+use Rattle.std.specs.Prelude.{◌==◌}
 use Rattle.std.specs.List.{list_any}
-use Rattle.std.specs.Option.{option_map_or}
 use Rattle.vyrd_base.specs.declared.header.Header.{Header}
 use Rattle.vyrd_base.specs.declared.log.Kind.{Kind}
 use Rattle.vyrd_base.specs.declared.log.Kind.TheVariants.{Call, Return, Write, Commit, BlockOpen}
 use Rattle.vyrd_base.specs.declared.log.Kind.TheVariants.{BlockClose, BlockCommit}
 use Rattle.vyrd_base.specs.declared.log.Entry.{Entry}
-use Rattle.vyrd_base.specs.declared.verdict.Rule.TheVariants.{NoCall, WordRange, ValueRange}
-use Rattle.vyrd_base.specs.declared.verdict.Rule.TheVariants.{BlockRaced, ObserverCommit}
-use Rattle.vyrd_base.specs.declared.verdict.Rule.TheVariants.{SecondCommit, CommitInBlock}
-use Rattle.vyrd_base.specs.declared.verdict.Rule.TheVariants.{CallerRange}
 use Rattle.vyrd_base.specs.Places.{Place}
-use Rattle.vyrd_base.specs.Callers.{open_call, has_block, has_committed, has_inner_commit}
-use Rattle.vyrd_base.specs.Layout.{plain_words}
-use Rattle.vyrd_base.specs.Shape.{◌breaks◌, first_broken, checks_at, broken_rule, is_observing}
+use Rattle.vyrd_base.specs.Callers.{has_block, has_inner_commit}
+use Rattle.vyrd_base.specs.Shape.{checks_at, broken_rule}
 use Rattle.vyrd_base.specs.Shape.{is_held_by_other}
-use Rattle.vyrd_base.specs.Words.{block_writes, writes_ahead, effects_at, effects}
+use Rattle.vyrd_base.specs.Words.{effects_at, effects}
 use Rattle.vyrd_base.specs.Words.{effects_of_others, words_with, words_at}
 use Rattle.vyrd_base.specs.FirstVersion.{old_broken_rule, old_effects_at, old_effects}
 use Rattle.vyrd_base.specs.FirstVersion.{old_words_after}
@@ -34,8 +28,7 @@ first_commit_kept : (h : Header) (c : ℕ) (earlier : List Entry) → h.version 
     → broken_rule h earlier (entry c Commit) ≡ None
     → has_block c earlier ≡ false
 first_commit_kept h c earlier first kept =
-    sym (ap (λ b. b && has_block c earlier) (is_same h.version 1 first))
-    ∙ (all_kept (checks_at h earlier (entry c Commit)) kept).1.1.1.1.0
+    cc (is_same h.version 1 first, (all_kept (checks_at h earlier (entry c Commit)) kept).1.1.1.1.0)
 
 -- so no block has one in it
 own_has_none : (h : Header) (c : ℕ) (kind : Kind) (earlier : List Entry) → h.version ≡ 1
@@ -71,14 +64,11 @@ first_effects_at : (h : Header) (c : ℕ) (kind : Kind) (earlier later : List En
 first_effects_at h c (Call method args) earlier later first wf = refl
 first_effects_at h c (Return reply) earlier later first wf = refl
 first_effects_at h c (Write word value) earlier later first wf = refl
-first_effects_at h c Commit earlier later first wf =
-    ap (λ b. cond b (option_map_or (λ ahead. ahead ++ block_writes c earlier) (writes_ahead c later)
-    []) []) (first_commit_kept h c earlier first wf.0)
+first_effects_at h c Commit earlier later first wf = cc (first_commit_kept h c earlier first wf.0)
 first_effects_at h c BlockOpen earlier later first wf = refl
-first_effects_at h c BlockClose earlier later first wf =
-    ap (λ b. cond b [] (block_writes c earlier)) (no_inner_commit h c earlier first wf.1)
+first_effects_at h c BlockClose earlier later first wf = cc (no_inner_commit h c earlier first wf.1)
 first_effects_at h c BlockCommit earlier later first wf =
-    ap (λ b. cond b [] (block_writes c earlier)) (no_inner_commit h c earlier first wf.1)
+    cc (no_inner_commit h c earlier first wf.1)
 
 pub first_effects : (h : Header) (earlier later : List Entry) → h.version ≡ 1 → WellFormed h earlier
     → effects earlier later ≡ old_effects earlier
@@ -113,18 +103,9 @@ broken_rule-old h earlier e one wf = by_kind e.kind
         let free = or_none (is_held_by_other h e.caller word earlier)
         (has_inner_commit e.caller earlier && list_any (λ write. write.0 == word)
         (effects_of_others e.caller earlier []))
-        (ap (λ b. b && list_any (λ write. write.0 == word) (effects_of_others e.caller earlier []))
-        (no_inner_commit h e.caller earlier one wf)) in
-        ap (λ b. first_broken ((nat_le h.callers e.caller breaks CallerRange)
-        ∷ (is_none (open_call e.caller earlier) breaks NoCall)
-        ∷ (nat_le (plain_words h) word breaks WordRange) ∷ (nat_le (2 ^ 63) value breaks ValueRange)
-        ∷ (b breaks BlockRaced) ∷ [])) free
-    by_kind Commit =
-        ap (λ n. first_broken ((nat_le h.callers e.caller breaks CallerRange)
-        ∷ (is_none (open_call e.caller earlier) breaks NoCall)
-        ∷ (is_observing e.caller earlier breaks ObserverCommit)
-        ∷ (has_committed e.caller earlier breaks SecondCommit)
-        ∷ (n == 1 && has_block e.caller earlier breaks CommitInBlock) ∷ [])) one
+        (cc (no_inner_commit h e.caller earlier one wf)) in
+        cc
+    by_kind Commit = cc
     by_kind BlockOpen = refl
     by_kind BlockClose = refl
     by_kind BlockCommit = refl

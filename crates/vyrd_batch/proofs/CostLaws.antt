@@ -1,18 +1,17 @@
 -- What rounds of a batch cost.
-use Rattle.std.proofs.Common.{◌≡◌, ℕ, zero, suc, ◌+◌, ◌*◌, ◌-◌, ◌<◌, ◌≤◌, Bool, true, false, cond}
-use Rattle.std.proofs.Common.{◌&&◌, List, [], ◌∷◌, ◌++◌, length, drop, Option, Some, None, refl, ap}
+use Rattle.std.proofs.Common.{◌≡◌, ℕ, zero, suc, ◌+◌, ◌*◌, ◌-◌, ◌<◌, ◌≤◌, Bool, true, false}
+use Rattle.std.proofs.Common.{List, [], ◌∷◌, ◌++◌, length, drop, Option, Some, None, refl, ap}
 use Rattle.std.proofs.Common.{◌∙◌, sym, subst, arith, length-append, inl, inr}
 use Rattle.std.specs.Prelude.{nat_le, decimal, codes}
 use Rattle.std.proofs.lemmas.Fmt.{length-decimal-le, decimal_nonempty}
 use Rattle.std.proofs.lemmas.List.{length-drop, drop-drop}
-use Rattle.std.proofs.lemmas.Option.{same_Some}
 use Rattle.vyrd_base.specs.Spelling.{ended_line}
 use Rattle.vyrd_base.proofs.TestLaws.{at_most_of, above_of}
 use Rattle.vyrd_text.specs.Steps.{is_one_line}
 use Rattle.vyrd_batch.specs.declared.span.Span.{Span}
-use Rattle.vyrd_batch.specs.Batches.{most_logs, logs_end_within, first_word, log_word, Cut}
+use Rattle.vyrd_batch.specs.Batches.{most_logs, first_word, log_word, Cut}
 use Rattle.vyrd_batch.specs.Batches.{first_line, size_in, span_of, log_at}
-use Rattle.vyrd_batch.specs.Rounds.{IsNoLog, IsNothingMore, IsNothingEver, IsSpentBy, most_left}
+use Rattle.vyrd_batch.specs.Rounds.{IsNoLog, IsNothingMore, IsNothingEver, IsSpentBy}
 use Rattle.vyrd_batch.specs.Rounds.{longest_line}
 use Rattle.vyrd_batch.specs.Costs.{line_look, rest_look, moved, IsLeft, IsBegun}
 use Rattle.vyrd_batch.proofs.LineFacts.{no_line, one_line}
@@ -23,29 +22,15 @@ use Rattle.vyrd_batch.proofs.UnfinishedLaws.{one_begins, says_few, never_ended, 
 
 -- where there is no line feed, and where there is one
 pub no_end : (bytes : List ℕ) → is_one_line bytes ≡ true → line_look bytes ≡ length bytes
-no_end bytes e =
-    ap (λ o. elim o as (λ _. ℕ) [ None ↦ length bytes | Some cut ↦ length cut.line + 1 ])
-    (no_line bytes e)
+no_end bytes e = grind (arith, no_line)
 
 pub end_there : (bytes line rest : List ℕ) → is_one_line line ≡ true → bytes ≡ line ++ 10 ∷ rest
     → line_look bytes ≡ length line + 1
-end_there bytes line rest e is =
-    ap line_look is
-    ∙ ap (λ o. elim o as (λ _. ℕ) [
-      | None ↦ length (line ++ 10 ∷ rest)
-      | Some cut ↦ length cut.line
-          + 1
-    ]) (one_line line rest e)
+end_there bytes line rest e is = grind (arith, one_line)
 
 -- no more are looked at than there are
 pub look_within : (bytes : List ℕ) → line_look bytes ≤ length bytes
-look_within bytes = by_cut (first_line bytes) (cut_len bytes)
-  where
-    by_cut : (o : Option Cut)
-        → ((cut : Cut) → o ≡ Some cut → length bytes ≡ length cut.line + 1 + length cut.rest)
-        → elim o as (λ _. ℕ) [ None ↦ length bytes | Some cut ↦ length cut.line + 1 ] ≤ length bytes
-    by_cut None len = omega arith
-    by_cut (Some cut) len = omega (arith, len cut refl)
+look_within bytes = grind (arith, first_line, cut_len)
 
 -- and of more bytes only the others are looked at besides
 pub look_longer : (bytes more : List ℕ) → line_look (bytes ++ more) ≤ line_look bytes + length more
@@ -58,13 +43,7 @@ look_longer bytes more = by_cut (first_line bytes) (first_line (bytes ++ more))
         → elim all as (λ _. ℕ) [ None ↦ length (bytes ++ more) | Some cut ↦ length cut.line + 1 ]
         ≤ elim o as (λ _. ℕ) [ None ↦ length bytes | Some cut ↦ length cut.line + 1 ] + length more
     by_cut None all is within = omega (arith, within, length-append bytes more)
-    by_cut (Some cut) all is within =
-        subst (λ all. elim all as (λ _. ℕ) [
-          | None ↦ length (bytes ++ more)
-          | Some cut ↦ length
-              cut.line + 1
-        ] ≤ length cut.line + 1 + length more)
-        (sym (is.same cut refl)) (omega arith)
+    by_cut (Some cut) all is within = grind (arith, is.same cut refl)
 
 -- the line of a log is short, and the log's bytes stand behind it
 pub record IsFramed (place : ℕ) (bytes : List ℕ) (span : Span) : Type 0 where
@@ -114,59 +93,19 @@ left_short place left fresh span none found =
         → span_of first (rest ++ more) o ≡ Some span
         → first + length rest < span.past
     by_size first rest more None none found = cc
-    by_size first rest more (Some size) none found =
-        by_tests (nat_le size (length rest)) (nat_le size (length (rest ++ more)))
-        (nat_le (first + size) logs_end_within) refl none found
-      where
-        here : Span
-        here = record { first = first; past = first + size }
-
-        by_tests : (fits longer near : Bool) → nat_le size (length rest) ≡ fits
-            → cond (fits && near) (Some here) None ≡ None
-            → cond (longer && near) (Some here) None ≡ Some span → first + length rest < span.past
-        by_tests fits false near is none found = cc
-        by_tests fits true false is none found = cc
-        by_tests true true true is none found = cc
-        by_tests false true true is none found =
-            let same : here ≡ span = same_Some here span found in
-            let past : first + size ≡ span.past = ap (λ s. s.past) same in
-            omega (arith, past, above_of size (length rest) is)
-
-    -- where it isn't
-    by_far : (first : ℕ) (rest : List ℕ) (o : Option ℕ) → span_of first rest o ≡ Some span
-        → first ≤ span.past
-    by_far first rest None found = cc
-    by_far first rest (Some size) found = by_test
-        (nat_le size (length rest) && nat_le (first + size) logs_end_within) found
-      where
-        here : Span
-        here = record { first = first; past = first + size }
-
-        by_test : (t : Bool) → cond t (Some here) None ≡ Some span → first ≤ span.past
-        by_test false found = cc
-        by_test true found = let past : first + size ≡ span.past = ap (λ s. s.past)
-            (same_Some here span found) in omega (arith, past)
+    by_size first rest more (Some size) none found = search (more, found, arith)
 
     by_cut : (o all : Option Cut) → IsLonger left fresh o all
         → ((cut : Cut) → o ≡ Some cut → length left ≡ length cut.line + 1 + length cut.rest)
         → at_cut o ≡ None → at_cut all ≡ Some span → place + length left < span.past
     by_cut None None is len none found = cc
-    by_cut None (Some cut) is len none found =
-        omega (
-          arith,
-          is.other refl cut refl,
-          by_far (place + length cut.line + 1) cut.rest
-              (size_in cut.line) found,
-        )
+    by_cut None (Some cut) is len none found = search (found, arith)
     by_cut (Some cut) all is len none found =
-        let next : at_cut (Some (record { line = cut.line; rest = cut.rest ++ fresh }))
-        ≡ Some span =
-        sym (ap at_cut (is.same cut refl)) ∙ found in
-        omega (
+        grind (
           arith,
           len cut refl,
-          by_size (place + length cut.line + 1) cut.rest fresh
-              (size_in cut.line) none next,
+          by_size (place + length cut.line + 1) cut.rest fresh (size_in
+              cut.line) none (sym (ap at_cut (is.same cut refl)) ∙ found),
         )
 
 -- The line of what a round leaves is short, since a longer one would show that no log comes.
@@ -209,8 +148,7 @@ pub record AreFoundFor (bytes : List ℕ) (place logs taken old new : ℕ) : Typ
       × (6 * logs + (span.past - place) ≤ 6 + taken)
 
 pub none_for : (bytes : List ℕ) (place old : ℕ) → AreFoundFor bytes place 0 0 old old
-none_for bytes place old =
-    record { none = λ e. (refl, refl); some = λ some. absurd (omega (arith, some)) }
+none_for bytes place old = grind arith
 
 pub more_for : (bytes : List ℕ) (place logs taken old new next : ℕ) (span : Span)
     → AreFoundFor bytes place logs taken old new
@@ -281,11 +219,7 @@ found_cost bytes left fresh log place logs taken old new next for spent is withi
 
     by_none : (n : ℕ) → n ≡ taken → n ≡ 0 → new ≡ old
         → next + line_look (drop n bytes) + moved n (length bytes) ≤ old + 3 * length fresh + 26
-    by_none zero same z e =
-        let start : line_look (drop taken bytes) ≡ line_look bytes =
-        ap (λ n. line_look (drop n bytes)) (sym same) in
-        let more : line_look bytes ≡ line_look (left ++ fresh) = ap line_look is in
-        omega (arith, steps, start, more, look_longer left fresh, spent.1, e)
+    by_none zero same z e = grind (arith, look_longer left fresh, spent.1)
     by_none (suc n) same z e = absurd (omega (arith, z))
 
     by_logs : (logs : ℕ) → AreFoundFor bytes place logs taken old new → log + logs ≤ most_logs
@@ -301,8 +235,7 @@ found_cost bytes left fresh log place logs taken old new next for spent is withi
         omega (arith, s.2, s.3, short, look, moved_few taken (length bytes), all, within, steps)
       where
         there : IsNoLog log place left → log_at place left ≡ None
-        there (inl e) = absurd (omega (arith, e, few))
-        there (inr e) = e
+        there e0 = search (few, arith)
 
 -- what it costs where no bytes were left, and all that stay are moved
 pub first_cost : (bytes : List ℕ) (place logs taken old new next : ℕ)
@@ -310,19 +243,8 @@ pub first_cost : (bytes : List ℕ) (place logs taken old new next : ℕ)
     → taken ≤ length bytes → next ≤ new + line_look (drop taken bytes)
     → next + 6 * logs + line_look (drop taken bytes) + length (drop taken bytes) ≤ old + 3
     * length bytes + 26
-first_cost bytes place logs taken old new next for within steps = by_logs logs for
-  where
-    look : line_look (drop taken bytes) ≤ length (drop taken bytes)
-    look = look_within (drop taken bytes)
-
-    by_logs : (logs : ℕ) → AreFoundFor bytes place logs taken old new
-        → next + 6 * logs + line_look (drop taken bytes) + length (drop taken bytes) ≤ old + 3
-        * length bytes + 26
-    by_logs zero for = let start = for.none refl in
-        omega (arith, steps, look, length-drop taken bytes, start.0, start.1)
-    by_logs (suc n) for =
-        let s = for.some (omega arith) in
-        omega (arith, s.2, s.3, steps, look, length-drop taken bytes, within)
+first_cost bytes place logs taken old new next for within steps =
+    grind (arith, taken, within, look_within, length-drop)
 
 -- what is left of the first line, which wasn't read, is short
 front_short : (bytes left fresh more : List ℕ) (log : ℕ) → IsNothingMore None log left
@@ -410,16 +332,6 @@ whole_ever (Some n) log place first bytes behind left fresh old new begun behind
     ever left fresh (subst (λ n. IsLeft log n left) begun.1 (spent.0, spent_look n log left spent))
     (all ∙ is)
 
--- what is left is short
-pub spent_short : (refused : Bool) (place : Option ℕ) (log : ℕ) (rest : List ℕ)
-    → IsSpentBy refused place log rest → length rest ≤ most_left
-spent_short false place log rest spent = spent.1
-spent_short true place log rest spent = omega (arith, ap length spent)
-
 -- before the first round nothing is left
 pub none_spent : IsSpentBy false None 0 []
-none_spent = (
-  (λ more e. absurd (omega (arith, ap length e, length-append (ended_line first_word) more))),
-  omega arith,
-  (λ _. omega arith),
-)
+none_spent = grind arith

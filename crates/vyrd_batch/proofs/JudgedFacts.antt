@@ -1,6 +1,6 @@
 -- Verdicts that threads gave, part by part, as one list.
 use Rattle.std.proofs.Common.{◌≡◌, Vec, Global, Bor, ℕ, ◌≤◌, List, [], ◌∷◌, ◌++◌, length, take}
-use Rattle.std.proofs.Common.{drop, arith, map, Result, Ok, Err, IfOk, refl, ap, ◌∙◌, sym, subst}
+use Rattle.std.proofs.Common.{drop, arith, map, Result, Ok, Err, IfOk, refl, ap, ◌∙◌, sym}
 use Rattle.std.specs.Prelude.{Contains, MatchResult, flat_map}
 use Rattle.std.specs.List.{AllZip, AllByRecursion}
 use Rattle.std.proofs.lemmas.List.{map-append, length-append, length-map, take-append-drop}
@@ -28,10 +28,7 @@ pub collected : {V X Y Z E : Type 0} (items : V → List Y) (show : Y → Z) (f 
     → MatchResult r (λ v. (ys : List Y) × (rs ≡ map Ok ys) × (items v ≡ ys))
     (λ e. Contains rs (Err e))
     → AllZip (λ x r. IfOk r (λ y. show y ≡ f x)) xs rs → IfOk r (λ v. map show (items v) ≡ map f xs)
-collected {E = E} items show f xs rs (Ok v) m all =
-    ap (map show) m.2 ∙ all_right E show f xs m.0
-    (subst (AllZip (λ x r. IfOk r (λ y. show y ≡ f x)) xs) m.1 all)
-collected items show f xs rs (Err e) m all = tt
+collected e0 items show = grind (arith, all_right)
 
 -- what all items of parts show, and what all parts have, where each part's items show what that
 -- part has
@@ -51,8 +48,7 @@ flat_same show f (y ∷ ys) (x ∷ xs) e =
 pub map_parts : {P X Y : Type 0} (g : X → Y) (part : P → List X) (ps : List P)
     → flat_map (λ p. map g (part p)) ps ≡ map g (flat_map part ps)
 map_parts g part [] = refl
-map_parts g part (p ∷ ps) = ap (λ ys. map g (part p) ++ ys) (map_parts g part ps)
-    ∙ sym (map-append g (part p) (flat_map part ps))
+map_parts g part (p ∷ ps) = cc (map_parts g part ps, map-append g (part p) (flat_map part ps))
 
 -- what holds of all spans holds of those of each part
 all_front : {X : Type 0} (P : X → Type 0) (xs ys : List X) → AllByRecursion P (xs ++ ys)
@@ -107,8 +103,7 @@ flat_front f n xs =
 -- there is a verdict about each log
 pub verdict_each : (bytes : List ℕ) (spans : List Span)
     → length (verdicts_of (map (bytes_of bytes) spans)) ≡ length spans
-verdict_each bytes spans = length-map (map (bytes_of bytes) spans) (log_verdict most_lines)
-    ∙ length-map spans (bytes_of bytes)
+verdict_each bytes spans = search (length-map, arith)
 
 -- and one list of them about each part
 pub list_each : {X Y Z : Type 0} (show : Y → Z) (f : X → Z) (ys : List Y) (xs : List X)

@@ -1,8 +1,8 @@
 -- What the line before a log says, and where its bytes stand.
-use Rattle.std.proofs.Common.{◌≡◌, ℕ, suc, ◌+◌, ◌-◌, ◌<◌, ◌≤◌, ◌^◌, Bool, true, false, cond, not}
+use Rattle.std.proofs.Common.{◌≡◌, ℕ, ◌+◌, ◌-◌, ◌<◌, ◌≤◌, ◌^◌, true, cond, not}
 use Rattle.std.proofs.Common.{◌&&◌, List, [], ◌∷◌, ◌++◌, length, drop, Option, Some, None, refl, ap}
 use Rattle.std.proofs.Common.{◌∙◌, sym, arith}
-use Rattle.std.specs.Prelude.{◌==◌, nat_le, option_map}
+use Rattle.std.specs.Prelude.{◌==◌, nat_le}
 use Rattle.std.specs.Str.{bytes_eq}
 use Rattle.std.proofs.lemmas.Bool.{not-true}
 use Rattle.std.proofs.Math.Seq.{drop-append-add}
@@ -11,101 +11,60 @@ use Rattle.vyrd_base.proofs.SplitLaws.{number_of_decimal, bytes_same}
 use Rattle.vyrd_base.proofs.TestLaws.{first_true, second_true, both_true, is_at_most, isnt_at_most}
 use Rattle.vyrd_base.proofs.TestLaws.{same_number}
 use Rattle.vyrd_text.specs.Steps.{is_one_line}
-use Rattle.vyrd_batch.specs.declared.span.Span.{Span}
-use Rattle.vyrd_batch.specs.Batches.{most_bytes, logs_end_within, log_word, longer, first_line}
+use Rattle.vyrd_batch.specs.Batches.{most_bytes, logs_end_within, log_word, first_line}
 use Rattle.vyrd_batch.specs.Batches.{size_in, span_of, log_at}
 
 -- bytes without a line feed have no first line, and others have
 pub no_line : (bytes : List ℕ) → is_one_line bytes ≡ true → first_line bytes ≡ None
 no_line [] e = refl
 no_line (b ∷ bytes) e =
-    ap (λ t. cond t (Some (record { line = []; rest = bytes }))
-    (option_map (longer b) (first_line bytes))) (not-true (b == 10) (first_true _ _ e))
-    ∙ ap (option_map (longer b)) (no_line bytes (second_true (not (b == 10)) _ e))
+    cc (not-true (b == 10) (first_true _ _ e), no_line bytes (second_true (not (b == 10)) _ e))
 
 pub one_line : (line rest : List ℕ) → is_one_line line ≡ true → first_line (line ++ 10 ∷ rest)
     ≡ Some (record { line = line; rest = rest })
-one_line [] rest e =
-    ap (λ t. cond t (Some (record { line = []; rest = rest }))
-    (option_map (longer 10) (first_line rest))) (same_number 10)
+one_line [] rest e = cc (same_number 10)
 one_line (b ∷ line) rest e =
-    ap (λ t. cond t (Some (record { line = []; rest = line ++ 10 ∷ rest }))
-    (option_map (longer b) (first_line (line ++ 10 ∷ rest))))
-    (not-true (b == 10) (first_true _ _ e))
-    ∙ ap (option_map (longer b)) (one_line line rest (second_true (not (b == 10)) _ e))
+    cc (not-true (b == 10) (first_true _ _ e), one_line line rest (second_true (not (b == 10)) _ e))
 
 -- the number in the line before a log of that many bytes
 size_of_word : (n : ℕ) → n < 2 ^ 64 → size_in (log_word n)
     ≡ cond (nat_le n most_bytes && bytes_eq (log_word n) (log_word n)) (Some n) None
-size_of_word n small =
-    let same : number_of (drop 4 (log_word n)) ≡ n = number_of_decimal n small in
-    ap (λ m. cond (nat_le m most_bytes && bytes_eq (log_word m) (log_word n)) (Some m) None) same
+size_of_word n small = grind (arith, small, number_of_decimal)
 
 pub size_within : (n : ℕ) (line : List ℕ) → n < 2 ^ 32 → line ≡ log_word n → n ≤ most_bytes
     → Some n ≡ size_in line
-size_within n line small is few = sym (ap size_in is ∙ size_of_word n (omega (arith, small))
-    ∙ ap (λ t. cond t (Some n) None)
-    (both_true _ _ (is_at_most n most_bytes few) (bytes_same (log_word n))))
+size_within n line small is few =
+    grind (arith, small, few, size_of_word, both_true, is_at_most, bytes_same)
 
 pub size_too_high : (n : ℕ) (line : List ℕ) → n < 2 ^ 32 → line ≡ log_word n → most_bytes < n
     → ◌≡◌ {A = Option ℕ} None (size_in line)
-size_too_high n line small is high = sym (ap size_in is ∙ size_of_word n (omega (arith, small))
-    ∙ ap (λ t. cond (t && bytes_eq (log_word n) (log_word n)) (Some n) None)
-    (isnt_at_most n most_bytes high))
+size_too_high n line small is high = grind (arith, small, size_of_word, isnt_at_most)
 
 -- where no line ends
 pub no_log : (place : ℕ) (bytes : List ℕ) → is_one_line bytes ≡ true → log_at place bytes ≡ None
-no_log place bytes e =
-    ap (λ o. elim o as (λ _. Option Span) [
-      | None ↦ None
-      | Some cut ↦ span_of
-          (place + length cut.line + 1) cut.rest (size_in cut.line)
-    ]) (no_line bytes e)
+no_log place bytes e = grind (arith, no_line)
 
 -- a line, and what stands after it
 behind_line : (place : ℕ) (bytes line rest : List ℕ) → is_one_line line ≡ true → bytes ≡ line
     ++ 10 ∷ rest
     → log_at place bytes ≡ span_of (place + length line + 1) rest (size_in line)
-behind_line place bytes line rest e is =
-    ap (log_at place) is
-    ∙ ap (λ o. elim o as (λ _. Option Span) [
-      | None ↦ None
-      | Some cut ↦ span_of
-          (place + length cut.line + 1) cut.rest (size_in cut.line)
-    ]) (one_line line rest e)
+behind_line place bytes line rest e is = grind (arith, one_line)
 
 pub no_size : (place : ℕ) (bytes line rest : List ℕ) → is_one_line line ≡ true → bytes ≡ line
     ++ 10 ∷ rest → None ≡ size_in line
     → log_at place bytes ≡ None
-no_size place bytes line rest e is none =
-    behind_line place bytes line rest e is ∙ ap (span_of (place + length line + 1) rest) (sym none)
+no_size place bytes line rest e is none = cc (behind_line place bytes line rest e is)
 
 pub too_long : (place size : ℕ) (bytes line rest : List ℕ) → is_one_line line ≡ true → bytes ≡ line
     ++ 10 ∷ rest → Some size ≡ size_in line
     → length rest < size → log_at place bytes ≡ None
 too_long place size bytes line rest e is some long =
-    behind_line place bytes line rest e is ∙ ap (span_of (place + length line + 1) rest) (sym some)
-    ∙ ap (λ t. cond (t && nat_le (place + length line + 1 + size) logs_end_within)
-    (Some (record { first = place + length line + 1; past = place + length line + 1 + size })) None)
-    (isnt_at_most size (length rest) long)
+    cc (behind_line place bytes line rest e is, isnt_at_most size (length rest) long)
 
 pub too_far : (place size : ℕ) (bytes line rest : List ℕ) → is_one_line line ≡ true → bytes ≡ line
     ++ 10 ∷ rest → Some size ≡ size_in line
     → logs_end_within < place + length line + 1 + size → log_at place bytes ≡ None
-too_far place size bytes line rest e is some far =
-    behind_line place bytes line rest e is ∙ ap (span_of (place + length line + 1) rest) (sym some)
-    ∙ by_size (nat_le size (length rest)) (nat_le (place + length line + 1 + size) logs_end_within)
-    (isnt_at_most _ logs_end_within far)
-  where
-    by_size : (a b : Bool) → b ≡ false
-        → cond {A = Option Span} (a && b)
-        (Some (record { first = place + length line + 1; past = place + length line + 1 + size }))
-        None ≡ None
-    by_size true b f =
-        ap (λ t. cond t
-        (Some (record { first = place + length line + 1; past = place + length line + 1 + size }))
-        None) f
-    by_size false b f = refl
+too_far place size bytes line rest e is some far = search (behind_line, isnt_at_most, arith)
 
 pub is_log : (place size : ℕ) (bytes line rest : List ℕ) → is_one_line line ≡ true → bytes ≡ line
     ++ 10 ∷ rest → Some size ≡ size_in line
@@ -123,8 +82,4 @@ pub behind_log : (place size : ℕ) (bytes line rest next : List ℕ) → bytes 
     → next ≡ drop size rest
     → next ≡ drop (place + length line + 1 + size - place) bytes
 behind_log place size bytes line rest next is behind =
-    let count : place + length line + 1 + size - place ≡ length line + (1 + size) = omega arith in
-    let one : drop (1 + size) (10 ∷ rest) ≡ drop size rest =
-    (let turned : 1 + size ≡ suc size = omega arith in ap (λ n. drop n (10 ∷ rest)) turned) in
-    behind ∙ sym (ap (λ n. drop n bytes) count ∙ ap (drop (length line + (1 + size))) is
-    ∙ drop-append-add line (10 ∷ rest) (1 + size) ∙ one)
+    grind (arith, drop-append-add line (10 ∷ rest) (1 + size))

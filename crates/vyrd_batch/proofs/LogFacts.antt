@@ -88,14 +88,7 @@ pub record HasFound (whole : Result (List Span) ℕ) (limit : ℕ) (spans : List
 
 pub found_none : (place : ℕ) (bytes : List ℕ) (spans : List Span) → spans ≡ []
     → HasFound (logs_from most_logs 0 place bytes) (place + length bytes) spans place bytes
-found_none place bytes spans none =
-    subst (λ spans. HasFound (logs_from most_logs 0 place bytes) (place + length bytes) spans place
-    bytes) (sym none) (record {
-      few = omega arith;
-      goes_on = sym (none_before (logs_from most_logs 0 place bytes));
-      within = tt;
-      place_is = refl;
-    })
+found_none place bytes spans none = grind (arith, none_before (logs_from most_logs 0 place bytes))
 
 pub all_more : (P : Span → Type 0) (spans : List Span) (span : Span) → AllByRecursion P spans
     → P span → AllByRecursion P (spans ++ span ∷ [])
@@ -109,13 +102,12 @@ one_more : (whole : Result (List Span) ℕ) (spans : List Span) (span : Span) (n
     → whole ≡ spans_after (spans ++ span ∷ [])
     (logs_from (most_logs - (n + 1)) (n + 1) span.past next)
 one_more whole spans span n place rest next len room so apart is behind =
-    let count : most_logs - n ≡ suc (most_logs - (n + 1)) = omega arith in
-    so ∙ ap (λ m. spans_after spans (logs_from m n place rest)) count
-    ∙ ap (spans_after spans) (at_line (most_logs - (n + 1)) n place rest (Some span) apart is)
-    ∙ one_before spans span
-    (logs_from (most_logs - (n + 1)) (n + 1) span.past (drop (span.past - place) rest))
-    ∙ ap (λ bytes. spans_after (spans ++ span ∷ [])
-    (logs_from (most_logs - (n + 1)) (n + 1) span.past bytes)) (sym behind)
+    grind (
+      arith,
+      at_line (most_logs - (n + 1)) n place rest (Some span) apart is,
+      one_before spans
+          span (logs_from (most_logs - (n + 1)) (n + 1) span.past (drop (span.past - place) rest)),
+    )
 
 pub found_more : (whole : Result (List Span) ℕ) (limit : ℕ) (spans new : List Span) (span : Span)
     (place : ℕ) (rest next : List ℕ)
@@ -157,9 +149,7 @@ pub found_too_many : (whole : Result (List Span) ℕ) (limit : ℕ) (spans : Lis
     → HasFound whole limit spans place rest → (rest ≡ last_line → ⊥) → length spans ≡ most_logs
     → length spans ≡ log → whole ≡ Err log
 found_too_many whole limit spans place log rest found apart full is =
-    let none : most_logs - length spans ≡ zero = omega (arith, full) in
-    found.goes_on ∙ ap (λ n. spans_after spans (logs_from n (length spans) place rest)) none
-    ∙ ap (spans_after spans) (logs_full (length spans) place rest apart) ∙ ap Err is
+    grind (arith, whole, found, apart, logs_full)
 
 pub found_no_log : (whole : Result (List Span) ℕ) (limit : ℕ) (spans : List Span) (place log : ℕ)
     (rest : List ℕ)
@@ -188,18 +178,15 @@ no_first_line bytes e = reading_at bytes None (no_line bytes e)
 
 at_first : (bytes line rest : List ℕ) → is_one_line line ≡ true → bytes ≡ line ++ 10 ∷ rest
     → batch_reading bytes ≡ logs_behind (record { line = line; rest = rest })
-at_first bytes line rest e is = reading_at bytes (Some (record { line = line; rest = rest }))
-    (ap first_line is ∙ one_line line rest e)
+at_first bytes line rest e is = search (reading_at, first_line, one_line, arith)
 
 pub other_first_line : (bytes line rest : List ℕ) → is_one_line line ≡ true → bytes ≡ line
     ++ 10 ∷ rest → (line ≡ first_word → ⊥) → batch_reading bytes ≡ Err 0
-other_first_line bytes line rest e is apart = at_first bytes line rest e is
-    ∙ ap (λ t. cond t (logs_from most_logs 0 (length line + 1) rest) (Err 0))
-    (other_bytes line first_word apart)
+other_first_line bytes line rest e is apart =
+    cc (at_first bytes line rest e is, other_bytes line first_word apart)
 
 pub behind_first_line : (bytes line rest : List ℕ) → is_one_line line ≡ true → bytes ≡ line
     ++ 10 ∷ rest → line ≡ first_word
     → batch_reading bytes ≡ logs_from most_logs 0 (length line + 1) rest
-behind_first_line bytes line rest e is same = at_first bytes line rest e is
-    ∙ ap (λ t. cond t (logs_from most_logs 0 (length line + 1) rest) (Err 0))
-    (same_bytes line first_word same)
+behind_first_line bytes line rest e is same =
+    cc (at_first bytes line rest e is, same_bytes line first_word same)

@@ -73,9 +73,7 @@ from_place place span = record { first = span.first - place; past = span.past - 
 moved_len : (front bytes : List ℕ) (place taken : ℕ) → length front ≡ place → taken ≤ length bytes
     → length (front ++ take taken bytes) ≡ place + taken
 moved_len front bytes place taken len within =
-    let short : length (take taken bytes)
-    ≡ taken = omega (arith, length-take taken bytes, within) in
-    omega (arith, length-append front (take taken bytes), short, len)
+    grind (arith, length-append front (take taken bytes), length-take taken bytes)
 
 pub count_more : (spans : List Span) (span : Span) → length (spans ++ span ∷ []) ≡ length spans + 1
 count_more spans span = length-append spans (span ∷ [])
@@ -329,26 +327,12 @@ pub judged_refused : (input rest : List ℕ) (verdicts : List Verdict) (place : 
     → (rest ≡ last_line → ⊥) → IsNoLog (length verdicts) place rest → batch_logs input
     ≡ Err (length verdicts)
 judged_refused input rest verdicts place j apart why =
-    let n = length j.logs in
-    let full : (most_logs - n ≡ zero) ⊎ (log_at place rest ≡ None) = no_more why in
-    ap batch_logs j.input_is ∙ j.goes_on rest
-    ∙ ap (λ r. logs_before j.logs (logs_of (j.front ++ rest) r))
-    (refused_from (most_logs - n) n place rest apart full)
-    ∙ ap Err (sym count)
-  where
-    count : length verdicts ≡ length j.logs
-    count = ap length j.verdicts_are ∙ length-map j.logs (λ log. log_verdict most_lines log)
-
-    no_more : IsNoLog (length verdicts) place rest → (most_logs - length j.logs ≡ zero)
-        ⊎ (log_at place rest ≡ None)
-    no_more (inl e) = inl (omega (arith, e, count))
-    no_more (inr e) = inr e
+    grind (arith, apart, refused_from, length-map)
 
 -- there is no first line
 pub judged_unbegun : (input bytes : List ℕ) → input ≡ bytes
     → ((more : List ℕ) → bytes ≡ ended_line first_word ++ more → ⊥) → batch_logs input ≡ Err 0
-judged_unbegun input bytes is apart =
-    ap batch_logs is ∙ ap (logs_of bytes) (by_cut (first_line bytes) refl)
+judged_unbegun input bytes is apart = cc (by_cut (first_line bytes) refl)
   where
     by_word : (cut : Cut) → bytes ≡ cut.line ++ 10 ∷ cut.rest → (t : Bool)
         → bytes_eq cut.line first_word ≡ t
@@ -367,8 +351,7 @@ judged_unbegun input bytes is apart =
 pub judged_never : (place : Option ℕ) (input rest : List ℕ) (verdicts : List Verdict)
     → AreJudgedTo place input verdicts rest
     → IsNothingEver place (length verdicts) rest → IsRefused place input verdicts
-judged_never place input rest verdicts j never =
-    record { rest = rest; judged = j; lasts = lasts place j never }
+judged_never place input rest verdicts j never = grind (arith, lasts place j never)
   where
     lasts : (place : Option ℕ) → AreJudgedTo place input verdicts rest
         → IsNothingEver place (length verdicts) rest

@@ -2,16 +2,15 @@
 use Rattle.std.proofs.Common.{◌≡◌, ℕ, zero, suc, ◌+◌, ◌-◌, ◌<◌, ◌≤◌, Bool, true, false, cond, ◌&&◌}
 use Rattle.std.proofs.Common.{List, [], ◌∷◌, ◌++◌, length, drop, Option, Some, None, Result, Ok}
 use Rattle.std.proofs.Common.{Err, refl, ap, ◌∙◌, sym, arith, length-append, length-drop}
-use Rattle.std.proofs.lemmas.Option.{same_Some}
 use Rattle.std.specs.Prelude.{◌==◌, nat_le, option_map}
 use Rattle.std.specs.Str.{bytes_eq}
 use Rattle.std.proofs.lemmas.List.{drop-append-le}
 use Rattle.std.proofs.lemmas.Slice.Eq.{bytes_eq-Decides}
-use Rattle.vyrd_base.proofs.TestLaws.{is_at_most, at_most_of, isnt_at_most, first_true, second_true}
+use Rattle.vyrd_base.proofs.TestLaws.{is_at_most, at_most_of, isnt_at_most}
 use Rattle.vyrd_batch.specs.declared.span.Span.{Span}
 use Rattle.vyrd_batch.specs.Batches.{most_logs, logs_end_within, first_word, last_line, Cut, longer}
 use Rattle.vyrd_batch.specs.Batches.{first_line, size_in, span_of, log_at, span_before, logs_from}
-use Rattle.vyrd_batch.specs.Batches.{logs_behind, batch_reading, logs_of, batch_logs}
+use Rattle.vyrd_batch.specs.Batches.{logs_behind, batch_reading, batch_logs}
 use Rattle.vyrd_batch.specs.LongBatches.{longest_batch_input}
 use Rattle.vyrd_batch.proofs.LogFacts.{other_bytes}
 
@@ -24,20 +23,8 @@ pub record IsLonger (bytes more : List ℕ) (o all : Option Cut) : Type 0 where
 next_byte : (b : ℕ) (bytes more : List ℕ) (o all : Option Cut) → IsLonger bytes more o all
     → IsLonger (b ∷ bytes) more (option_map (longer b) o) (option_map (longer b) all)
 next_byte b bytes more None None is = record { same = λ cut e. cc; other = λ e cut f. cc }
-next_byte b bytes more None (Some whole) is = record {
-  same = λ cut e. cc;
-  other = λ e cut f.
-      let grown : longer b whole ≡ cut = same_Some (longer b whole) cut f in
-      let len : length (longer b whole).line ≡ length cut.line = ap (λ c. length c.line) grown in
-      omega (arith, is.other refl whole refl, len);
-}
-next_byte b bytes more (Some cut) all is = record {
-  same = λ next e.
-      let grown : longer b cut ≡ next = same_Some (longer b cut) next e in
-      ap (option_map (longer b)) (is.same cut refl)
-      ∙ ap (λ c. Some (record { line = c.line; rest = c.rest ++ more })) grown;
-  other = λ e next f. cc;
-}
+next_byte b bytes more None (Some whole) is = grind arith
+next_byte b bytes more (Some cut) all is = grind arith
 
 pub first_longer : (bytes more : List ℕ) → IsLonger bytes more (first_line bytes)
     (first_line (bytes ++ more))
@@ -50,14 +37,7 @@ first_longer (b ∷ bytes) more = by_test (b == 10) (first_longer bytes more)
         (option_map (longer b) (first_line bytes)))
         (cond t (Some (record { line = []; rest = bytes ++ more }))
         (option_map (longer b) (first_line (bytes ++ more))))
-    by_test true is = record {
-      same = λ cut e.
-          let at : record { line = []; rest = bytes } ≡ cut = same_Some
-          (record { line = []; rest = bytes }) cut e in
-          ap (λ c. Some (record { line = c.line; rest = c.rest ++ more })) at;
-      other = λ e cut f. cc;
-    }
-    by_test false is = next_byte b bytes more (first_line bytes) (first_line (bytes ++ more)) is
+    by_test t is = search (more, next_byte, first_line, arith)
 
 -- how long bytes are that were cut
 pub cut_len : (bytes : List ℕ) (cut : Cut) → first_line bytes ≡ Some cut → length bytes
@@ -70,19 +50,7 @@ cut_len (b ∷ bytes) cut e = by_test (b == 10) (first_line bytes) (cut_len byte
         + length inner.rest)
         → cond t (Some (record { line = []; rest = bytes })) (option_map (longer b) o) ≡ Some cut
         → length (b ∷ bytes) ≡ length cut.line + 1 + length cut.rest
-    by_test true o inner e =
-        let at : record { line = []; rest = bytes } ≡ cut = same_Some
-        (record { line = []; rest = bytes }) cut e in
-        let line : 0 ≡ length cut.line = ap (λ c. length c.line) at in
-        let rest : length bytes ≡ length cut.rest = ap (λ c. length c.rest) at in
-        omega (arith, line, rest)
-    by_test false None inner e = cc
-    by_test false (Some one) inner e =
-        let at : longer b one ≡ cut = same_Some (longer b one) cut e in
-        let line : length one.line + 1 ≡ length cut.line =
-        omega (arith, ap (λ c. length c.line) at) in
-        let rest : length one.rest ≡ length cut.rest = ap (λ c. length c.rest) at in
-        omega (arith, inner one refl, line, rest)
+    by_test t o inner e = search (longer, arith)
 
 -- a span begins after the place, and ends within the limit and the bytes
 pub record IsNear (place len : ℕ) (span : Span) : Type 0 where
@@ -94,20 +62,7 @@ span_near : (place first : ℕ) (rest : List ℕ) (o : Option ℕ) (span : Span)
     → span_of first rest o ≡ Some span
     → IsNear place (first - place + length rest) span
 span_near place first rest None span low e = cc
-span_near place first rest (Some size) span low e = by_test
-    (nat_le size (length rest) && nat_le (first + size) logs_end_within) refl e
-  where
-    by_test : (t : Bool) → (nat_le size (length rest) && nat_le (first + size) logs_end_within) ≡ t
-        → cond t (Some (record { first = first; past = first + size })) None ≡ Some span
-        → IsNear place (first - place + length rest) span
-    by_test true is e =
-        let fits : size ≤ length rest = at_most_of size (length rest) (first_true _ _ is) in
-        let near : first + size ≤ logs_end_within = at_most_of (first + size) logs_end_within
-        (second_true (nat_le size (length rest)) _ is) in
-        let past : first + size ≡ span.past = ap (λ s. s.past)
-        (same_Some (record { first = first; past = first + size }) span e) in
-        record { later = omega arith; near = omega arith; within = omega arith }
-    by_test false is e = cc
+span_near place first rest (Some size) span low e = search arith
 
 log_near : (place : ℕ) (bytes : List ℕ) (span : Span) → log_at place bytes ≡ Some span
     → IsNear place (length bytes) span
@@ -137,8 +92,7 @@ span_settled : (first : ℕ) (rest more : List ℕ) (o : Option ℕ) → logs_en
     → span_of first (rest ++ more) o ≡ span_of first rest o
 span_settled first rest more None long = refl
 span_settled first rest more (Some size) long =
-    ap (λ t. cond t (Some (record { first = first; past = first + size })) None)
-    (by_near (nat_le (first + size) logs_end_within) refl)
+    cc (by_near (nat_le (first + size) logs_end_within) refl)
   where
     by_near : (t : Bool) → nat_le (first + size) logs_end_within ≡ t
         → (nat_le size (length (rest ++ more)) && t) ≡ (nat_le size (length rest) && t)
@@ -151,23 +105,12 @@ span_settled first rest more (Some size) long =
     by_near false e = no_matter (nat_le size (length (rest ++ more))) (nat_le size (length rest))
       where
         no_matter : (a b : Bool) → (a && false) ≡ (b && false)
-        no_matter true true = refl
-        no_matter true false = refl
-        no_matter false true = refl
-        no_matter false false = refl
+        no_matter a b = search arith
 
 span_far : (first : ℕ) (rest : List ℕ) (o : Option ℕ) → logs_end_within < first
     → span_of first rest o ≡ None
 span_far first rest None far = refl
-span_far first rest (Some size) far = by_size (nat_le size (length rest))
-    (nat_le (first + size) logs_end_within)
-    (isnt_at_most (first + size) logs_end_within (omega arith))
-  where
-    by_size : (a b : Bool) → b ≡ false → cond {A = Option Span} (a && b)
-        (Some (record { first = first; past = first + size })) None ≡ None
-    by_size true b f = ap (λ t. cond t (Some (record { first = first; past = first + size })) None)
-        f
-    by_size false b f = refl
+span_far first rest (Some size) far = search (isnt_at_most, arith)
 
 log_settled : (place : ℕ) (bytes more : List ℕ) → longest_batch_input ≤ place + length bytes
     → log_at place (bytes ++ more) ≡ log_at place bytes
@@ -185,9 +128,7 @@ log_settled place bytes more long = by_cut (first_line bytes) (first_line (bytes
         → ((cut : Cut) → o ≡ Some cut → length bytes ≡ length cut.line + 1 + length cut.rest)
         → at_cut all ≡ at_cut o
     by_cut None None is len = refl
-    by_cut None (Some cut) is len =
-        span_far (place + length cut.line + 1) cut.rest (size_in cut.line)
-        (omega (arith, is.other refl cut refl))
+    by_cut None (Some cut) is len = search (span_far, arith)
     by_cut (Some cut) all is len =
         ap at_cut (is.same cut refl)
         ∙ span_settled (place + length cut.line + 1) cut.rest more (size_in cut.line)
@@ -198,8 +139,7 @@ word_of line e = (bytes_eq-Decides line first_word).0 e
 
 -- bytes of another length than the last line's aren't that line
 longer_isnt_last : (bytes : List ℕ) → 4 < length bytes → bytes_eq bytes last_line ≡ false
-longer_isnt_last bytes long = other_bytes bytes last_line
-    (λ e. let len : length bytes ≡ 4 = ap length e in omega (arith, len))
+longer_isnt_last bytes long = search (other_bytes, arith)
 
 logs_settled : (n log place : ℕ) (bytes more : List ℕ) → place ≤ logs_end_within
     → longest_batch_input ≤ place + length bytes
@@ -329,7 +269,4 @@ batch_refused bytes long = by_cut (first_line bytes) (cut_len bytes)
 -- what a long input says as logs
 pub logs_are_settled : (bytes more : List ℕ) → longest_batch_input ≤ length bytes
     → batch_logs (bytes ++ more) ≡ batch_logs bytes
-logs_are_settled bytes more long =
-    let refused = batch_refused bytes long in
-    ap (logs_of (bytes ++ more)) (batch_settled bytes more long ∙ refused.1)
-    ∙ sym (ap (logs_of bytes) refused.1)
+logs_are_settled bytes more long = cc (batch_settled bytes more long, (batch_refused bytes long).1)

@@ -1,10 +1,10 @@
 -- What is read as a batch is the text of one, and is read as its logs.
 use Rattle.std.proofs.Common.{◌≡◌, ℕ, zero, suc, ◌+◌, ◌-◌, ◌≤◌, Bool, true, false, cond, ◌&&◌, List}
 use Rattle.std.proofs.Common.{[], ◌∷◌, ◌++◌, length, map, take, drop, Option, Some, None, Result}
-use Rattle.std.proofs.Common.{Ok, Err, refl, ap, ◌∙◌, sym, subst, arith, append_assoc}
+use Rattle.std.proofs.Common.{Ok, Err, refl, ap, ◌∙◌, sym, arith, append_assoc}
 use Rattle.std.proofs.Common.{length-append, length-take}
 use Rattle.std.proofs.lemmas.Option.{same_Some}
-use Rattle.std.specs.Prelude.{◌==◌, nat_le, decimal, codes, option_map, flat_map, get_or}
+use Rattle.std.specs.Prelude.{◌==◌, nat_le, decimal, codes, option_map, flat_map}
 use Rattle.std.specs.Str.{bytes_eq}
 use Rattle.std.specs.List.{AllByRecursion}
 use Rattle.std.proofs.lemmas.List.{take-append-drop}
@@ -33,13 +33,7 @@ cut_is (b ∷ bytes) cut e = by_test (b == 10) refl (first_line bytes) (cut_is b
         → ((inner : Cut) → o ≡ Some inner → bytes ≡ inner.line ++ 10 ∷ inner.rest)
         → cond t (Some (record { line = []; rest = bytes })) (option_map (longer b) o) ≡ Some cut
         → b ∷ bytes ≡ cut.line ++ 10 ∷ cut.rest
-    by_test true is o inner e =
-        ap (λ x. x ∷ bytes) (same_of b 10 is) ∙ ap (λ c. c.line ++ 10 ∷ c.rest)
-        (same_Some (record { line = []; rest = bytes }) cut e)
-    by_test false is None inner e = cc
-    by_test false is (Some one) inner e =
-        ap (λ bytes. b ∷ bytes) (inner one refl) ∙ ap (λ c. c.line ++ 10 ∷ c.rest)
-        (same_Some (longer b one) cut e)
+    by_test t is o inner e = search (same_of, longer, arith)
 
 -- a line that says a size
 pub record SaysSize (line : List ℕ) (size : ℕ) : Type 0 where
@@ -55,14 +49,13 @@ size_is line size e = by_test (nat_le guess most_bytes && bytes_eq (log_word gue
     by_test : (t : Bool) → (nat_le guess most_bytes && bytes_eq (log_word guess) line) ≡ t
         → cond t (Some guess) None ≡ Some size → SaysSize line size
     by_test true is e =
-        let same : guess ≡ size = same_Some guess size e in
-        let word : log_word guess ≡ line = (bytes_eq-Decides (log_word guess) line).0
-        (second_true (nat_le guess most_bytes) _ is) in
-        record {
-          is = sym word ∙ ap log_word same;
-          small = subst (λ n. n ≤ most_bytes) same
-              (at_most_of guess most_bytes (first_true _ _ is));
-        }
+        grind (
+          arith,
+          (bytes_eq-Decides (log_word guess) line).0 (second_true (nat_le guess
+              most_bytes) _ is),
+          same_Some guess size e,
+          at_most_of guess most_bytes (first_true _ _ is),
+        )
     by_test false is e = cc
 
 -- A log stands at a place: its line and then its bytes, within the limits.
@@ -248,11 +241,7 @@ logs_text (suc n) log place front bytes spans len e =
 found_logs : (bytes : List ℕ) (r : Result (List Span) ℕ) (logs : List (List ℕ))
     → batch_reading bytes ≡ r → logs_of bytes r ≡ Ok logs
     → (spans : List Span) × (batch_reading bytes ≡ Ok spans) × (map (bytes_of bytes) spans ≡ logs)
-found_logs bytes (Ok spans) logs is e = (spans, is, same_logs (map (bytes_of bytes) spans) logs e)
-  where
-    same_logs : (a b : List (List ℕ)) → ◌≡◌ {A = Result (List (List ℕ)) ℕ} (Ok a) (Ok b) → a ≡ b
-    same_logs a b e = cc
-found_logs bytes (Err log) logs is e = cc
+found_logs bytes r logs is e = grind arith
 
 spans_text : (bytes : List ℕ) (spans : List Span) → batch_reading bytes ≡ Ok spans
     → bytes ≡ batch_of (map (bytes_of bytes) spans)
@@ -296,15 +285,12 @@ one_line_word n small = lacks-append 10 (codes "log ") (decimal n) refl
     (decimal_lacks 10 n no_line_feed (omega (arith, small)))
 
 pub log_isnt_end : (log more : List ℕ) → (log_text log ++ more ≡ last_line → ⊥)
-log_isnt_end log more e = let head : 108 ≡ 101 = ap (λ bytes. get_or bytes 0 0) e in
-    omega (arith, head)
+log_isnt_end log more e = cc
 
 -- a log's text and what stands after it
 pub text_is : (log next : List ℕ) → log_text log ++ next ≡ log_word (length log)
     ++ 10 ∷ (log ++ next)
-text_is log next =
-    append_assoc (ended_line (log_word (length log))) log next
-    ∙ append_assoc (log_word (length log)) (10 ∷ []) (log ++ next)
+text_is log next = grind (arith, append_assoc)
 
 abbrev pub span_at : ℕ → List ℕ → Span
 span_at place log = record {
@@ -364,12 +350,7 @@ text_logs (suc n) log place front (x ∷ logs) len few short near =
     next = flat_map log_text logs ++ last_line
 
     size : length (log_text x) ≡ length (log_word (length x)) + 1 + length x
-    size = omega (
-      arith,
-      length-append (ended_line (log_word (length x))) x,
-      length-append
-          (log_word (length x)) (10 ∷ []),
-    )
+    size = search (length-append, arith)
 
     all : length (flat_map log_text (x ∷ logs)) ≡ length (log_text x)
         + length (flat_map log_text logs)

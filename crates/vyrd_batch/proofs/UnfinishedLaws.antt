@@ -52,9 +52,7 @@ never_first log bytes (Some rest) front e nothing = cc
 pub short_front : (most : ℕ) (word bytes : List ℕ) (o : Option (Bor (List ℕ))) → length word ≤ most
     → TellsFront word bytes o → is_some o ≡ true
     → length bytes ≤ most
-short_front most word bytes None small apart e = cc
-short_front most word bytes (Some rest) small front e =
-    omega (arith, small, ap length front, length-append bytes rest.now)
+short_front most word bytes o small apart e = grind (arith, small, apart, length-append)
 
 -- what a line that says a size is like
 pub record SaysFew (line : List ℕ) (size : ℕ) : Type 0 where
@@ -83,11 +81,7 @@ says_few line size e = by_test (nat_le n most_bytes && bytes_eq (log_word n) lin
 
 -- a long line says no size
 long_line : (line : List ℕ) → longest_line < length line → size_in line ≡ None
-long_line line long = by_size (size_in line) refl
-  where
-    by_size : (o : Option ℕ) → size_in line ≡ o → o ≡ None
-    by_size None e = refl
-    by_size (Some size) e = absurd (omega (arith, long, (says_few line size (sym e)).short))
+long_line line long = grind (arith, long, says_few)
 
 -- no log comes of bytes that are longer than the line before a log, and have no line feed
 pub never_ended : (place : ℕ) (bytes : List ℕ) → first_line bytes ≡ None
@@ -104,10 +98,7 @@ never_ended place bytes none long more = by_cut (first_line (bytes ++ more))
     ]
 
     by_cut : (all : Option Cut) → IsLonger bytes more (first_line bytes) all → at_cut all ≡ None
-    by_cut None is = refl
-    by_cut (Some cut) is =
-        ap (span_of (place + length cut.line + 1) cut.rest)
-        (long_line cut.line (omega (arith, long, is.other none cut refl)))
+    by_cut all is = search (long_line, long, arith)
 
 pub never_a_line : (place : ℕ) (bytes : List ℕ) → is_one_line bytes ≡ true
     → longest_line < length bytes
@@ -118,19 +109,11 @@ never_a_line place bytes e = never_ended place bytes (no_line bytes e)
 pub never_sized : (place : ℕ) (bytes : List ℕ) (cut : Cut) → first_line bytes ≡ Some cut
     → size_in cut.line ≡ None
     → (more : List ℕ) → log_at place (bytes ++ more) ≡ None
-never_sized place bytes cut is none more =
-    ap (λ o. elim o as (λ _. Option Span) [
-      | None ↦ None
-      | Some cut ↦ span_of
-          (place + length cut.line + 1) cut.rest (size_in cut.line)
-    ])
-    ((first_longer bytes more).same cut is)
-    ∙ ap (span_of (place + length cut.line + 1) (cut.rest ++ more)) none
+never_sized place bytes cut is none more = cc ((first_longer bytes more).same cut is)
 
 longer_is : (bytes line rest more : List ℕ) → bytes ≡ line ++ 10 ∷ rest → bytes ++ more ≡ line
     ++ 10 ∷ (rest ++ more)
-longer_is bytes line rest more is = ap (λ bytes. bytes ++ more) is
-    ∙ append_assoc line (10 ∷ rest) more
+longer_is bytes line rest more is = cc (append_assoc line (10 ∷ rest) more)
 
 -- none comes of bytes whose first line says no size
 pub never_a_size : (place : ℕ) (bytes line rest : List ℕ) → is_one_line line ≡ true → bytes ≡ line

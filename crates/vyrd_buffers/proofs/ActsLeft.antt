@@ -1,8 +1,8 @@
 -- At each place but the last an act is left.
-use Rattle.std.proofs.Common.{◌≡◌, ℕ, zero, suc, ◌+◌, ◌-◌, false, List, [], ◌∷◌, refl}
-use Rattle.std.specs.Prelude.{◌≢◌, drop}
+use Rattle.std.proofs.Common.{◌≡◌, ℕ, zero, suc, ◌-◌, false, List, [], ◌∷◌, refl}
+use Rattle.std.specs.Prelude.{◌≢◌}
 use Rattle.vyrd_base.specs.declared.header.Header.{Header}
-use Rattle.vyrd_memory.specs.Scripts.{Script, next_act, returns}
+use Rattle.vyrd_memory.specs.Scripts.{Script, next_act}
 use Rattle.vyrd_memory.specs.Turns.{is_done}
 use Rattle.vyrd_buffers.specs.declared.place.Place.{Place}
 use Rattle.vyrd_buffers.specs.declared.place.Place.TheVariants.{Look, Append, Change, Read, Count}
@@ -18,11 +18,9 @@ use Rattle.vyrd_buffers.specs.declared.place.Counting.TheVariants as counting
 use Rattle.vyrd_buffers.specs.declared.place.Joining.{Joining}
 use Rattle.vyrd_buffers.specs.declared.place.Joining.TheVariants as joining
 use Rattle.vyrd_buffers.specs.declared.task.Task.{Task}
-use Rattle.vyrd_buffers.specs.Procedures.{commit_count, load_from, store_from, read_from}
-use Rattle.vyrd_buffers.specs.Procedures.{unlock_both, append_held}
-use Rattle.vyrd_buffers.specs.Rests.Loaded.{held_of}
-use Rattle.vyrd_buffers.specs.Rests.{counted_for, looking_rest, appending_rest, changing_rest}
-use Rattle.vyrd_buffers.specs.Rests.{counting_rest, first_of, second_of, joining_rest, rest_at}
+use Rattle.vyrd_buffers.specs.Procedures.{load_from, store_from, read_from}
+use Rattle.vyrd_buffers.specs.Rests.{looking_rest, appending_rest, changing_rest}
+use Rattle.vyrd_buffers.specs.Rests.{counting_rest, joining_rest, rest_at}
 
 -- with no character left to read the buffer is unlocked
 reading : (h : Header) (left b i text : ℕ) → is_done (next_act (read_from h left b i text)) ≡ false
@@ -71,13 +69,8 @@ at_counting h task (counting.LoadCountAlone more) = refl
 
 at_joining : (h : Header) (task : Task) (place : Joining)
     → is_done (next_act (joining_rest h task place)) ≡ false
-at_joining h task (joining.Load count held) =
-    loading (held.of - held.loaded) task.x held.loaded (held_of held)
-    (append_held h (first_of task) (second_of task) task.b count held.of) (λ all. refl)
-at_joining h task (joining.Store count held stored) =
-    storing (drop stored (held_of held)) task.b (count + stored)
-    (commit_count task.b (count + held.of)
-    (unlock_both h (first_of task) (second_of task) (returns 1))) refl
+at_joining h task (joining.Load count held) = simp (loading, held, count)
+at_joining h task (joining.Store count held stored) = simp (storing, held, count)
 at_joining h task joining.Close = refl
 at_joining h task joining.Refuse = refl
 at_joining h task (joining.UnlockOther reply) = refl
@@ -85,8 +78,7 @@ at_joining h task (joining.Unlock reply) = refl
 
 pub act_is_left : (h : Header) (task : Task) (place : Place) → place ≢ Over
     → is_done (next_act (rest_at h task place)) ≡ false
-act_is_left h task (Look purpose place) isnt =
-    at_looking h task.b (counted_for h task purpose) place
+act_is_left h task (Look purpose place) isnt = simp (at_looking)
 act_is_left h task (Append count place) isnt = at_appending h task count place
 act_is_left h task (Change count place) isnt = at_changing h task.b count place
 act_is_left h task (Read text) isnt = reading h (text.of - text.read) task.b text.read text.number

@@ -1,22 +1,22 @@
 -- When an operation gives up, by what the specification allows.
-use Rattle.std.proofs.Common.{◌≡◌, ℕ, zero, suc, ◌+◌, ◌<◌, ◌≤◌, Bool, true, false, not, Option}
-use Rattle.std.proofs.Common.{Some, None, refl, ap, ◌∙◌, sym, subst, arith}
+use Rattle.std.proofs.Common.{◌≡◌, ℕ, zero, suc, ◌+◌, ◌<◌, ◌≤◌, Bool, false, not}
+use Rattle.std.proofs.Common.{Some, refl, ap, ◌∙◌, sym, arith}
 use Rattle.std.specs.Prelude.{IsSome, nat_le}
 use Rattle.std.specs.Bool.{then_some}
 use Rattle.std.proofs.lemmas.Bool.Decides.{nat_tests}
 use Rattle.vyrd_base.specs.declared.header.Header.{Header}
 use Rattle.vyrd_base.specs.declared.subject.Subject.TheVariants.{Buffers}
 use Rattle.vyrd_base.specs.declared.subject.Method.TheVariants.{Buffers as OfBuffers}
-use Rattle.vyrd_base.specs.declared.buffers.BuffersMethod.TheVariants.{Append, AppendFrom, Cut}
-use Rattle.vyrd_base.specs.Amounts.{Amounts, amount_of, with_amount}
-use Rattle.vyrd_base.specs.Buffers.{text_length, has_room, joined}
+use Rattle.vyrd_base.specs.declared.buffers.BuffersMethod.TheVariants.{Append, AppendFrom}
+use Rattle.vyrd_base.specs.Amounts.{Amounts, amount_of}
+use Rattle.vyrd_base.specs.Buffers.{text_length, has_room}
 use Rattle.vyrd_base.specs.Buffers.{after_append}
 use Rattle.vyrd_base.proofs.TextLaws.{length_at_most, one_character}
 use Rattle.vyrd_base.proofs.ListLaws.{none_isnt_some}
 use Rattle.vyrd_memory.specs.declared.op.Op.{Op}
 use Rattle.vyrd_memory.specs.declared.op.Variant.TheVariants.{Correct}
 use Rattle.vyrd_memory.specs.Scripts.{Script}
-use Rattle.vyrd_memory.specs.Alone.{Memory, state_in, alone, GivesUpWhere, state_after}
+use Rattle.vyrd_memory.specs.Alone.{Memory, state_in, alone, GivesUpWhere}
 use Rattle.vyrd_memory.specs.Alone.{MeetsSpecification}
 use Rattle.vyrd_memory.proofs.Memories.{represents}
 use Rattle.vyrd_buffers.specs.Procedures.{append, append_from, cut}
@@ -30,22 +30,15 @@ without_room : (state : Amounts) (b more : ℕ) → IsSome (after_append 0 state
 without_room state b more some = by_room (has_room (amount_of state b) more) some
   where
     by_room : (room : Bool) → IsSome (then_some (not room) state) → room ≡ false
-    by_room true some = absurd (none_isnt_some {A = Amounts} None refl some)
-    by_room false some = refl
+    by_room room some = search (none_isnt_some, arith)
 
 only_zero : (reply : ℕ) (state : Amounts) (b more : ℕ) → has_room (amount_of state b) more ≡ false
     → IsSome (after_append reply state b more)
     → reply ≡ 0
 only_zero zero state b more full some = refl
-only_zero (suc zero) state b more full some =
-    absurd (none_isnt_some
-    (then_some (has_room (amount_of state b) more)
-    (with_amount state b (joined (amount_of state b) more)))
-    (ap (λ room. then_some room (with_amount state b (joined (amount_of state b) more))) full) some)
-only_zero (suc (suc zero)) state b more full some = absurd
-    (none_isnt_some {A = Amounts} None refl some)
-only_zero (suc (suc (suc reply))) state b more full some = absurd
-    (none_isnt_some {A = Amounts} None refl some)
+only_zero (suc zero) state b more full some = cc
+only_zero (suc (suc zero)) state b more full some = search (none_isnt_some, arith)
+only_zero (suc (suc (suc reply))) state b more full some = search (none_isnt_some, arith)
 
 -- so it gives up exactly when there is no room
 append_meets : (h : Header) (op : Op) (script : Script) (c : ℕ) (memory : Memory) (state : Amounts)
@@ -55,14 +48,7 @@ append_meets : (h : Header) (op : Op) (script : Script) (c : ℕ) (memory : Memo
     → (P → has_room (amount_of state b) more ≡ false)
     → GivesUpWhere P (alone c script memory)
 append_meets h op script c memory state b more says m P to from =
-    subst (GivesUpWhere P) (sym m.ends) (
-      (λ none. to (without_room state b more
-          (subst (λ reply. IsSome (after_append reply state b more)) none some))),
-      (λ p. only_zero m.outcome.reply state b more (from p) some),
-    )
-  where
-    some : IsSome (after_append m.outcome.reply state b more)
-    some = subst (λ (o : Option Amounts). IsSome o) (m.after ∙ says m.outcome.reply) m.goes_on
+    grind (arith, more, without_room, only_zero)
 
 full_length : (text x : ℕ) → x < 255 → has_room text (x + 1) ≡ nat_le (text_length text + 1) 7
 full_length text x low = ap (λ n. nat_le (text_length text + n) 7) (one_character x low)
@@ -102,16 +88,5 @@ append_from_gives_up h memory state c b s is low low_s e =
 pub cut_never_gives_up : (h : Header) (memory : Memory) (state : Amounts) (c b n : ℕ)
     → h.subject ≡ Buffers → b < h.size → state_in h memory ≡ Some state
     → GivesUpWhere ⊥ (alone c (cut h b n) memory)
-cut_never_gives_up h memory state c b n is low e = subst (GivesUpWhere ⊥) (sym m.ends)
-    (refuses, λ none. absurd none)
-  where
-    op : Op
-    op = record { method = OfBuffers Cut; args = record { a = b; b = n; c = 0 } }
-
-    m : MeetsSpecification h op (cut h b n) c memory state
-    m = cut_alone h op c b n memory state is (represents h memory state e) low refl
-
-    refuses : m.outcome.reply ≡ 0 → ⊥
-    refuses none =
-        none_isnt_some (state_in h m.outcome.memory) (m.after
-        ∙ ap (λ reply. state_after false op reply state) none) m.goes_on
+cut_never_gives_up h memory state c b n is low e =
+    grind (arith, cut_alone, represents, none_isnt_some)

@@ -1,7 +1,7 @@
 -- What a step needs: what holds at a place, cells that are below 2^32, and what is left after a
 -- character.
 use Rattle.std.proofs.Common.{◌≡◌, ℕ, suc, ◌+◌, ◌-◌, ◌*◌, ◌%◌, ◌^◌, ◌<◌, ◌≤◌, true, List, [], ◌∷◌}
-use Rattle.std.proofs.Common.{◌++◌, refl, ap, ◌∙◌, sym, subst, arith}
+use Rattle.std.proofs.Common.{◌++◌, refl, subst, arith}
 use Rattle.std.specs.Prelude.{◌&&◌, nat_lt, nat_le, drop}
 use Rattle.std.proofs.Math.Logic.{∥∥₁_elim}
 use Rattle.std.proofs.Math.Bool.{Bool-set}
@@ -12,8 +12,8 @@ use Rattle.vyrd_base.specs.Layout.{plain_words_of, lock_words_of}
 use Rattle.vyrd_base.proofs.HeaderLaws.{most_size}
 use Rattle.vyrd_base.proofs.TestLaws.{first_true, second_true, is_below, below_of}
 use Rattle.vyrd_memory.specs.declared.act.Act.{Act}
-use Rattle.vyrd_memory.specs.declared.act.Act.TheVariants.{Load, Store, Take, Give, Mark, Done}
-use Rattle.vyrd_memory.specs.Scripts.{Script, stop, step, returns, next_act, after_answer}
+use Rattle.vyrd_memory.specs.declared.act.Act.TheVariants.{Load, Store, Take, Give}
+use Rattle.vyrd_memory.specs.Scripts.{Script, stop, step, next_act, after_answer}
 use Rattle.vyrd_memory.specs.Soundness.{Situation, IsSound, IsSoundSomewhere, may_act}
 use Rattle.vyrd_buffers.specs.declared.held.Held.{Held}
 use Rattle.vyrd_buffers.specs.declared.text.Text.{Text}
@@ -21,10 +21,8 @@ use Rattle.vyrd_buffers.specs.declared.place.Place.{Place}
 use Rattle.vyrd_buffers.specs.declared.place.Joining.TheVariants as joining
 use Rattle.vyrd_buffers.specs.declared.task.Task.{Task}
 use Rattle.vyrd_buffers.specs.Cells.{count_cell, character_cell, lock_of}
-use Rattle.vyrd_buffers.specs.Procedures.{commit_count, load_from, store_from, unlock_both}
-use Rattle.vyrd_buffers.specs.Procedures.{append_held, read_from}
 use Rattle.vyrd_buffers.specs.Rests.Loaded.{held_of}
-use Rattle.vyrd_buffers.specs.Rests.{first_of, second_of, reading_rest, joining_rest, rest_at}
+use Rattle.vyrd_buffers.specs.Rests.{reading_rest, joining_rest, rest_at}
 
 -- what is sound at a place is sound at the same place
 pub sound_at : (h : Header) (task : Task) (p q : Place) → p ≡ q
@@ -42,30 +40,17 @@ cell_in _ = 0
 -- the cell of a sound act is below 2^32
 plain_low : (h : Header) (cell : ℕ) → h.subject ≡ Buffers
     → nat_lt cell (plain_words_of h.subject h.size) ≡ true → nat_lt cell (2 ^ 32) ≡ true
-plain_low h cell is plain =
-    let low : cell < 8 * h.size = below_of cell (8 * h.size)
-    (sym (ap (λ s. nat_lt cell (plain_words_of s h.size)) is) ∙ plain) in
-    is_below cell (2 ^ 32) (omega (arith, low, most_size h))
+plain_low h cell is plain = grind (arith, plain, below_of, is_below, most_size)
 
 lock_low : (h : Header) (lock : ℕ) → h.subject ≡ Buffers
     → (nat_le (plain_words_of h.subject h.size) lock
     && nat_lt lock (plain_words_of h.subject h.size + lock_words_of h.subject h.size)) ≡ true
     → nat_lt lock (2 ^ 32) ≡ true
-lock_low h lock is within =
-    let test : nat_lt lock (8 * h.size + h.size) ≡ true =
-    sym (ap (λ s. nat_lt lock (plain_words_of s h.size + lock_words_of s h.size)) is)
-    ∙ second_true (nat_le (plain_words_of h.subject h.size) lock) _ within in
-    let low : lock < 8 * h.size + h.size = below_of lock (8 * h.size + h.size) test in
-    is_below lock (2 ^ 32) (omega (arith, low, most_size h))
+lock_low h lock is within = grind (arith, within, second_true, below_of, is_below, most_size)
 
 cell_there : (h : Header) (s : Situation) (act : Act) → h.subject ≡ Buffers → may_act h s act ≡ true
     → nat_lt (cell_in act) (2 ^ 32) ≡ true
-cell_there h s (Load cell) is may = plain_low h cell is may
-cell_there h s (Store cell value) is may = plain_low h cell is (first_true _ _ (first_true _ _ may))
-cell_there h s (Take lock) is may = lock_low h lock is (first_true _ _ may)
-cell_there h s (Give lock) is may = lock_low h lock is (first_true _ _ may)
-cell_there h s (Mark kind) is may = refl
-cell_there h s Done is may = refl
+cell_there h s act is may = grind (arith, plain_low, first_true, lock_low)
 
 next_there : (h : Header) (script : Script) → h.subject ≡ Buffers → (s : Situation)
     × IsSound h s script
@@ -88,24 +73,17 @@ one_fewer of done some = omega arith
 -- what comes next while characters are left to be loaded
 pub next_read : (h : Header) (b : ℕ) (text : Text) → text.read < text.of
     → next_act (reading_rest h b text) ≡ Load (character_cell b text.read)
-next_read h b text some = ap (λ left. next_act (read_from h left b text.read text.number))
-    (one_fewer text.of text.read some)
+next_read h b text some = cc (one_fewer text.of text.read some)
 
 pub next_load : (h : Header) (task : Task) (count : ℕ) (held : Held) → held.loaded < held.of
     → next_act (joining_rest h task (joining.Load count held))
     ≡ Load (character_cell task.x held.loaded)
-next_load h task count held some =
-    ap (λ left. next_act
-    (load_from left task.x held.loaded (held_of held)
-    (append_held h (first_of task) (second_of task) task.b count held.of)))
-    (one_fewer held.of held.loaded some)
+next_load h task count held some = cc (one_fewer held.of held.loaded some)
 
 -- and when none is left
 pub next_after_read : (h : Header) (b : ℕ) (text : Text) → text.read ≡ text.of
     → next_act (reading_rest h b text) ≡ Give (lock_of h b)
-next_after_read h b text all =
-    let none : text.of - text.read ≡ 0 = omega (arith, all) in
-    ap (λ left. next_act (read_from h left b text.read text.number)) none
+next_after_read h b text all = grind arith
 
 -- what comes next of storing characters
 pub next_store : (h : Header) (task : Task) (count : ℕ) (held : Held) (stored character : ℕ)
@@ -113,31 +91,20 @@ pub next_store : (h : Header) (task : Task) (count : ℕ) (held : Held) (stored 
     → drop stored (held_of held) ≡ character ∷ left
     → next_act (joining_rest h task (joining.Store count held stored))
     ≡ Store (character_cell task.b (count + stored)) character
-next_store h task count held stored character left e =
-    ap (λ characters. next_act (store_from characters task.b (count + stored)
-    (commit_count task.b (count + held.of)
-    (unlock_both h (first_of task) (second_of task) (returns 1))))) e
+next_store h task count held stored character left e = grind (arith, count, held, left)
 
 pub next_count : (h : Header) (task : Task) (count : ℕ) (held : Held) (stored : ℕ)
     → drop stored (held_of held) ≡ []
     → next_act (joining_rest h task (joining.Store count held stored)) ≡ Store (count_cell task.b)
     (count + held.of)
-next_count h task count held stored e =
-    ap (λ characters. next_act (store_from characters task.b (count + stored)
-    (commit_count task.b (count + held.of)
-    (unlock_both h (first_of task) (second_of task) (returns 1))))) e
+next_count h task count held stored e = grind (arith, count, held)
 
 -- what is left after one more character was read
 pub read_next : (h : Header) (b : ℕ) (text next : Text) (character : ℕ) → text.read < text.of
     → next.number ≡ text.number + (character % 255 + 1) * 256 ^ text.read → next.read ≡ text.read
     + 1 → next.of ≡ text.of
     → reading_rest h b next ≡ after_answer (reading_rest h b text) character
-read_next h b text next character some number read of =
-    ap (λ n. read_from h (n - next.read) b next.read next.number) of
-    ∙ ap (λ n. read_from h (text.of - n) b n next.number) read
-    ∙ ap (read_from h (text.of - (text.read + 1)) b (text.read + 1)) number
-    ∙ ap (λ left. after_answer (read_from h left b text.read text.number) character)
-    (sym (one_fewer text.of text.read some))
+read_next h b text next character some number read of = cc (one_fewer text.of text.read some)
 
 -- what is left after one more character was loaded
 pub load_next : (h : Header) (task : Task) (count : ℕ) (held next : Held) (character : ℕ)
@@ -147,16 +114,7 @@ pub load_next : (h : Header) (task : Task) (count : ℕ) (held next : Held) (cha
     → joining_rest h task (joining.Load count next)
     ≡ after_answer (joining_rest h task (joining.Load count held)) character
 load_next h task count held next character some holds loaded of =
-    ap (λ n. load_from (n - next.loaded) task.x next.loaded (held_of next) (later n)) of
-    ∙ ap (λ n. load_from (held.of - n) task.x n (held_of next) (later held.of)) loaded
-    ∙ ap (λ characters. load_from (held.of - (held.loaded + 1)) task.x (held.loaded + 1) characters
-    (later held.of)) holds
-    ∙ ap (λ left. after_answer (load_from left task.x held.loaded (held_of held) (later held.of))
-    character)
-    (sym (one_fewer held.of held.loaded some))
-  where
-    later : ℕ → List ℕ → Script
-    later = append_held h (first_of task) (second_of task) task.b count
+    cc (one_fewer held.of held.loaded some)
 
 -- powers of 256 that are below 2^64
 pub low_power : (read of : ℕ) → read < of → of ≤ 7 → 256 ^ read ≤ 256 ^ 6

@@ -32,61 +32,45 @@ with_action h t action state is = ap (λ a. after_state h t a state) (sym is)
 pub looked_dirty : (h : Header) (t d : Task) (state : ℕ) → t.action ≡ LookAndWrite → state ≡ 2
     → d ≡ record t { action = BareWrite }
     → rest_at h d Unlock ≡ after_state h t t.action state
-looked_dirty h t d state action found is =
-    ap (λ d. rest_at h d Unlock) is ∙ ap (after_state h t LookAndWrite) (sym found)
-    ∙ with_action h t LookAndWrite state action
+looked_dirty h t d state action found is = cc (with_action h t LookAndWrite state action)
 
 pub looked_other : (h : Header) (t d : Task) (state : ℕ) → t.action ≡ LookAndWrite → state ≢ 2
     → d ≡ record t { action = Write }
     → rest_at h d Open ≡ after_state h t t.action state
 looked_other h t d state action found is =
-    let other : rest_at h (record t { action = Write }) Open ≡ after_state h t LookAndWrite state =
-    rw (isnt_same state 2 found) in
-    ap (λ d. rest_at h d Open) is ∙ other ∙ with_action h t LookAndWrite state action
+    cc (isnt_same state 2 found, with_action h t LookAndWrite state action)
 
 pub flushed_dirty : (h : Header) (t : Task) (state : ℕ) → t.action ≡ Flush → state ≡ 2
     → rest_at h t LoadLow ≡ after_state h t t.action state
-flushed_dirty h t state action found = ap (after_state h t Flush) (sym found)
-    ∙ with_action h t Flush state action
+flushed_dirty h t state action found = cc (with_action h t Flush state action)
 
 pub flushed_other : (h : Header) (t : Task) (state : ℕ) → t.action ≡ Flush → state ≢ 2
     → rest_at h t Commit ≡ after_state h t t.action state
 flushed_other h t state action found =
-    let other : rest_at h t Commit ≡ after_state h t Flush state = rw (isnt_same state 2 found) in
-    other ∙ with_action h t Flush state action
+    cc (isnt_same state 2 found, with_action h t Flush state action)
 
 pub evicted_dirty : (h : Header) (t : Task) (state : ℕ) → t.action ≡ Evict → state ≡ 2
     → rest_at h t LoadLow ≡ after_state h t t.action state
-evicted_dirty h t state action found = ap (after_state h t Evict) (sym found)
-    ∙ with_action h t Evict state action
+evicted_dirty h t state action found = cc (with_action h t Evict state action)
 
 pub evicted_absent : (h : Header) (t : Task) (state : ℕ) → t.action ≡ Evict → state ≡ 0
     → rest_at h t Commit ≡ after_state h t t.action state
-evicted_absent h t state action found = ap (after_state h t Evict) (sym found)
-    ∙ with_action h t Evict state action
+evicted_absent h t state action found = cc (with_action h t Evict state action)
 
 pub evicted_other : (h : Header) (t d : Task) (state : ℕ) → t.action ≡ Evict → state ≢ 2 → state ≢ 0
     → d ≡ record t { action = Forget }
     → rest_at h d Open ≡ after_state h t t.action state
 evicted_other h t d state action two none is =
-    let other : rest_at h (record t { action = Forget }) Open ≡ after_state h t Evict state = rw (
-      isnt_same state 2 two,
-      isnt_same state 0 none,
-    ) in
-    ap (λ d. rest_at h d Open) is ∙ other ∙ with_action h t Evict state action
+    cc (isnt_same state 2 two, isnt_same state 0 none, with_action h t Evict state action)
 
 pub read_absent : (h : Header) (t d : Task) (state : ℕ) → t.action ≡ Read → state ≡ 0
     → d ≡ record t { action = Fetch }
     → rest_at h d LoadLow ≡ after_state h t t.action state
-read_absent h t d state action found is =
-    ap (λ d. rest_at h d LoadLow) is ∙ ap (after_state h t Read) (sym found)
-    ∙ with_action h t Read state action
+read_absent h t d state action found is = cc (with_action h t Read state action)
 
 pub read_other : (h : Header) (t : Task) (state : ℕ) → t.action ≡ Read → state ≢ 0
     → rest_at h t LoadLow ≡ after_state h t t.action state
-read_other h t state action found =
-    let other : rest_at h t LoadLow ≡ after_state h t Read state = rw (isnt_same state 0 found) in
-    other ∙ with_action h t Read state action
+read_other h t state action found = cc (isnt_same state 0 found, with_action h t Read state action)
 
 pub decided : (h : Header) (t : Task) (state : ℕ) → t.action ≢ LookAndWrite → t.action ≢ Flush
     → t.action ≢ Evict → t.action ≢ Read
@@ -106,8 +90,7 @@ decided h t state look flush evict read = by_action t.action look flush evict re
 pub loaded_read : (h : Header) (t : Task) (high : ℕ) → t.action ≡ Read
     → rest_at h (record t { high = high }) Unlock
     ≡ in_order (after_loads h (record t { high = high }) t.action)
-loaded_read h t high action = ap (λ a. in_order (after_loads h (record t { high = high }) a))
-    (sym action)
+loaded_read h t high action = cc
 
 pub loaded_other : (h : Header) (t : Task) (high : ℕ) → t.action ≢ Read
     → rest_at h (record t { high = high }) Open
@@ -125,15 +108,13 @@ pub at_place : (h : Header) (t : Task) (place known : Place) (answer : ℕ) (nex
     → place ≡ known
     → next ≡ after_answer (rest_at h t known) answer
     → next ≡ after_answer (rest_at h t place) answer
-at_place h t place known answer next is e = e ∙ ap (λ x. after_answer (rest_at h t x) answer)
-    (sym is)
+at_place h t place known answer next is e = cc
 
 -- any other step
 pub after_other : (h : Header) (t : Task) (place next : Place) (answer : ℕ) → place ≢ LoadState
     → place ≢ LoadLow → place ≢ LoadHigh
     → next ≡ place_after t.action place → rest_at h t next ≡ after_answer (rest_at h t place) answer
-after_other h t place next answer state low high is =
-    ap (rest_at h t) is ∙ by_action t.action place state low high
+after_other h t place next answer state low high is = cc (by_action t.action place state low high)
   where
     by_action : (action : Action) (place : Place) → place ≢ LoadState → place ≢ LoadLow
         → place ≢ LoadHigh
@@ -162,9 +143,7 @@ pub begun : (h : Header) (variant : Variant) (method : CacheMethod) (args : Args
 begun h variant CaFlush args low high b c = refl
 begun h variant CaEvict args low high b c = refl
 begun h variant CaRead args low high b c = refl
-begun h Correct CaWrite args low high b c =
-    ap (λ x. rest_at h (record { action = Write; chunk = args.a; low = x; high = high }) Lock) b
-    ∙ ap (λ x. rest_at h (record { action = Write; chunk = args.a; low = args.b; high = x }) Lock) c
+begun h Correct CaWrite args low high b c = cc
 begun h Broken CaWrite args low high b c =
     ap (λ x. rest_at h (record { action = LookAndWrite; chunk = args.a; low = x; high = high })
     Lock) b

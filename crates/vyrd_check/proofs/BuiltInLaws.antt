@@ -1,6 +1,6 @@
 -- A text of versions 1 and 2 can name a built-in subject alone.
 use Rattle.std.proofs.Common.{◌≡◌, ℕ, Bool, true, false, cond, ◌&&◌, List, [], ◌∷◌, ◌^◌, Option}
-use Rattle.std.proofs.Common.{Some, None, Ok, Err, Result, refl, ap, ◌∙◌, sym}
+use Rattle.std.proofs.Common.{Some, None, Ok, Err, Result, refl}
 use Rattle.std.specs.Prelude.{ok_or, nat_lt}
 use Rattle.std.specs.Str.{bytes_eq}
 use Rattle.std.specs.List.{slice_split}
@@ -76,10 +76,7 @@ text_built_in input (line ∷ next ∷ lines) h has = by_header (header_in line)
     by_header : (r : Result Header Rule) → header_in line ≡ r → (text r).header ≡ Some h
         → is_built_in h.subject ≡ true
     by_header (Err rule) is e = cc
-    by_header (Ok x) is e =
-        let same : x ≡ h = cc in
-        ap (λ (y : Header). is_built_in y.subject) (sym same) ∙ ap of_built_in (sym is)
-        ∙ line_built_in line
+    by_header (Ok x) is e = cc (line_built_in line)
 
 pub reading_built_in : (input : Input) (bytes : List ℕ) (h : Header) → (reading input bytes).header
     ≡ Some h → is_built_in h.subject ≡ true

@@ -1,6 +1,6 @@
 -- What a checker answers, by what it keeps.
-use Rattle.std.proofs.Common.{◌≡◌, ℕ, true, List, [], ◌∷◌, ◌++◌, length, append_assoc, Option, Some}
-use Rattle.std.proofs.Common.{None, refl, ap, subst, ◌∙◌, sym, append-nil, arith}
+use Rattle.std.proofs.Common.{◌≡◌, ℕ, true, List, [], ◌∷◌, ◌++◌, length, append_assoc, Some}
+use Rattle.std.proofs.Common.{refl, ap, subst, ◌∙◌, sym, append-nil, arith}
 use Rattle.std.specs.Prelude.{◌==◌, is_some}
 use Rattle.std.proofs.lemmas.Bool.Decides.{nat_tests}
 use Rattle.vyrd_base.specs.declared.verdict.Verdict.{Verdict}
@@ -12,25 +12,14 @@ use Rattle.vyrd_check.specs.Checking.{CheckerState, FollowsBy, HasChecked}
 -- the verdict that is kept is that of the bytes so far
 pub so_far_is : (c : CheckerState) (bytes : List ℕ) → HasChecked c bytes → c.so_far
     ≡ text_verdict_so_far c.kept.reader.max_lines bytes
-so_far_is c bytes checked = by_verdict c.so_far checked.follows
-  where
-    by_verdict : (o : Option Verdict) → FollowsBy c.kept bytes o
-        → o ≡ text_verdict_so_far c.kept.reader.max_lines bytes
-    by_verdict None f = sym f.nothing
-    by_verdict (Some v) f = sym f
+so_far_is c bytes checked = grind (arith, checked)
 
 -- a verdict that stands is that of all longer bytes
 pub checked_longer : (c : CheckerState) (bytes more : List ℕ) → IsLimit c.kept.reader.max_lines
     → is_some c.so_far ≡ true
     → HasChecked c bytes → HasChecked c (bytes ++ more)
 checked_longer c bytes more limit there checked =
-    record { follows = by_verdict c.so_far there checked.follows }
-  where
-    by_verdict : (o : Option Verdict) → is_some o ≡ true → FollowsBy c.kept bytes o
-        → FollowsBy c.kept (bytes ++ more) o
-    by_verdict None there f = cc
-    by_verdict (Some v) there f = text_verdict_lasts c.kept.reader.max_lines bytes more v limit.low
-        f
+    grind (arith, more, there, checked, is_some, text_verdict_lasts)
 
 -- and of the whole input
 pub checked_whole : (c : CheckerState) (bytes : List ℕ) (v : Verdict)
@@ -55,9 +44,7 @@ pub checked_all : (c : CheckerState) (bytes piece read rest : List ℕ) → piec
     → true ≡ (length rest == 0)
     → HasChecked c (bytes ++ read) → HasChecked c (bytes ++ piece)
 checked_all c bytes piece read rest parted none checked =
-    let same : read ≡ piece = sym (parted ∙ ap (λ xs. read ++ xs) (empty_of rest none)
-    ∙ append-nil read) in
-    subst (λ xs. HasChecked c (bytes ++ xs)) same checked
+    grind (arith, empty_of rest none, append-nil read)
 
 -- a verdict stands before the last part
 pub checked_stands : (c : CheckerState) (bytes piece read rest : List ℕ) (v : Verdict)

@@ -9,15 +9,11 @@ use Rattle.vyrd_base.specs.declared.header.Header.{Header}
 use Rattle.vyrd_base.specs.declared.log.Entry.{Entry}
 use Rattle.vyrd_base.specs.declared.log.StartWord.{StartWord}
 use Rattle.vyrd_base.specs.declared.verdict.Verdict.{Verdict}
-use Rattle.vyrd_base.specs.Rules.{built_in, rules_by}
-use Rattle.vyrd_base.specs.Reading.{Reading, TextFault, has_any, reading}
+use Rattle.vyrd_base.specs.Reading.{Reading, has_any, reading}
 use Rattle.vyrd_base.proofs.ReadingGrows.{TextGrown, reading_grows}
 use Rattle.vyrd_view.specs.Comparing.{word_price, price_by}
-use Rattle.vyrd_view.specs.Known.{by_rules}
-use Rattle.vyrd_words.specs.Costs.{entry_price}
-use Rattle.vyrd_judge.specs.Costs.{each_entry, callers_of, judge_debt, log_cost}
+use Rattle.vyrd_judge.specs.Costs.{callers_of, judge_debt, log_cost}
 use Rattle.vyrd_judge.specs.Following.{JudgeView}
-use Rattle.vyrd_check.specs.LogReadings.{read_so_far}
 use Rattle.vyrd_check.specs.Checking.{IsAt, IsJudging, IsReady, IsBegun, CheckerKept, CheckerState}
 use Rattle.vyrd_check.specs.Costs.{entry_cost, starting_cost, entries_cost, end_cost, reading_cost}
 use Rattle.vyrd_check.specs.Costs.{bytes_cost}
@@ -32,10 +28,6 @@ cost_of o starting entries ended =
 no_end : (o : Option Header) → end_cost o false ≡ 0
 no_end None = refl
 no_end (Some h) = refl
-
-no_entries : (o : Option Header) → entries_cost o [] ≡ 0
-no_entries None = refl
-no_entries (Some h) = refl
 
 -- further starting words cost what they cost
 starting_more : (o : Option Header) (ss more : List StartWord)
@@ -56,10 +48,7 @@ entries_more None es more = refl
 entries_more (Some h) es more = sum_by-append (entry_cost h) es more
 
 end_more : (o : Option Header) (a b : Bool) → (a ≡ true → b ≡ true) → end_cost o a ≤ end_cost o b
-end_more None a b stays = omega arith
-end_more (Some h) false b stays = omega arith
-end_more (Some h) true b stays =
-    subst (λ d. h.callers ≤ end_cost (Some h) d) (sym (stays refl)) (omega arith)
+end_more o a b stays = grind (arith, stays)
 
 all_more : (a b c x y z : ℕ) → a ≤ x → b ≤ y → c ≤ z → a + b + c ≤ x + y + z
 all_more a b c x y z first second third = omega (arith, first, second, third)
@@ -72,66 +61,30 @@ at_most_same a b is = omega (arith, is)
 
 -- longer bytes cost no less
 pub cost_grows : (old new : Reading) → TextGrown old new → reading_cost old ≤ reading_cost new
-cost_grows old new g = by_fault old.fault refl
-  where
-    by_header : (o : Option Header) → old.header ≡ o → old.fault ≡ None
-        → reading_cost old ≤ reading_cost new
-    by_header None has none =
-        subst (λ o. cost_of o old.starting old.entries old.ended ≤ reading_cost new) (sym has)
-        (omega arith)
-    by_header (Some h) has none =
-        let ss = g.grown.starting none in
-        let es = g.grown.entries none in
-        subst (λ o. cost_of o old.starting old.entries old.ended ≤ reading_cost new) (sym has)
-        (subst (λ o. cost_of (Some h) old.starting old.entries old.ended
-        ≤ cost_of o new.starting new.entries new.ended) (sym (g.header h has))
-        (all_more _ _ _ _ _ _
-        (subst (λ xs. starting_cost (Some h) old.starting ≤ starting_cost (Some h) xs) (sym ss.1)
-        (starting_more (Some h) old.starting ss.0))
-        (subst (λ xs. entries_cost (Some h) old.entries ≤ entries_cost (Some h) xs) (sym es.1)
-        (at_most_more _ _ _ (entries_more (Some h) old.entries es.0)))
-        (end_more (Some h) old.ended new.ended (λ is. (g.grown.ended none is).1))))
-
-    by_fault : (o : Option TextFault) → old.fault ≡ o → reading_cost old ≤ reading_cost new
-    by_fault (Some f) is = at_most_same _ _ (ap reading_cost (sym (g.grown.fault f is)))
-    by_fault None is = by_header old.header refl is
+cost_grows old new g =
+    grind (arith, all_more, starting_more, at_most_more, entries_more, end_more, at_most_same)
 
 pub bytes_more : (max : ℕ) (bytes more : List ℕ) → 1 ≤ max
     → bytes_cost max bytes ≤ bytes_cost max (bytes ++ more)
-bytes_more max bytes more low = cost_grows (read_so_far max bytes) (read_so_far max (bytes ++ more))
-    (reading_grows max false bytes more low)
+bytes_more max bytes more low = search (cost_grows, more, reading_grows, arith)
 
 -- what it costs the judge to go on is what the header that was read says
 following_is : (j : JudgeView) (read : Reading) (log more : List Entry) (done : Bool)
     → IsAt j read log
     → following_cost (Some j) more done
     ≡ entries_cost read.header more + end_cost read.header done
-following_is j read log more done at =
-    let h = header_of_charter read.header j.kept.charter at.charter in
-    let rules : j.kept.charter ≡ built_in h.0 = sym h.2 in
-    let shows : j.kept.views.shows ≡ by_rules (built_in h.0) = at.shows ∙ ap by_rules rules in
-    let by_rules_read : following_cost (Some j) more done
-    ≡ entries_cost (Some h.0) more + end_cost (Some h.0) done =
-    (λ i. sum_by (λ (e : Entry). each_entry (rules_by (rules i)).header.callers 2
-    + entry_price (price_by (shows i)) e.kind) more
-    + cond done (rules_by (rules i)).header.callers 0) in
-    by_rules_read ∙ ap (λ o. entries_cost o more + end_cost o done) (sym h.1)
+following_is j read log more done at = search (read, more, header_of_charter, arith)
 
 -- to look for an open call at `end` is what the header says
 pub end_is : (j : JudgeView) (read : Reading) (log : List Entry) → IsAt j read log
     → read.ended ≡ true → callers_of j.kept ≡ end_cost read.header read.ended
-end_is j read log at done =
-    let h = header_of_charter read.header j.kept.charter at.charter in
-    ap (λ l. (rules_by l).header.callers) (sym h.2)
-    ∙ (λ i. end_cost (sym h.1 i) (sym done i))
+end_is j read log at done = grind (arith, read, header_of_charter)
 
 -- what a judge that was just made owes
 made_owes : (b : Bool) (o : Option Header) (starting : List StartWord) (j : JudgeView)
     → IsBegun b o starting None (Some j)
     → judge_debt price_by (λ charter. 2) j [] ≡ starting_cost o starting
-made_owes false o starting j begun = cc
-made_owes true None starting j begun = cc
-made_owes true (Some h) starting j begun = begun.4
+made_owes b o starting j begun = grind (arith, starting, begun)
 
 paid_on : (d f s e m n : ℕ) (before after : ℕ) → f ≡ m + n → before ≡ s + e + 0
     → after ≡ s + (e + m) + n → d + f + before ≤ d + after
@@ -170,9 +123,7 @@ piece_paid None after old new more done judging g none going ready begun =
     by_judge after ready begun
   where
     was : reading_cost old ≡ starting_cost old.header old.starting + 0 + 0
-    was = (λ i. cost_of old.header old.starting (judging.0 i) (going i))
-        ∙ (λ i. starting_cost old.header old.starting + no_entries old.header i
-        + no_end old.header i)
+    was = grind arith
 
     still : (s a b c n : ℕ) → n ≡ s + 0 + 0 → a + 0 + n ≤ s + (a + b + c)
     still s a b c n e = omega (arith, e)
@@ -224,10 +175,7 @@ pub followed_paid : (j k : JudgeView) (read : Reading) (log more : List Entry) (
     ≤ m + judge_debt price_by (λ charter. 2) j log + log_cost price_by (λ charter. 2) j.kept more
     → n + judge_owes (Some k) read read.entries
     ≤ m + judge_owes (Some j) read log + following_cost (Some j) more done
-followed_paid j k read log more done m n ready paid =
-    subst (λ es. n + judge_debt price_by (λ charter. 2) k es
-    ≤ m + judge_owes (Some j) read log + following_cost (Some j) more done) (sym ready.entries)
-    (more_held _ (m + judge_owes (Some j) read log) _ _ paid)
+followed_paid j k read log more done m n ready paid = grind (arith, read, more, paid, more_held)
 
 asked : (last n a b c callers : ℕ) → last ≤ n + callers → n + a ≤ b + c
     → last + a ≤ b + (c + callers)
@@ -242,21 +190,14 @@ pub open_paid : (j k : JudgeView) (read : Reading) (log more : List Entry) (done
     → last + judge_owes (Some k) read read.entries
     ≤ m + judge_owes (Some j) read log + following_cost (Some j) more done
 open_paid j k read log more done m n last ready is rules one paid =
-    subst (λ es. last + judge_debt price_by (λ charter. 2) k es
-    ≤ m + judge_owes (Some j) read log + following_cost (Some j) more done) (sym ready.entries)
-    (subst (λ d. last + judge_debt price_by (λ charter. 2) k (log ++ more)
-    ≤ m + judge_owes (Some j) read log + following_cost (Some j) more d) (sym is)
-    (asked last n _ (m + judge_owes (Some j) read log) _ (callers_of j.kept)
-    (subst (λ l. last ≤ n + (rules_by l).header.callers) rules one) paid))
+    grind (arith, read, more, paid, asked)
 
 -- without a judge nothing costs a step
 pub still_none : (o : Option JudgeView) (read : Reading) (log more : List Entry) (done : Bool)
     (n : ℕ) → o ≡ None
     → n + judge_owes o read read.entries
     ≤ n + judge_owes o read log + following_cost o more done
-still_none o read log more done n is =
-    subst (λ x. n + judge_owes x read read.entries
-    ≤ n + judge_owes x read log + following_cost x more done) (sym is) (omega arith)
+still_none o read log more done n is = grind (arith, read, more)
 
 grown_more : (a b c d e f : ℕ) → a + b + c ≤ d + e + f → (g : ℕ) → g ≤ b → a + g + c ≤ d + e + f
 grown_more a b c d e f paid g less = omega (arith, paid, less)
@@ -269,11 +210,7 @@ pub part_paid : (c : CheckerState) (k : CheckerKept) (v : Option Verdict) (bytes
     ≤ m + kept_debt c.kept bytes + bytes_cost c.kept.reader.max_lines (bytes ++ part)
     → n + debt_after v k (bytes ++ part) + bytes_cost c.kept.reader.max_lines bytes
     ≤ m + checker_debt c bytes + bytes_cost c.kept.reader.max_lines (bytes ++ part)
-part_paid c k v bytes part m n none paid =
-    subst (λ o. n + debt_after v k (bytes ++ part) + bytes_cost c.kept.reader.max_lines bytes
-    ≤ m + debt_after o c.kept bytes + bytes_cost c.kept.reader.max_lines (bytes ++ part))
-    (sym none)
-    (grown_more n _ _ m _ _ paid _ (after_at_most v k (bytes ++ part)))
+part_paid c k v bytes part m n none paid = grind (arith, paid, grown_more, after_at_most)
 
 two_parts : (l m n a b c x y z : ℕ) → m + b + x ≤ l + a + y → n + c + y ≤ m + b + z
     → n + c + x ≤ l + a + z
@@ -292,12 +229,7 @@ pub parts_paid : (first before after : CheckerState) (bytes read part all : List
     → n + checker_debt after (bytes ++ all) + bytes_cost first.kept.reader.max_lines bytes
     ≤ l + checker_debt first bytes + bytes_cost first.kept.reader.max_lines (bytes ++ all)
 parts_paid first before after bytes read part all l m n limit parted one two =
-    subst (λ xs. n + checker_debt after xs + bytes_cost first.kept.reader.max_lines bytes
-    ≤ l + checker_debt first bytes + bytes_cost first.kept.reader.max_lines xs) parted
-    (two_parts l m n _ _ _ _ _ _ one
-    (subst (λ max. n + checker_debt after ((bytes ++ read) ++ part) + bytes_cost max (bytes ++ read)
-    ≤ m + checker_debt before (bytes ++ read) + bytes_cost max ((bytes ++ read) ++ part))
-    limit two))
+    grind (arith, after, read, parted, two_parts)
 
 settled : (l m a b c x y z : ℕ) → m + b + x ≤ l + a + y → y ≤ z → c ≡ 0 → m + c + x ≤ l + a + z
 settled l m a b c x y z paid more none = omega (arith, paid, more, none)
@@ -334,7 +266,4 @@ pub all_paid : (first now : CheckerState) (bytes read rest piece : List ℕ) (l 
     ≤ l + checker_debt first bytes + bytes_cost first.kept.reader.max_lines (bytes ++ read)
     → m + checker_debt now (bytes ++ piece) + bytes_cost first.kept.reader.max_lines bytes
     ≤ l + checker_debt first bytes + bytes_cost first.kept.reader.max_lines (bytes ++ piece)
-all_paid first now bytes read rest piece l m parted none paid =
-    let same : read ≡ piece = sym (parted ∙ ap (λ xs. read ++ xs) none ∙ append-nil read) in
-    subst (λ xs. m + checker_debt now (bytes ++ xs) + bytes_cost first.kept.reader.max_lines bytes
-    ≤ l + checker_debt first bytes + bytes_cost first.kept.reader.max_lines (bytes ++ xs)) same paid
+all_paid first now bytes read rest piece l m parted none paid = grind (arith, append-nil read)

@@ -1,7 +1,7 @@
 -- What a piece that was read and judged makes of what is kept.
-use Rattle.std.proofs.Common.{◌≡◌, ℕ, ◌+◌, ◌≤◌, true, false, cond, ◌||◌, List, [], ◌++◌, length}
+use Rattle.std.proofs.Common.{◌≡◌, ℕ, ◌+◌, ◌≤◌, true, false, ◌||◌, List, [], ◌++◌, length}
 use Rattle.std.proofs.Common.{Option, Some, None, refl, ap, subst, ◌∙◌, sym, arith}
-use Rattle.std.specs.Prelude.{option_map, option_and_then}
+use Rattle.std.specs.Prelude.{option_map}
 use Rattle.std.specs.Option.{option_or}
 use Rattle.std.proofs.lemmas.Bool.{or_right}
 use Rattle.std.proofs.Math.Logic.{∥∥₁_elim}
@@ -13,8 +13,8 @@ use Rattle.vyrd_base.specs.declared.verdict.Verdict.TheVariants.{Malformed}
 use Rattle.vyrd_base.specs.Starts.{may_start}
 use Rattle.vyrd_base.specs.Subjects.{is_built_in}
 use Rattle.vyrd_base.specs.Reading.{Reading, has_any}
-use Rattle.vyrd_base.specs.Rules.{built_in, rules_of}
-use Rattle.vyrd_base.specs.Verdicts.{verdict_so_far, end_verdict}
+use Rattle.vyrd_base.specs.Rules.{built_in}
+use Rattle.vyrd_base.specs.Verdicts.{verdict_so_far}
 use Rattle.vyrd_base.specs.TextVerdicts.{text_verdict_so_far}
 use Rattle.vyrd_base.proofs.ReadingGrows.{TextGrown, reading_grows, input_of}
 use Rattle.vyrd_base.proofs.ReadingSound.{reading_writable}
@@ -79,9 +79,7 @@ record IsReadTo (reader : ReaderState) (bytes : List ℕ) (max : ℕ) : Type 0 w
 
 read_to : (reader : ReaderState) (bytes : List ℕ) (max : ℕ) → reader.max_lines ≡ max
     → HasRead reader bytes → IsReadTo reader bytes max
-read_to reader bytes max limit read =
-    subst (IsReadTo reader bytes) limit
-    (record { header = read.header; start = read.start; ended = read.ended })
+read_to reader bytes max limit read = grind (arith, read.header, read.start, read.ended)
 
 -- the judge is ready for the entries of the piece
 pub fed_ready : (old : CheckerKept) (reader : ReaderState) (begun : Option JudgeView)
@@ -149,17 +147,13 @@ pub fed_undecided : (old : CheckerKept) (reader : ReaderState) (begun after : Op
     → IsJudging after (read_so_far old.reader.max_lines (bytes ++ piece))
     → text_verdict_so_far old.reader.max_lines (bytes ++ piece) ≡ None
     → IsUndecided (record { reader = reader; judge = after }) (bytes ++ piece)
-fed_undecided old reader begun after piece entries fault fed bytes read judging nothing = record {
-  read = fed.read bytes read;
-  judging = subst (λ m. IsJudging after (read_so_far m (bytes ++ piece))) (sym fed.limit) judging;
-  nothing = ap (λ m. text_verdict_so_far m (bytes ++ piece)) fed.limit ∙ nothing;
-}
+fed_undecided old reader begun after piece entries fault fed bytes read judging nothing =
+    grind (arith, fed.read bytes read, fed.limit)
 
 paid_then : (owes begun moves before was now after n m later : ℕ) → later ≡ owes
     → begun + moves + was ≤ before + now → n + owes ≤ m + begun + moves
     → n + later + was ≤ m + before + now
-paid_then owes begun moves before was now after n m later same paid taken =
-    omega (arith, same, paid, taken)
+paid_then owes begun moves before was now after n m later same paid taken = grind arith
 
 -- what a piece that was read and judged has cost is paid
 pub fed_paid : (old : CheckerKept) (reader : ReaderState) (begun after : Option JudgeView)
@@ -238,9 +232,7 @@ after_end old bytes piece limit u ended = record {
 
 -- so its entries are as right as before
 same_wrong : (old new : Reading) → IsSameLog old new → wrong_in new ≡ wrong_in old
-same_wrong old new s = λ i. option_and_then (λ h.
-    option_or (verdict_so_far (rules_of h) (s.starting i) (s.entries i))
-    (cond (s.ended i) (end_verdict (rules_of h) (s.starting i) (s.entries i)) None)) (s.header i)
+same_wrong old new s = grind arith
 
 -- and the judge has followed them
 same_judging : (judge : Option JudgeView) (old new : Reading) → IsSameLog old new
@@ -279,14 +271,7 @@ pub ended_undecided : (old : CheckerKept) (reader : ReaderState) (bytes piece : 
     → text_verdict_so_far old.reader.max_lines (bytes ++ piece) ≡ None
     → IsUndecided (record { reader = reader; judge = old.judge }) (bytes ++ piece)
 ended_undecided old reader bytes piece limit u ended same read nothing =
-    let max = old.reader.max_lines in
-    record {
-      read = read;
-      judging = subst (λ m. IsJudging old.judge (read_so_far m (bytes ++ piece))) (sym same)
-          (same_judging old.judge (read_so_far max bytes) (read_so_far max (bytes ++ piece))
-          (after_end old bytes piece limit u ended) u.judging);
-      nothing = ap (λ m. text_verdict_so_far m (bytes ++ piece)) same ∙ nothing;
-    }
+    grind (arith, ended, read, nothing, same_judging, after_end)
 
 still_paid : (n later owed was now : ℕ) → later ≡ owed → was ≤ now
     → n + later + was ≤ n + owed + now
@@ -300,10 +285,4 @@ pub ended_paid : (old : CheckerKept) (reader : ReaderState) (bytes piece : List 
     + bytes_cost old.reader.max_lines bytes
     ≤ n + kept_debt old bytes + bytes_cost old.reader.max_lines (bytes ++ piece)
 ended_paid old reader bytes piece n limit u ended same =
-    let max = old.reader.max_lines in
-    still_paid n _ (kept_debt old bytes) (bytes_cost max bytes) (bytes_cost max (bytes ++ piece))
-    (ap (λ l. judge_owes old.judge (read_so_far l (bytes ++ piece))
-    (read_so_far l (bytes ++ piece)).entries) same
-    ∙ same_owes old.judge (read_so_far max bytes) (read_so_far max (bytes ++ piece))
-    (after_end old bytes piece limit u ended))
-    (bytes_more max bytes piece limit.low)
+    grind (arith, ended, still_paid, same_owes, after_end, bytes_more)

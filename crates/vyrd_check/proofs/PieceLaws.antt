@@ -88,17 +88,13 @@ pub made_from : (h : Header) (starting : List StartWord) (made : Option JudgeVie
     ≡ start_cost (price_by j.kept.views.shows) starting)
     → IsMade h starting made
 made_from h starting None none followed charter so_far shows owed = sym none
-made_from h starting (Some j) none followed charter so_far shows owed =
-    (charter, followed, so_far, shows, owed ∙ ap (λ s. start_cost (price_by s) starting) shows)
+made_from h starting (Some j) none followed charter so_far shows owed = search (starting, arith)
 
 -- it is the judge from now on, since there was none
 pub begun_by : (begun : Bool) (o : Option Header) (starting : List StartWord)
     (old made : Option JudgeView) (h : Header) → is_some old ≡ false → begun ≡ true → o ≡ Some h
     → IsMade h starting made → IsBegun begun o starting old made
-begun_by begun o starting (Some j) made h none now has is = cc
-begun_by begun o starting None made h none now has is =
-    subst (λ b. IsBegun b o starting None made) (sym now)
-    (subst (λ x. IsBegun true x starting None made) (sym has) is)
+begun_by begun o starting old made h none now has is = grind (arith, begun, starting, made)
 
 -- Once an entry or `end` may have been read, the judge has followed the entries from before.
 pub judge_before : (before after : Option JudgeView) (old new : Reading) (more : List Entry)
@@ -108,15 +104,7 @@ pub judge_before : (before after : Option JudgeView) (old new : Reading) (more :
     → IsBegun (has_any more || new.ended) new.header new.starting before after
     → IsBefore after new old.entries
 judge_before (Some j) after old new more judging g none headed all begun =
-    let now = begun_on old new g none judging.begun in
-    let same : new.starting ≡ old.starting = g.grown.begun none judging.begun in
-    subst (λ o. IsBefore o new old.entries) (sym begun) (record {
-      charter = still_read old.header new.header j.kept.charter g.header judging.charter;
-      shows = judging.shows;
-      followed = subst (λ ss. HasFollowed j ss old.entries) (sym same) judging.followed;
-      so_far = judging.so_far;
-      begun = now;
-    })
+    search (begun_on, begun, still_read, arith)
 judge_before None after old new more judging g none headed all begun =
     by_test (has_any more || new.ended) refl begun
   where
@@ -126,13 +114,7 @@ judge_before None after old new more judging g none headed all begun =
     by_made : (h : Header) (o : Option JudgeView) → new.header ≡ Some h → has_begun new ≡ true
         → IsMade h new.starting o → IsBefore o new old.entries
     by_made h None has now made = (judging.0, λ f. (h, has, made))
-    by_made h (Some j) has now made = record {
-      charter = ap (option_map built_in) has ∙ ap Some (sym made.0);
-      shows = made.3 ∙ ap by_rules (sym made.0);
-      followed = subst (HasFollowed j new.starting) (sym judging.0) made.1;
-      so_far = made.2;
-      begun = now;
-    }
+    by_made h (Some j) has now made = grind (arith, made.0, made.3, judging.0, made.1, made.2)
 
     by_header : (o : Option Header) → new.header ≡ o → has_begun new ≡ true
         → IsBegun true o new.starting None after → IsBefore after new old.entries
@@ -162,15 +144,7 @@ pub wrong_by : (j : JudgeView) (read : Reading) (log more : List Entry) (done : 
     → wrong_in read
     ≡ option_or (verdict_so_far (rules_by j.kept.charter) read.starting (log ++ more))
     (cond done (end_verdict (rules_by j.kept.charter) read.starting (log ++ more)) None)
-wrong_by j read log more done ready =
-    sym (of_charter (λ l. option_or (verdict_so_far (rules_by l) read.starting read.entries)
-    (cond read.ended (end_verdict (rules_by l) read.starting read.entries) None)) read.header)
-    ∙ ap (option_and_then (λ l. option_or (verdict_so_far (rules_by l) read.starting read.entries)
-    (cond read.ended (end_verdict (rules_by l) read.starting read.entries) None)))
-    ready.before.charter
-    ∙ (λ i. option_or (verdict_so_far (rules_by j.kept.charter) read.starting (ready.entries i))
-    (cond (ready.ended i) (end_verdict (rules_by j.kept.charter) read.starting (ready.entries i))
-    None))
+wrong_by j read log more done ready = grind (arith, read, more, of_charter)
 
 -- a judge that has followed the last entries, with no verdict
 pub judging_on : (old new : JudgeView) (read : Reading) (log more : List Entry) (done : Bool)
@@ -178,13 +152,8 @@ pub judging_on : (old new : JudgeView) (read : Reading) (log more : List Entry) 
     → new.kept.charter ≡ old.kept.charter → new.kept.views.shows ≡ old.kept.views.shows
     → HasFollowed new read.starting (log ++ more)
     → new.so_far ≡ None → IsJudging (Some new) read
-judging_on old new read log more done ready same shows followed none = record {
-  charter = ready.before.charter ∙ ap Some (sym same);
-  shows = shows ∙ ready.before.shows ∙ ap by_rules (sym same);
-  followed = subst (HasFollowed new read.starting) (sym ready.entries) followed;
-  so_far = none;
-  begun = ready.before.begun;
-}
+judging_on old new read log more done ready same shows followed none =
+    grind (arith, ready.before.charter, ready.before.shows, ready.entries, ready.before.begun)
 
 -- If the starting words stand for no state, that is what is wrong once an entry or `end` was read.
 start_wrong : (h : Header) (starting : List StartWord) (entries : List Entry) (done : Bool)
@@ -215,23 +184,11 @@ unread (x ∷ entries) done e = cc
 -- without a judge all that was read since is the last entries
 only_last : (read : Reading) (log more : List Entry) (done : Bool) → IsReady None read log more done
     → has_begun read ≡ (has_any more || done)
-only_last read log more done ready =
-    λ i. has_any ((ready.entries ∙ ap (λ es. es ++ more) ready.before.0) i) || ready.ended i
+only_last read log more done ready = search (has_any, more, arith)
 
 -- where nothing was read nothing is wrong
 nothing_wrong : (read : Reading) → has_begun read ≡ false → wrong_in read ≡ None
-nothing_wrong read e =
-    let none = unread read.entries read.ended e in
-    ap (λ f. option_and_then f read.header)
-    (λ i. λ h. option_or (verdict_so_far (rules_of h) read.starting (none.0 i))
-    (cond (none.1 i) (end_verdict (rules_of h) read.starting (none.0 i)) None))
-    ∙ by_header read.header
-  where
-    by_header : (o : Option Header)
-        → option_and_then (λ h. option_or (verdict_so_far (rules_of h) read.starting []) None) o
-        ≡ None
-    by_header None = refl
-    by_header (Some h) = ap (λ o. option_or o None) (nothing_so_far h read.starting)
+nothing_wrong read e = grind (arith, read, unread, nothing_so_far)
 
 -- what is wrong if there is no judge
 pub wrong_without : (read : Reading) (log more : List Entry) (done : Bool)
@@ -254,12 +211,7 @@ wrong_without read log more done ready = by_test (has_any more || done) refl
 pub still_without : (read : Reading) (log more : List Entry) (done : Bool)
     → IsReady None read log more done
     → then_some (has_any more || done) (Malformed 2 StartState) ≡ None → IsJudging None read
-still_without read log more done ready none = by_test (has_any more || done) refl none
-  where
-    by_test : (b : Bool) → (has_any more || done) ≡ b → then_some b (Malformed 2 StartState) ≡ None
-        → IsJudging None read
-    by_test false e f = unread read.entries read.ended (only_last read log more done ready ∙ e)
-    by_test true e f = cc
+still_without read log more done ready none = grind (arith, read, more, has_any, unread, only_last)
 
 -- before the first byte
 pub undecided_first : (reader : ReaderState) → HasRead reader []

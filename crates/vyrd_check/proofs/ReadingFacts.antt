@@ -92,13 +92,7 @@ starts_few max h last n (line ∷ next ∷ lines) within =
 
 body_few : (max : ℕ) (h : Header) (lines : List (List ℕ)) → 1 ≤ max
     → length (body_read (so_far max) h lines).entries ≤ max
-body_few max h lines low = by_version (h.version == 2)
-  where
-    by_version : (b : Bool)
-        → length (cond b (starts_read (so_far max) h None 2 lines)
-        (lines_read (so_far max) h.subject 2 lines)).entries ≤ max
-    by_version true = omega (arith, starts_few max h None 2 lines (omega (arith, low)))
-    by_version false = omega (arith, lines_few max h.subject 2 lines (omega (arith, low)))
+body_few max h lines low = grind (arith, starts_few, lines_few)
 
 parts_few : (max : ℕ) (parts : List (List ℕ)) → 1 ≤ max
     → length (text_read (so_far max) parts).entries ≤ max
@@ -121,19 +115,7 @@ entries_few max bytes low = parts_few max (slice_split (λ b. b == 10) bytes) lo
 
 headless_parts : (max : ℕ) (parts : List (List ℕ)) → (text_read (so_far max) parts).header ≡ None
     → has_begun (text_read (so_far max) parts) ≡ false
-headless_parts max [] none = refl
-headless_parts max (rest ∷ []) none = refl
-headless_parts max (line ∷ next ∷ lines) none = by_header (header_in line) none
-  where
-    read_by : Result Header Rule → Reading
-    read_by r = elim r as (λ _. Reading) [
-      | Ok h ↦ header_before h (body_read (so_far max) h (next ∷ lines))
-      | Err rule ↦ stopped 1 (Some rule)
-    ]
-
-    by_header : (r : Result Header Rule) → (read_by r).header ≡ None → has_begun (read_by r) ≡ false
-    by_header (Ok h) e = cc
-    by_header (Err rule) e = refl
+headless_parts max parts none = grind arith
 
 -- without a header there is neither an entry nor `end`
 pub headless_empty : (max : ℕ) (bytes : List ℕ) → (read_so_far max bytes).header ≡ None
@@ -167,9 +149,7 @@ entries_right max bytes nothing = first_none _ _ nothing
 header_right : (max : ℕ) (bytes : List ℕ) (h : Header) → text_verdict_so_far max bytes ≡ None
     → (read_so_far max bytes).header ≡ Some h
     → entries_verdict (read_so_far max bytes) h ≡ None
-header_right max bytes h nothing has =
-    sym (ap (option_and_then (entries_verdict (read_so_far max bytes))) has)
-    ∙ entries_right max bytes nothing
+header_right max bytes h nothing has = cc (entries_right max bytes nothing)
 
 -- no fault of text is known
 pub text_right : (max : ℕ) (bytes : List ℕ) → text_verdict_so_far max bytes ≡ None
@@ -224,10 +204,7 @@ pub whole_faulty : (max : ℕ) (bytes : List ℕ) (line : ℕ) (rule : Rule)
     → text_verdict_so_far max bytes ≡ None
     → (read_whole max bytes).fault ≡ Some (record { line = line; rule = rule })
     → Malformed line rule ≡ text_verdict max bytes
-whole_faulty max bytes line rule nothing fault =
-    sym (whole_right max bytes nothing
-    ∙ ap (λ o. unwrap_or (option_map (λ fault. Malformed fault.line fault.rule) o)
-    (accepted (read_so_far max bytes).entries)) fault)
+whole_faulty max bytes line rule nothing fault = grind (arith, nothing, whole_right)
 
 pub whole_accepted : (max : ℕ) (bytes : List ℕ) (h : Header) → text_verdict_so_far max bytes ≡ None
     → (read_whole max bytes).fault ≡ None → (read_whole max bytes).ended ≡ true
@@ -235,15 +212,9 @@ pub whole_accepted : (max : ℕ) (bytes : List ℕ) (h : Header) → text_verdic
     → verdict (rules_of h) (read_so_far max bytes).starting (read_so_far max bytes).entries
     ≡ text_verdict max bytes
 whole_accepted max bytes h nothing fault done has =
-    ended_right max bytes h nothing has ((whole_same max bytes).ended ∙ done)
-    ∙ sym (whole_right max bytes nothing
-    ∙ ap (λ o. unwrap_or (option_map (λ fault. Malformed fault.line fault.rule) o)
-    (accepted (read_so_far max bytes).entries)) fault)
+    grind (arith, nothing, ended_right, whole_same, whole_right)
 
 -- if `end` isn't read so far, it isn't in the whole input either
 pub not_ended : (max : ℕ) (bytes : List ℕ) → (read_so_far max bytes).ended ≡ false
     → (read_whole max bytes).ended ≡ true → ⊥
-not_ended max bytes none done = never (sym none ∙ (whole_same max bytes).ended ∙ done)
-  where
-    never : false ≡ true → ⊥
-    never e = cc
+not_ended max bytes none done = grind (arith, whole_same)

@@ -25,8 +25,7 @@ some_verdict (Some v) e = (v, refl)
 pub verdict_there : (max : ℕ) (bytes more : List ℕ) → IsLimit max → has_verdict max bytes ≡ true
     → has_verdict max (bytes ++ more) ≡ true
 verdict_there max bytes more within e =
-    let v = some_verdict (log_verdict_so_far max bytes) e in
-    ap is_some (log_verdict_lasts max bytes more v.0 within.low within.high v.1)
+    grind (arith, more, within, some_verdict, is_some, log_verdict_lasts)
 
 -- A beginning that has a verdict is no shorter than bytes that have none yet.
 judged_later : (max : ℕ) (taken piece first more : List ℕ) → IsLimit max
@@ -52,11 +51,7 @@ checking_starts max before checker limit checked unended = record {
 
 -- nothing was read yet
 pub nothing_no_further : (max : ℕ) (before : SourceKnown) → IsReadNoFurther max before before
-nothing_no_further max before = record {
-  taken = [];
-  told = taken_nothing before.rest;
-  no_more = λ first more same there. omega arith;
-}
+nothing_no_further max before = grind (arith, taken_nothing before.rest)
 
 pub same_no_further : (max : ℕ) (before now after : SourceKnown) (checker : LogCheckerState)
     (rounds : ℕ) → IsLimit max → IsChecking max before now checker rounds
@@ -146,13 +141,7 @@ end_reached max before now after old buffer rounds v r gives is = record {
 -- more rounds than that never come
 pub rounds_end : (max : ℕ) (before now : SourceKnown) (checker : LogCheckerState) (rounds : ℕ)
     → IsLimit max → IsChecking max before now checker rounds → rounds ≤ 201 * most_lines
-rounds_end max before now checker rounds within r =
-    omega (
-      arith,
-      within.high,
-      undecided_is_short max r.taken within.low r.nothing,
-      r.rounds_taken,
-    )
+rounds_end max before now checker rounds within r = grind (arith, within, undecided_is_short)
 
 -- What a piece that was fed leads to.
 pub fed_goes_on : (max : ℕ) (before now after : SourceKnown) (old new : LogCheckerState)

@@ -1,18 +1,15 @@
 -- The status tells whether a read or a write has failed. `own` is the status that was made ready.
-use Rattle.std.proofs.Common.{◌≡◌, ℕ, ◌≤◌, Bool, true, false, refl, ap, subst, sym, ◌∙◌, inl, inr}
+use Rattle.std.proofs.Common.{◌≡◌, ℕ, ◌≤◌, Bool, false, refl, ap, sym, ◌∙◌, inl, inr}
 use Rattle.std.proofs.Common.{arith}
 use Rattle.std.specs.Prelude.{◌≢◌, ◌⊎◌, ◌==◌}
 use Rattle.std.proofs.lemmas.Bool.{ne_eqb}
 use Rattle.vyrd_base.specs.declared.verdict.Verdict.{Verdict}
-use Rattle.vyrd_base.specs.declared.verdict.Verdict.TheVariants.{Accepted, Violation, Malformed}
 use Rattle.vyrd_base.specs.Devices.{SourceKnown, AfterReads, SinkKnown, AfterWrites}
 use Rattle.vyrd_check_command.specs.Outputs.{status_of}
 
 -- no verdict has the status of a failed read
 pub verdict_low : (v : Verdict) → status_of v ≤ 2
-verdict_low (Accepted entries commits observers) = omega arith
-verdict_low (Violation line why) = omega arith
-verdict_low (Malformed line rule) = omega arith
+verdict_low v = grind arith
 
 pub verdict_isnt_four : (status : ℕ) (v : Verdict) → status ≡ status_of v → status ≢ 4
 verdict_isnt_four status v is four = omega (arith, is, four, verdict_low v)
@@ -20,20 +17,13 @@ verdict_isnt_four status v is four = omega (arith, is, four, verdict_low v)
 -- a status that isn't that of a failed read says that none failed, and one that is that one did
 pub none_failed : (status : ℕ) (before after : SourceKnown) → status ≢ 4
     → AfterReads false before after → AfterReads (status == 4) before after
-none_failed status before after isnt reads = subst (λ failed. AfterReads failed before after)
-    (sym (ne_eqb status 4 isnt)) reads
-
-pub one_failed : (status : ℕ) (before after : SourceKnown) → status ≡ 4
-    → AfterReads true before after → AfterReads (status == 4) before after
-one_failed status before after is reads = subst (λ failed. AfterReads failed before after)
-    (sym (ap (λ n. n == 4) is)) reads
+none_failed status before after isnt reads = grind (arith, ne_eqb status 4 isnt)
 
 -- what was read is told by the status in the end, where nothing was written after a failed read
 pub reads_told : (status own : ℕ) (before after : SourceKnown) → (status ≡ 5) ⊎ (status ≡ own)
     → (own ≡ 4 → status ≡ own)
     → AfterReads (own == 4) before after → AfterReads (status == 4) before after
-reads_told status own before after given silent reads =
-    subst (λ failed. AfterReads failed before after) (same given) reads
+reads_told status own before after given silent reads = grind (arith, same given)
   where
     same : (status ≡ 5) ⊎ (status ≡ own) → (own == 4) ≡ (status == 4)
     same (inl five) = ne_eqb own 4 (λ four. omega (arith, five, silent four, four))
@@ -44,18 +34,14 @@ reads_told status own before after given silent reads =
 pub writes_within : (failed : Bool) (all text : Type 0) (before after : SinkKnown) → (all → text)
     → AfterWrites failed text before after
     → AfterWrites failed all before after
-writes_within failed all text before after fits writes = record {
-  counted = writes.counted;
-  stopped = writes.stopped;
-  never = λ sure. writes.never (fits sure);
-}
+writes_within failed all text before after fits writes =
+    grind (arith, writes.counted, writes.stopped)
 
 -- a status that isn't that of a failed write says that none failed, and one that is that one did
 pub none_unwritten : (status : ℕ) (fits : Type 0) (before after : SinkKnown) → status ≢ 5
     → AfterWrites false fits before after
     → AfterWrites (status == 5) fits before after
-none_unwritten status fits before after isnt writes =
-    subst (λ failed. AfterWrites failed fits before after) (sym (ne_eqb status 5 isnt)) writes
+none_unwritten status fits before after isnt writes = grind (arith, ne_eqb status 5 isnt)
 
 -- a sink that isn't written to
 pub unwritten : (status : ℕ) (fits : Type 0) (sink : SinkKnown) → status ≢ 5

@@ -2,7 +2,7 @@
 use Rattle.std.proofs.Common.{◌≡◌, ℕ, ◌+◌, ◌-◌, ◌<◌, ◌≤◌, Bool, true, false, List, [], ◌∷◌, ◌++◌}
 use Rattle.std.proofs.Common.{length, take, Option, Some, None, refl, ap, ◌∙◌, sym, arith}
 use Rattle.std.proofs.Common.{append_assoc}
-use Rattle.std.specs.Prelude.{nat_le, option_map}
+use Rattle.std.specs.Prelude.{nat_le}
 use Rattle.std.proofs.lemmas.Bool.Decides.{nat_tests}
 use Rattle.std.proofs.Math.Seq.{take-append_seam, take-append-add}
 use Rattle.vyrd_check_command.specs.Inputs.{IsTaken}
@@ -15,11 +15,9 @@ no_more_bytes (x ∷ xs) = ap (λ ys. x ∷ ys) (no_more_bytes xs)
 pub taken_more : (before between after : Option (List ℕ)) (taken piece : List ℕ)
     → IsTaken before taken between
     → IsTaken between piece after → IsTaken before (taken ++ piece) after
-taken_more before between None taken piece first then =
-    first ∙ ap (option_map (λ left. taken ++ left)) then
+taken_more before between None taken piece first then = grind arith
 taken_more before between (Some left) taken piece first then =
-    first ∙ ap (option_map (λ left. taken ++ left)) then
-    ∙ ap Some (sym (append_assoc taken piece left))
+    grind (arith, append_assoc taken piece left)
 
 pub taken_nothing : (before : Option (List ℕ)) → IsTaken before [] before
 taken_nothing None = refl

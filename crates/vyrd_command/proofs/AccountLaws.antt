@@ -43,10 +43,7 @@ entry_shown h history e entry old new is before now =
 pub nothing_shown : (h : Header) (history : List Stamped) (e : Stamped) (text : List ℕ)
     → logged e.caller e.did ≡ None
     → text ≡ text_so_far shown.Log h history → text ≡ text_so_far shown.Log h (history ++ e ∷ [])
-nothing_shown h history e text none before =
-    before ∙ ap (λ log. ended_line (header_line h.version h.subject h.size h.callers)
-    ++ flat_map (λ e. ended_line (entry_line e)) log)
-    (sym (log_without history e none))
+nothing_shown h history e text none before = cc (log_without history e none)
 
 pub event_shown : (h : Header) (history : List Stamped) (e : Stamped) (old new : List ℕ)
     → old ≡ text_so_far shown.History h history → new ≡ old ++ ended_line (event_line e)
@@ -73,18 +70,14 @@ pub history_begun : (show : Show) (h own : Header) (text : List ℕ) → show �
     → text ≡ ended_line (history_header_line h.subject h.size h.callers)
     → text ≡ text_so_far show own []
 history_begun show h own text is same line =
-    line ∙ sym (append-nil (ended_line (history_header_line h.subject h.size h.callers)))
-    ∙ ap (λ h. text_so_far shown.History h []) (sym same) ∙ ap (λ show. text_so_far show own [])
-    (sym is)
+    cc (append-nil (ended_line (history_header_line h.subject h.size h.callers)))
 
 -- the whole text
 pub verdict_told : (show : Show) (h : Header) (history : List Stamped) (v : Verdict)
     (old new : List ℕ) → show ≡ shown.Verdict
     → old ≡ text_so_far show h history → new ≡ old ++ verdict_text v
     → new ≡ run_text show h history v
-verdict_told show h history v old new is before now =
-    now ∙ ap (λ t. t ++ verdict_text v) (before ∙ ap (λ show. text_so_far show h history) is)
-    ∙ ap (λ show. run_text show h history v) (sym is)
+verdict_told show h history v old new is before now = cc
 
 pub log_told : (show : Show) (h : Header) (history : List Stamped) (v : Verdict)
     (old ended new : List ℕ) → show ≡ shown.Log

@@ -45,12 +45,8 @@ pub reading_judged : (before now : SourceKnown) (old new : BatchView) (bytes res
     (count : ℕ) → IsReading before now old bytes count
     → ((input : List ℕ) → IsJudged input old bytes → IsJudged input new rest)
     → IsReading before now new rest count
-reading_judged before now old new bytes rest count r judged = record {
-  taken = r.taken;
-  told = r.told;
-  judged = judged r.taken r.judged;
-  many = r.many;
-}
+reading_judged before now old new bytes rest count r judged =
+    grind (arith, r.taken, r.told, judged r.taken r.judged, r.many)
 
 pub few_read : (before now : SourceKnown) (judge : BatchView) (rest : List ℕ) (count : ℕ)
     → IsReading before now judge rest count
@@ -63,9 +59,7 @@ pub verdicts_told : {E : Type 0} (input : List ℕ) (verdicts : List Verdict) (r
     → IfOk r (λ answer. answer.status ≡ batch_status verdicts)
     → IfOk r (λ answer. answer.text.items ≡ batch_text verdicts)
     → IfOk r (λ answer. IsBatchAnswer (batch_logs input) answer.status answer.text.items)
-verdicts_told input verdicts (Ok answer) found status text =
-    subst (λ read. IsBatchAnswer read answer.status answer.text.items) (sym found.1)
-    (status ∙ ap batch_status found.2, text ∙ ap batch_text found.2)
+verdicts_told input verdicts (Ok answer) found status text = grind (arith, found.1, found.2)
 verdicts_told input verdicts (Err e) found status text = tt
 
 -- a batch as long as can be read is refused
@@ -84,18 +78,7 @@ batch_refused bytes status text answer long = by_reading (batch_logs bytes) refl
 -- before the first round
 pub first_paid : (judge : BatchView) (bytes : List ℕ) (steps : ℕ) → bytes ≡ [] → IsSpent judge []
     → IsPaidRound judge bytes round_bytes steps steps 0
-first_paid judge bytes steps none spent = (
-  0,
-  record {
-    left = [];
-    fresh = [];
-    bytes_are = none;
-    spent = spent;
-    many = refl;
-    late = omega arith;
-  },
-  omega arith,
-)
+first_paid judge bytes steps none spent = grind arith
 
 -- one more read
 pub since_more : (between after : SourceKnown) (judge : BatchView) (old new : List ℕ)
@@ -115,50 +98,22 @@ since_more between after judge old new next count n most s m = record {
 pub round_paid : (judge : BatchView) (bytes : List ℕ) (next count old new : ℕ)
     (s : IsSinceRound judge bytes next count) → next ≤ length bytes
     → new ≤ old + round_cost (length s.fresh) → new ≤ old + 4 * count
-round_paid judge bytes next count old new s long steps =
-    let all : length bytes ≡ length s.left + length s.fresh = ap length s.bytes_are
-    ∙ length-append s.left s.fresh in
-    omega (arith, all, long, s.late, s.many, steps)
+round_paid judge bytes next count old new s long steps = grind (arith, count, long, length-append)
 
 -- and nothing came since then
 pub since_none : (judge : BatchView) (bytes : List ℕ) (next : ℕ) → IsSpent judge bytes
     → length bytes + round_bytes ≤ next
     → IsSinceRound judge bytes next 0
-since_none judge bytes next spent late = record {
-  left = bytes;
-  fresh = [];
-  bytes_are = sym (append-nil bytes);
-  spent = spent;
-  many = refl;
-  late = late;
-}
-
--- bytes that were read and paid for
-pub read_for : (before now : SourceKnown) (judge : BatchView) (rest : List ℕ)
-    (next count old new : ℕ) → IsReading before now judge rest count
-    → count ≤ longest_batch_input → IsPaidRound judge rest next old new count
-    → IsReadFor before now judge rest old new
-read_for before now judge rest next count old new r few p = record {
-  taken = r.taken;
-  told = r.told;
-  few = omega (arith, r.many, few);
-  left = p.1.left;
-  fresh = p.1.fresh;
-  rest_is = p.1.bytes_are;
-  spent = p.1.spent;
-  steps = omega (arith, p.2, p.1.many, r.many);
-}
+since_none judge bytes next spent late = grind (arith, append-nil bytes)
 
 -- the steps of what was taken so far
 pub steps_for : (before now : SourceKnown) (judge : BatchView) (rest : List ℕ) (count old new : ℕ)
     → IsReading before now judge rest count
     → count ≤ longest_batch_input → new ≤ old + 4 * count → IsTakenFor old new before now
-steps_for before now judge rest count old new r few steps =
-    (r.taken, r.told, omega (arith, r.many, few), omega (arith, steps, r.many))
+steps_for before now judge rest count old new r few steps = grind (arith, r.taken, r.told, r.many)
 
 -- and with those of the last round
 pub taken_for : (before now : SourceKnown) (judge : BatchView) (rest : List ℕ) (old between new : ℕ)
     (r : IsReadFor before now judge rest old between)
     → new ≤ between + round_cost (length r.fresh) → IsTakenFor old new before now
-taken_for before now judge rest old between new r steps =
-    (r.taken, r.told, r.few, omega (arith, r.steps, steps))
+taken_for before now judge rest old between new r steps = search arith

@@ -21,6 +21,4 @@ taken_behind before between after count n old new told front gives =
 pub front_kept : (old new more : List ℕ) (count many : ℕ) → length old ≡ count → count ≤ many
     → new ≡ take many old ++ more → take count new ≡ old
 front_kept old new more count many whole within grown =
-    let all : take many old ≡ old = take_all many old (omega (arith, whole, within)) in
-    ap (take count) (grown ∙ ap (λ front. front ++ more) all) ∙ ap (λ n. take n (old ++ more))
-    (sym whole) ∙ take-append_seam old more
+    cc (take_all many old (omega (arith, whole, within)), take-append_seam old more)

@@ -1,24 +1,16 @@
 -- What the count of faults of a device tells of the reads or writes.
 use Rattle.std.proofs.Common.{◌≡◌, ℕ, ◌≤◌, Bool, true, false, refl, subst, sym, inl, inr, arith}
-use Rattle.std.specs.Prelude.{◌⊎◌, ◌==◌, ◌+◌, ◌^◌, ◌-◌, if◌then◌else◌}
+use Rattle.std.specs.Prelude.{◌⊎◌, ◌-◌, if◌then◌else◌}
 use Rattle.std.proofs.lemmas.Bool.Decides.{nat_tests}
 use Rattle.vyrd_base.specs.Devices.{next_count}
 use Rattle.vyrd_command.specs.Inside.Counts.{HasRisen}
 
 -- one more is greater, if the count doesn't stand at its last value
 next_rises : (n : ℕ) → HasRisen n (next_count n)
-next_rises n = by_last (n == 2 ^ 64 - 1) refl
-  where
-    by_last : (last : Bool) → (n == 2 ^ 64 - 1) ≡ last → HasRisen n (if last then n else n + 1)
-    by_last true e = inr (grind (arith, nat_tests))
-    by_last false e = inl (omega arith)
+next_rises n = grind (arith, nat_tests)
 
 next_no_less : (n : ℕ) → n ≤ next_count n
-next_no_less n = by_last (n == 2 ^ 64 - 1)
-  where
-    by_last : (last : Bool) → n ≤ (if last then n else n + 1)
-    by_last true = omega arith
-    by_last false = omega arith
+next_no_less n = grind arith
 
 -- a count after calls of which the last one failed or none did
 pub risen : (before after : ℕ) → after ≡ next_count before → HasRisen before after

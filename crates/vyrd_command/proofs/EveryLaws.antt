@@ -55,29 +55,22 @@ live_accepted w history v limits is live =
 run_accepted : (show : Show) (w : Workload) (status : ℕ) (text : List ℕ) → KeepsLimits w
     → IsCorrect w
     → IsRunAnswer show (Ok w) status text → (status ≡ 0) ⊎ (status ≡ 9)
-run_accepted show w status text limits is (inl told) =
-    inl (told.status_is ∙ live_accepted w told.history told.verdict limits is told.live)
+run_accepted show w status text limits is (inl told) = search (live_accepted, limits, arith)
 run_accepted show w status text limits is (inr spent) = inr spent.status_is
 
 -- the callers of a structure whose operations have few events have room for all of them
 run_unspent : (show : Show) (w : Workload) (status : ℕ) (text : List ℕ) → KeepsLimits w
     → IsCorrectWithFewEvents w
     → IsRunAnswer show (Ok w) status text → status ≡ 9 → ⊥
-run_unspent show w status text limits is (inl told) nine =
-    let none : status ≡ 0 = told.status_is ∙ live_accepted w told.history told.verdict limits
-    is.variant told.live in
-    absurd (omega (arith, none, nine))
+run_unspent show w status text limits is (inl told) nine = search (live_accepted, limits, arith)
 run_unspent show w status text limits is (inr spent) nine =
-    let few = few_events w spent.caller limits is in
-    let long = spent.too_low in
-    absurd (omega (arith, few, long))
+    grind (arith, few_events w spent.caller limits is, spent.too_low)
 
 -- what was read of an input that tells its bytes
 read_of : (input : Option (List ℕ)) (bytes : List ℕ) (work said : Result Workload Refusal)
     → input ≡ Some bytes → work_reading bytes ≡ said
     → IfSome input (λ bytes. work ≡ work_reading bytes) → work ≡ said
-read_of input bytes work said told reading read =
-    subst (λ input. IfSome input (λ bytes. work ≡ work_reading bytes)) told read ∙ reading
+read_of input bytes work said told reading read = grind arith
 
 pub step_is_accepted : (show : Show) (input : Option (List ℕ)) (status : ℕ) (text : List ℕ)
     → SaysCorrect input

@@ -1,6 +1,6 @@
 -- What was taken of an input, and what is explained of it.
 use Rattle.std.proofs.Common.{◌≡◌, ℕ, List, [], ◌+◌, ◌-◌, ◌≤◌, ◌++◌, length, length-append, Bool}
-use Rattle.std.proofs.Common.{true, false, Option, Some, None, refl, ap, ◌∙◌, sym, subst, arith}
+use Rattle.std.proofs.Common.{true, false, Option, Some, None, ap, ◌∙◌, sym, subst, arith}
 use Rattle.std.proofs.Common.{inl, inr}
 use Rattle.std.specs.Prelude.{◌⊎◌, IfSome, option_map}
 use Rattle.vyrd_base.specs.declared.verdict.Verdict.{Verdict}
@@ -33,14 +33,8 @@ pub record TakenSoFar (max : ℕ) (before now : SourceKnown) (explainer : Explai
 pub nothing_taken : (max : ℕ) (before : SourceKnown) (explainer : ExplainerState)
     → limit_of explainer ≡ max → HasTaken explainer []
     → TakenSoFar max before before explainer 0
-nothing_taken max before explainer limit taken = record {
-  bytes = [];
-  told = taken_nothing before.rest;
-  many = refl;
-  limit = limit;
-  taken = taken;
-  unsettled = nothing_settled max;
-}
+nothing_taken max before explainer limit taken =
+    grind (arith, taken_nothing before.rest, nothing_settled max)
 
 -- one read more is no further than it may be
 no_further_by : (max : ℕ) (before after : SourceKnown) (bytes piece : List ℕ) → IsLimit max
@@ -136,16 +130,14 @@ pub longest_settled : {P : Type 0} (max : ℕ) (before now : SourceKnown) (expla
     (count : ℕ) → 1 ≤ max
     → TakenSoFar max before now explainer count → longest_explained max ≤ count → P
 longest_settled max before now explainer count low so_far longest =
-    absurd (omega
-    (arith, unsettled_is_short max so_far.bytes low so_far.unsettled, so_far.many, longest))
+    grind (arith, unsettled_is_short max so_far.bytes low so_far.unsettled, so_far.many)
 
 -- What is said of what was taken is what is said of the whole input.
 says_whole : (about : About) (max : ℕ) (before after : SourceKnown) (bytes : List ℕ) → IsLimit max
     → IsTaken before.rest bytes after.rest
     → IsAtEnd after ⊎ (is_settled max bytes ≡ true) → IfSome before.rest (SaysWhole about max bytes)
 says_whole about max before after bytes within told enough =
-    subst (λ input. IfSome input (SaysWhole about max bytes)) (sym told)
-    (by_rest after.rest (by_end enough))
+    grind (arith, by_rest after.rest (by_end enough))
   where
     by_end : IsAtEnd after ⊎ (is_settled max bytes ≡ true) → IfSome after.rest (λ left. left ≡ [])
         ⊎ (is_settled max bytes ≡ true)
@@ -156,14 +148,8 @@ says_whole about max before after bytes within told enough =
         ⊎ (is_settled max bytes ≡ true)
         → IfSome (option_map (λ left. bytes ++ left) rest) (SaysWhole about max bytes)
     by_rest None enough = tt
-    by_rest (Some left) (inl none) =
-        let same : bytes ≡ bytes
-        ++ left = sym (ap (λ left. bytes ++ left) none ∙ no_more_bytes bytes) in
-        record { verdict = ap (log_verdict max) same; text = ap (explained about max) same }
-    by_rest (Some left) (inr settled) = record {
-      verdict = sym (verdict_lasts max bytes left within.low within.high settled);
-      text = sym (text_lasts about max bytes left within.low within.high settled);
-    }
+    by_rest (Some left) (inl none) = grind (arith, no_more_bytes bytes)
+    by_rest (Some left) (inr settled) = search (verdict_lasts, left, settled, text_lasts, arith)
 
 -- the answer, of what was taken
 pub explain_answered : (about : About) (max : ℕ) (before after : SourceKnown)
@@ -173,11 +159,10 @@ pub explain_answered : (about : About) (max : ℕ) (before after : SourceKnown)
     → text ≡ explained about (limit_of explainer) t.bytes
     → AnswersExplain about max before.rest status text
 explain_answered about max before after explainer status v text within t status_is verdict_is
-    text_is = record {
-      taken = t.bytes;
-      whole = says_whole about max before after t.bytes within t.told t.enough;
-      status_is = status_is ∙ ap status_of verdict_is
-          ∙ ap (λ max. status_of (log_verdict max t.bytes))
-          t.limit;
-      text_is = text_is ∙ ap (λ max. explained about max t.bytes) t.limit;
-    }
+    text_is =
+    grind (
+      arith,
+      t.bytes,
+      says_whole about max before after t.bytes within t.told t.enough,
+      t.limit,
+    )

@@ -1,6 +1,6 @@
 -- What was read of an input, to its end or as far as it is read, and what that says.
 use Rattle.std.proofs.Common.{◌≡◌, ℕ, List, [], ◌∷◌, ◌++◌, length, Option, Some, None, ap, ◌∙◌, sym}
-use Rattle.std.proofs.Common.{subst, arith, inl, inr, length-append}
+use Rattle.std.proofs.Common.{arith, inl, inr, length-append}
 use Rattle.std.specs.Prelude.{◌⊎◌, option_map, IfSome, Result, Ok}
 use Rattle.vyrd_base.specs.Devices.{SourceKnown, IsAtEnd}
 use Rattle.vyrd_check_command.proofs.TakenLaws.{no_more_bytes}
@@ -14,8 +14,7 @@ pub whole_input : {A : Type 0} (reading : List ℕ → A) (most : ℕ) (before a
     → IsInputRead most before after bytes
     → IfSome before.rest (λ input. reading bytes ≡ reading input)
 whole_input reading most before after bytes settled is =
-    subst (λ input. IfSome input (λ input. reading bytes ≡ reading input)) (sym is.told)
-    (by_rest after.rest (by_end is.enough))
+    grind (arith, is.told, by_rest after.rest (by_end is.enough))
   where
     by_end : IsAtEnd after ⊎ (length bytes ≡ most) → IfSome after.rest (λ left. left ≡ [])
         ⊎ (length bytes ≡ most)
@@ -25,8 +24,7 @@ whole_input reading most before after bytes settled is =
     by_rest : (rest : Option (List ℕ)) → IfSome rest (λ left. left ≡ []) ⊎ (length bytes ≡ most)
         → IfSome (option_map (λ left. bytes ++ left) rest) (λ input. reading bytes ≡ reading input)
     by_rest None enough = tt
-    by_rest (Some left) (inl none) = ap reading
-        (sym (ap (λ left. bytes ++ left) none ∙ no_more_bytes bytes))
+    by_rest (Some left) (inl none) = cc (no_more_bytes bytes)
     by_rest (Some left) (inr all) = sym (settled left all)
 
 -- what was read of a source was taken of it

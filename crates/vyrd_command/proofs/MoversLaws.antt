@@ -1,5 +1,5 @@
 -- What was read of an input says the history of the whole input.
-use Rattle.std.proofs.Common.{◌≡◌, ℕ, List, [], ◌+◌, ◌++◌, length, length-append, refl, ap, ◌∙◌}
+use Rattle.std.proofs.Common.{◌≡◌, ℕ, List, [], ◌+◌, ◌++◌, length, length-append, refl, ap}
 use Rattle.std.proofs.Common.{sym, subst, arith}
 use Rattle.std.specs.Prelude.{IfSome, IfOk, Result, Ok, Err}
 use Rattle.std.specs.declared.alloc.AllocError.{AllocError}
@@ -35,12 +35,7 @@ pub record ReadSoFar (before after : SourceKnown) (reader : ReaderState) (count 
 
 pub nothing_read : (before : SourceKnown) (reader : ReaderState) → HasRead reader []
     → ReadSoFar before before reader 0
-nothing_read before reader read = record {
-  taken = [];
-  told = taken_nothing before.rest;
-  many = refl;
-  read = read;
-}
+nothing_read before reader read = grind (arith, taken_nothing before.rest)
 
 -- one piece more
 pub piece_read : (before between after : SourceKnown) (reader new : ReaderState) (count most n : ℕ)
@@ -63,18 +58,14 @@ pub blocks_are_answered : (reading : Result Recorded Refusal) (blocks : Blocks) 
     (text : List ℕ) → AreBlocksOf reading blocks
     → status ≡ status_of_blocks blocks → text ≡ blocks_text blocks
     → IsMoversAnswer reading status text
-blocks_are_answered (Ok r) blocks status text are status_is text_is =
-    (status_is ∙ ap status_of_blocks are, text_is ∙ ap blocks_text are)
-blocks_are_answered (Err refusal) blocks status text are status_is text_is = absurd are
+blocks_are_answered reading blocks status text are status_is text_is = grind (arith, text_is)
 
 pub told_is_answered : (told : Result Answer AllocError) (reading : Result Recorded Refusal)
     (blocks : Blocks) → AreBlocksOf reading blocks
     → IfOk told (λ answer. answer.status ≡ status_of_blocks blocks)
     → IfOk told (λ answer. answer.text.items ≡ blocks_text blocks)
     → IfOk told (λ answer. IsMoversAnswer reading answer.status answer.text.items)
-told_is_answered (Ok answer) reading blocks are status text = blocks_are_answered reading blocks
-    answer.status answer.text.items are status text
-told_is_answered (Err e) reading blocks are status text = tt
+told_is_answered told reading blocks are status text = grind (arith, reading, blocks_are_answered)
 
 -- a history as long as can be read is refused
 pub movers_refused : (bytes : List ℕ) (status : ℕ) (text : List ℕ)

@@ -1,5 +1,5 @@
 -- No answer that a read came before has the status of a failed read.
-use Rattle.std.proofs.Common.{◌≡◌, ℕ, ◌≤◌, List, Result, Ok, Err, inl, inr, arith}
+use Rattle.std.proofs.Common.{ℕ, ◌≤◌, List, Result, Ok, Err, inl, inr, arith}
 use Rattle.std.specs.Prelude.{◌≢◌}
 use Rattle.vyrd_mover.specs.declared.blocks.Blocks.{Blocks}
 use Rattle.vyrd_mover.specs.declared.blocks.Blocks.TheVariants.{Reducible, Broken}
@@ -11,7 +11,7 @@ use Rattle.vyrd_check_command.proofs.StatusLaws.{verdict_low}
 use Rattle.vyrd_command.specs.declared.show.Show.{Show}
 use Rattle.vyrd_command.specs.Steps.{IsStepAnswer}
 use Rattle.vyrd_command.specs.Runs.{IsRunAnswer}
-use Rattle.vyrd_command.specs.Moved.{IsMoversAnswer, status_of_blocks, said_of_blocks}
+use Rattle.vyrd_command.specs.Moved.{IsMoversAnswer, status_of_blocks}
 use Rattle.vyrd_command.specs.Batches.{IsBatchStatus}
 
 blocks_low : (b : Blocks) → status_of_blocks b ≤ 1
@@ -21,22 +21,19 @@ blocks_low (Broken open_line at_line) = omega arith
 pub step_isnt_four : (show : Show) (work : Result Workload Refusal) (status : ℕ) (text : List ℕ)
     → IsStepAnswer show work status text → status ≢ 4
 step_isnt_four show (Err refusal) status text answer four = omega (arith, answer.0, four)
-step_isnt_four show (Ok w) status text (inl run) four =
-    omega (arith, run.status_is, four, verdict_low run.verdict)
+step_isnt_four show (Ok w) status text (inl run) four = search (four, verdict_low, arith)
 step_isnt_four show (Ok w) status text (inr stuck) four = omega (arith, stuck.status_is, four)
 
 pub run_isnt_four : (show : Show) (work : Result Workload Refusal) (status : ℕ) (text : List ℕ)
     → IsRunAnswer show work status text → status ≢ 4
 run_isnt_four show (Err refusal) status text answer four = omega (arith, answer.0, four)
-run_isnt_four show (Ok w) status text (inl live) four =
-    omega (arith, live.status_is, four, verdict_low live.verdict)
+run_isnt_four show (Ok w) status text (inl live) four = search (four, verdict_low, arith)
 run_isnt_four show (Ok w) status text (inr spent) four = omega (arith, spent.status_is, four)
 
 pub movers_isnt_four : (read : Result Recorded movers.Refusal) (status : ℕ) (text : List ℕ)
     → IsMoversAnswer read status text → status ≢ 4
 movers_isnt_four (Err refusal) status text answer four = omega (arith, answer.0, four)
-movers_isnt_four (Ok r) status text answer four =
-    omega (arith, answer.0, four, blocks_low (said_of_blocks r))
+movers_isnt_four (Ok r) status text answer four = search (four, blocks_low, arith)
 
 pub batch_isnt_four : (status : ℕ) → IsBatchStatus status → status ≢ 4
 batch_isnt_four status (inl low) four = omega (arith, low, four)

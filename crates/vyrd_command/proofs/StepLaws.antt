@@ -33,8 +33,7 @@ use Rattle.vyrd_command.proofs.InputLaws.{whole_input, long_refused}
 pub turned_is_legal : (w : Workload) (history : List Stamped) → KeepsLimits w
     → RunsTo (work_scripts w) w.turns history
     → is_legal (cells_of w.header) history ≡ true
-turned_is_legal w history limits runs = run_is_legal w.header (work_scripts w) w.turns history
-    (scripts_sound w limits) runs
+turned_is_legal w history limits runs = search (run_is_legal, scripts_sound, limits, arith)
 
 pub turned_plays : (w : Workload) (history : List Stamped) → KeepsLimits w
     → RunsTo (work_scripts w) w.turns history
@@ -55,13 +54,8 @@ names_only_races w history v limits legal played is = λ line rule e.
 pub is_turned : (w : Workload) (history : List Stamped) → KeepsLimits w
     → RunsTo (work_scripts w) w.turns history
     → IsTurnedTo w history (verdict (rules_of w.header) [] (log_of history))
-is_turned w history limits runs = record {
-  runs = runs;
-  verdict_is = refl;
-  races = names_only_races w history (verdict (rules_of w.header) [] (log_of history)) limits
-      (turned_is_legal w history limits runs)
-      (turned_plays w history limits runs) refl;
-}
+is_turned w history limits runs =
+    search (limits, names_only_races, turned_is_legal, turned_plays, arith)
 
 -- what is known of a live run that ends
 pub is_live : (w : Workload) (history : List Stamped) (v : Verdict) → KeepsLimits w
@@ -69,13 +63,8 @@ pub is_live : (w : Workload) (history : List Stamped) (v : Verdict) → KeepsLim
     → PlayToTheEnd (work_scripts w) history → AllHadRoom w.header most_events history
     → v ≡ verdict (rules_of w.header) [] (log_of history)
     → IsLiveRun w history v
-is_live w history v limits legal parts room is = record {
-  legal = legal;
-  parts = parts;
-  room = room;
-  verdict_is = is;
-  races = names_only_races w history v limits legal parts is;
-}
+is_live w history v limits legal parts room is =
+    search (limits, parts, room, names_only_races, arith)
 
 -- what was read of an input says what the whole input says
 pub reading_is_input : (before after : SourceKnown) (bytes : List ℕ)

@@ -1,6 +1,6 @@
 -- The log has no fault, so it is accepted.
-use Rattle.std.proofs.Common.{◌≡◌, ℕ, ◌<◌, true, false, cond, List, [], ◌∷◌, ◌++◌, Some, None}
-use Rattle.std.proofs.Common.{option_map, length, refl, ap, ◌∙◌, sym, subst}
+use Rattle.std.proofs.Common.{◌≡◌, ℕ, ◌<◌, true, false, List, [], ◌∷◌, ◌++◌, Some, None}
+use Rattle.std.proofs.Common.{option_map, length, refl, ap, ◌∙◌, subst}
 use Rattle.std.specs.Prelude.{filter_map, unwrap_or}
 use Rattle.std.specs.Option.{option_or}
 use Rattle.std.specs.Bool.{then_some}
@@ -77,9 +77,8 @@ plain_place h passed state next log logs e right same unchanged later =
     place_adds h (states_with h passed state (commits_after log (e ∷ logs)))
     (record { earlier = log; here = e; later = logs }) (places_after (e ∷ log) logs)
     (right (states_with h passed state (commits_after log (e ∷ logs))))
-    (subst (λ xs. first_answer (violation_at (rules_of h) [] (states_with h passed state xs))
-    (places_after (e ∷ log) logs) ≡ None) (sym same)
-    (subst (λ s. FaultFrom h passed s (e ∷ log) logs) unchanged later))
+    (rw same
+    (rw (← unchanged) later))
 
 commit_place : (h : Header) → h.version ≡ 1 → (passed : List Amounts) (state next : Amounts)
     (log logs : List Entry) (e : Entry) (rest : Script)
@@ -104,12 +103,9 @@ commit_place h one passed state next log logs e rest kind_is goes_on wf m count 
     ∙ commit_is_right h one passed (later_states h state (commits_after log (e ∷ logs))) state next
     place committing.called committing.reply wf m count
     committing.is_called (coming committing.reply committing.returns) committing.allowed)
-    (subst (λ states. first_answer (violation_at (rules_of h) [] states)
-    (places_after (e ∷ log) logs) ≡ None)
-    (sym (ap (states_with h passed state) goes_on
-    ∙ state_goes_on h passed state next (committed_at place) (commits_after (e ∷ log) logs)
-    committing.called committing.reply committing.is_called
-    (coming committing.reply committing.returns) committing.allowed))
+    (rw (ap (states_with h passed state) goes_on ∙ state_goes_on h passed state next (committed_at
+    place) (commits_after (e ∷ log) logs) committing.called committing.reply
+    committing.is_called (coming committing.reply committing.returns) committing.allowed)
     later)
   where
     place : Place Entry
@@ -234,13 +230,8 @@ no_fault_from h one scripts k earlier (e ∷ xs) passed state run done holds =
             → next_reply e.caller (filter_map log_entry xs) ≡ Some reply
         coming commits reply will =
             reply_comes e.caller (script_of scripts e.caller) (e ∷ earlier) xs reply
-            (subst (λ b. WillReturn reply
-            (left_after (script_of scripts e.caller)
-            (cons_option (cond b (Some e.did) None) (part_of e.caller earlier))))
-            (sym (same_number e.caller))
-            (subst (λ n. WillReturn reply
-            (after_answer (left_after (script_of scripts e.caller) (part_of e.caller earlier)) n))
-            (sym (zero_answer e.did commits)) will))
+            (rw (same_number e.caller)
+            (rw (zero_answer e.did commits) will))
             (run.plays e.caller)
             (are_answers (cells_of h) (newest_first_onto earlier (e ∷ xs)) e.caller run.legal)
             (done e.caller low)

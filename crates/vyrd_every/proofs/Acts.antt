@@ -1,9 +1,6 @@
 -- Single acts do right, if what follows them does.
 use Rattle.std.proofs.Common.{◌≡◌, ℕ, ◌<◌, inl, inr, Bool, true, false, List, [], ◌∷◌, Some, None}
 use Rattle.std.proofs.Common.{refl, ap, ◌∙◌, sym, subst}
-use Rattle.std.proofs.lemmas.Option.{same_Some}
-use Rattle.std.specs.Prelude.{◌==◌, ◌||◌}
-use Rattle.std.specs.List.{list_any}
 use Rattle.vyrd_base.specs.declared.log.Kind.TheVariants.{Return, Commit, BlockOpen, BlockClose}
 use Rattle.vyrd_base.specs.declared.log.Kind.TheVariants.{BlockCommit}
 use Rattle.vyrd_base.specs.Callers.{Called}
@@ -95,8 +92,7 @@ at locks committed in_block called =
 
 pub holds_first : (lock : ℕ) (locks : List ℕ) (committed in_block : Bool) (called : Called)
     → holds (at (lock ∷ locks) committed in_block called) lock ≡ true
-holds_first lock locks committed in_block called =
-    ap (λ b. b || list_any (λ held. held == lock) locks) (same_number lock)
+holds_first lock locks committed in_block called = cc (same_number lock)
 
 -- the locals with no slot reserved
 abbrev pub without_slots : Locals → List (ℕ × ℕ) → Locals
@@ -131,9 +127,7 @@ returns_right S k shown committed called reply none answer = (
 pub mutates : (k : Locals) (called : Called) (reply : ℕ) → k.called ≡ Some called
     → is_observer called.method ≡ false
     → (c : Called) → k.called ≡ Some c → is_observer c.method ≡ true → k.answered ≡ Some reply
-mutates k called reply is mutator c is' observes =
-    let same : called ≡ c = same_Some called c (sym is ∙ is') in
-    absurd (never mutator (subst (λ x. is_observer x.method ≡ true) (sym same) observes))
+mutates k called reply is mutator c is' observes = cc
 
 -- a commit outside a block
 pub lone_commit_right : (S : Structure) (locks : List ℕ) (k : Locals) (shown : Memory)
@@ -186,19 +180,9 @@ pub block_store_right : (S : Structure) (locks : List ℕ) (k : Locals) (shown :
     }) now later)
     → DoesRight S (at locks false true called) k shown (perform (Store cell value) later)
 block_store_right S locks k shown called cell value later access rest = (
-  record {
-    owned = k.owned;
-    pending = (cell, value) ∷ k.pending;
-    called = k.called;
-    answered = k.answered;
-  },
+  record k { pending = (cell, value) ∷ k.pending },
   quiet S (at locks false true called) k shown (Store cell value) later
-      (record {
-        owned = k.owned;
-        pending = (cell, value) ∷ k.pending;
-        called = k.called;
-        answered = k.answered;
-      })
+      (record k { pending = (cell, value) ∷ k.pending })
       refl refl access (λ state m. m) refl refl refl,
   rest,
 )
@@ -264,15 +248,9 @@ answer_right S k shown lock called reply none is seen = (
   quiet S (at (lock ∷ []) false false called) k shown (Give lock) (returns reply) answered
       refl refl refl (λ state m. m) refl refl
       (inr (record { called = called; is_called = is; reply = reply; answer = refl; seen = seen })),
-  λ then_ rely. subst (λ locks. DoesRight S (at locks false false called) answered then_
-      (returns reply)) (sym (gone lock []))
+  λ then_ rely. rw (gone lock [])
       (returns_right S answered then_ false called reply none (λ c is' observes. refl)),
 )
   where
     answered : Locals
-    answered = record {
-      owned = k.owned;
-      pending = k.pending;
-      called = k.called;
-      answered = Some reply;
-    }
+    answered = record k { answered = Some reply }

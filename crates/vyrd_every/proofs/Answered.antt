@@ -1,8 +1,8 @@
 -- Which states an observer has seen: the commits along the log, and the states from a caller's call
 -- on.
 use Rattle.std.proofs.Common.{◌≡◌, ℕ, zero, suc, ◌+◌, ◌≤◌, Bool, true, false, cond, ◌||◌, List, []}
-use Rattle.std.proofs.Common.{◌∷◌, ◌++◌, length, refl, ap, ◌∙◌, sym, arith}
-use Rattle.std.specs.Prelude.{◌==◌, ◌&&◌}
+use Rattle.std.proofs.Common.{◌∷◌, ◌++◌, length, refl, ap, arith}
+use Rattle.std.specs.Prelude.{◌==◌}
 use Rattle.std.specs.List.{cons_option, list_any}
 use Rattle.vyrd_base.specs.declared.log.Kind.TheVariants.{Write}
 use Rattle.vyrd_base.specs.declared.log.Entry.{Entry}
@@ -43,23 +43,12 @@ length_more (y ∷ xs) x = omega (arith, length_more xs x)
 pub passed_step : (c : ℕ) (did : Did) (log : List Entry) (passed : List Amounts) (state : Amounts)
     → length passed ≡ commit_count log
     → length (passed_after did passed state) ≡ commit_count (cons_option (logged c did) log)
-passed_step c did log passed state e = by_test (commits_now did) ∙ sym (count_step c did log)
-  where
-    by_test : (b : Bool) → length (cond b (passed ++ state ∷ []) passed) ≡ cond b 1 0
-        + commit_count log
-    by_test true = omega (arith, length_more passed state, e)
-    by_test false = omega (arith, e)
+passed_step c did log passed state e = grind (arith, passed, count_step, length_more)
 
 -- the caller's last call is the same after an event that isn't a call of its own
 pub call_other : (c d : ℕ) (did : Did) (log : List Entry) → (c == d) ≡ false
     → entries_before_call d (cons_option (logged c did) log) ≡ entries_before_call d log
-call_other c d (Read cell value) log apart = refl
-call_other c d (Took lock) log apart = refl
-call_other c d (Gave lock) log apart = refl
-call_other c d (Wrote cell value) log apart =
-    ap (λ b. cond (b && false) log (entries_before_call d log)) apart
-call_other c d (Marked kind) log apart =
-    ap (λ b. cond (b && is_call kind) log (entries_before_call d log)) apart
+call_other c d did log apart = grind (arith, apart)
 
 -- whether an event is a call
 abbrev pub calls_now : Did → Bool
@@ -68,21 +57,7 @@ calls_now _ = false
 
 pub call_own : (c : ℕ) (did : Did) (log : List Entry) → calls_now did ≡ false
     → entries_before_call c (cons_option (logged c did) log) ≡ entries_before_call c log
-call_own c (Read cell value) log none = refl
-call_own c (Took lock) log none = refl
-call_own c (Gave lock) log none = refl
-call_own c (Wrote cell value) log none = by_test (c == c)
-  where
-    by_test : (b : Bool) → cond (b && false) log (entries_before_call c log)
-        ≡ entries_before_call c log
-    by_test true = refl
-    by_test false = refl
-call_own c (Marked kind) log none = by_test (c == c) ∙ refl
-  where
-    by_test : (b : Bool) → cond (b && is_call kind) log (entries_before_call c log)
-        ≡ entries_before_call c log
-    by_test true = ap (λ t. cond t log (entries_before_call c log)) none
-    by_test false = refl
+call_own c did log none = grind arith
 
 any_more : (f : Amounts → Bool) (xs ys : List Amounts) → list_any f xs ≡ true
     → list_any f (xs ++ ys) ≡ true
@@ -91,14 +66,12 @@ any_more f (x ∷ xs) ys e = by_test (f x) (any_more f xs ys) e
   where
     by_test : (b : Bool) → (list_any f xs ≡ true → list_any f (xs ++ ys) ≡ true)
         → (b || list_any f xs) ≡ true → (b || list_any f (xs ++ ys)) ≡ true
-    by_test true rest e = refl
-    by_test false rest e = rest e
+    by_test b rest e = search arith
 
 pub answer_more : (states more : List Amounts) (n : ℕ) (called : Called) (reply : ℕ)
     → has_answer states n called reply ≡ true
     → has_answer (states ++ more) n called reply ≡ true
-answer_more states more zero called reply e = any_more
-    (λ state. answer_in state called.method called.args == reply) states more e
+answer_more states more zero called reply e = search (any_more, more, arith)
 answer_more [] more (suc n) called reply e = cc
 answer_more (state ∷ states) more (suc n) called reply e = answer_more states more n called reply e
 
@@ -107,9 +80,7 @@ pub answer_last : (passed : List Amounts) (state : Amounts) (n : ℕ) (called : 
     → n ≤ length passed
     → answer_in state called.method called.args ≡ reply
     → has_answer (passed ++ state ∷ []) n called reply ≡ true
-answer_last [] state zero called reply low e =
-    ap (λ b. b || false) (ap (λ r. answer_in state called.method called.args == r) (sym e)
-    ∙ same_number (answer_in state called.method called.args))
+answer_last [] state zero called reply low e = search (same_number, arith)
 answer_last [] state (suc n) called reply low e = absurd (omega (arith, low))
 answer_last (x ∷ passed) state zero called reply low e =
     by_test (answer_in x called.method called.args == reply)
@@ -117,7 +88,6 @@ answer_last (x ∷ passed) state zero called reply low e =
   where
     by_test : (b : Bool) → has_answer (passed ++ state ∷ []) 0 called reply ≡ true
         → (b || has_answer (passed ++ state ∷ []) 0 called reply) ≡ true
-    by_test true rest = refl
-    by_test false rest = rest
+    by_test b rest = search arith
 answer_last (x ∷ passed) state (suc n) called reply low e = answer_last passed state n called reply
     (omega (arith, low)) e

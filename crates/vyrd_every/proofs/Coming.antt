@@ -74,8 +74,7 @@ other_reply : (c d : ℕ) (did : Did) (log : List Entry) → (d == c) ≡ false
 other_reply c d (Read cell value) log apart = refl
 other_reply c d (Took lock) log apart = refl
 other_reply c d (Gave lock) log apart = refl
-other_reply c d (Wrote cell value) log apart = other_answer c d returned (Write cell value) log
-    apart
+other_reply c d (Wrote cell value) log apart = simp (other_answer, returned, apart)
 other_reply c d (Marked kind) log apart = other_answer c d returned kind log apart
 
 -- what is played of a longer history was played before

@@ -1,22 +1,20 @@
 -- A run by turns ends or gets stuck, whatever the scripts are: each event leaves less of one
 -- script,
 -- and a script is finite.
-use Rattle.std.proofs.Common.{◌≡◌, ℕ, zero, suc, ◌<◌, ◌⊎◌, inl, inr, Bool, true, false, cond, not}
+use Rattle.std.proofs.Common.{◌≡◌, ℕ, zero, suc, ◌<◌, ◌⊎◌, inl, inr, Bool, true, false, not}
 use Rattle.std.proofs.Common.{◌&&◌, ◌||◌}
 use Rattle.std.proofs.Common.{List, [], ◌∷◌, ◌++◌, Option, Some, None, length, refl, ap, ◌∙◌, sym}
 use Rattle.std.proofs.Common.{arith}
-use Rattle.std.specs.Prelude.{◌≢◌, ◌==◌, is_some}
+use Rattle.std.specs.Prelude.{◌≢◌, is_some}
 use Rattle.std.proofs.lemmas.List.{append-nil}
 use Rattle.std.proofs.lemmas.Option.{none-some}
-use Rattle.std.specs.List.{list_all, list_any, cons_option}
+use Rattle.std.specs.List.{list_all, list_any}
 use Rattle.vyrd_base.specs.declared.history.Did.{Did}
-use Rattle.vyrd_base.specs.declared.history.Did.TheVariants.{Took}
 use Rattle.vyrd_base.specs.declared.history.Stamped.{Stamped}
 use Rattle.vyrd_base.specs.Places.{numbers_below, newest_first, newest_first_onto}
-use Rattle.vyrd_base.specs.Histories.{value_in}
 use Rattle.vyrd_base.proofs.TestLaws.{same_of, apart_of}
 use Rattle.vyrd_memory.specs.declared.act.Act.{Act}
-use Rattle.vyrd_memory.specs.declared.act.Act.TheVariants.{Load, Store, Take, Give, Mark, Done}
+use Rattle.vyrd_memory.specs.declared.act.Act.TheVariants.{Done}
 use Rattle.vyrd_memory.specs.declared.op.Turn.{Turn}
 use Rattle.vyrd_memory.specs.Scripts.{Script, stop, step, next_act, after_answer, answer_of}
 use Rattle.vyrd_memory.specs.Scripts.{left_after}
@@ -105,19 +103,8 @@ less_left : (scripts : List Script) (earlier : List Stamped) (ls : List Script) 
     → AreLeft scripts earlier ls
     → AreLeft scripts (record { number = n; caller = c; did = did } ∷ earlier)
     (put ls c (after_answer (at ls c) (answer_of did)))
-less_left scripts earlier ls n c did low are d = by_caller (c == d) refl
-  where
-    x : Script
-    x = after_answer (at ls c) (answer_of did)
-
-    by_caller : (b : Bool) → (c == d) ≡ b
-        → left_after (script_of scripts d)
-        (cons_option (cond b (Some did) None) (part_of d earlier)) ≡ at (put ls c x) d
-    by_caller true e =
-        let same : c ≡ d = same_of c d e in
-        ap (λ script. after_answer script (answer_of did)) (are d ∙ ap (at ls) (sym same))
-        ∙ sym (put_here ls c x low) ∙ ap (at (put ls c x)) same
-    by_caller false e = are d ∙ sym (put_elsewhere ls c d x (apart_of c d e))
+less_left scripts earlier ls n c did low are =
+    grind (arith, part_of, same_of, put_here, put_elsewhere, apart_of)
 
 -- after some rounds all are done, or those that aren't wait for locks
 abbrev Halts : List Script → List Stamped → Type 0
@@ -136,38 +123,21 @@ acts scripts earlier c = is_some (event_now earlier (act_of scripts c earlier))
 -- it is one if its script isn't done and it doesn't wait
 acts_if : (earlier : List Stamped) (act : Act) → is_some (event_now earlier act)
     ≡ not (is_done act || is_held_up earlier act)
-acts_if earlier (Load cell) = refl
-acts_if earlier (Store cell value) = refl
-acts_if earlier (Take lock) = by_free (value_in earlier lock == 0)
-  where
-    by_free : (b : Bool) → is_some (cond {A = Option Did} b (Some (Took lock)) None) ≡ not (not b)
-    by_free true = refl
-    by_free false = refl
-acts_if earlier (Give lock) = refl
-acts_if earlier (Mark kind) = refl
-acts_if earlier Done = refl
+acts_if earlier act = grind (arith, is_some)
 
 some_other : {A : Type 0} (f g : A → Bool) → ((a : A) → g a ≡ not (f a)) → (xs : List A)
     → list_any g xs ≡ not (list_all f xs)
 some_other f g other [] = refl
-some_other f g other (x ∷ xs) = ap (λ b. b || list_any g xs) (other x) ∙ ap (λ b. not (f x) || b)
-    (some_other f g other xs) ∙ by_test (f x)
+some_other f g other (x ∷ xs) = cc (other x, some_other f g other xs, by_test (f x))
   where
     by_test : (b : Bool) → (not b || not (list_all f xs)) ≡ not (b && list_all f xs)
-    by_test true = refl
-    by_test false = refl
+    by_test b = search arith
 
 -- if not all are done, and it isn't so that each waits, somebody acts
 somebody_acts : (scripts : List Script) (earlier : List Stamped) → are_done scripts earlier ≡ false
     → are_stuck scripts earlier ≡ false
     → list_any (acts scripts earlier) (numbers_below (length scripts)) ≡ true
-somebody_acts scripts earlier going free =
-    some_other waits (acts scripts earlier) (λ c. acts_if earlier (act_of scripts c earlier))
-    (numbers_below (length scripts))
-    ∙ ap not (sym (ap (λ b. not b && list_all waits (numbers_below (length scripts))) going) ∙ free)
-  where
-    waits : ℕ → Bool
-    waits c = is_done (act_of scripts c earlier) || is_held_up earlier (act_of scripts c earlier)
+somebody_acts scripts earlier going free = grind (arith, free, some_other, acts_if)
 
 -- an event is of a script that isn't done
 acts_on : (earlier : List Stamped) (act : Act) (did : Did) → event_now earlier act ≡ Some did

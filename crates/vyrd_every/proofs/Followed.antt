@@ -126,9 +126,8 @@ operations_right S procedure (op ∷ ops) k shown each callable rests = (
 )
   where
     begun : Locals
-    begun = record {
-      owned = k.owned;
-      pending = k.pending;
+    begun = record k {
       called = Some (record { method = op.method; args = op.args });
-      answered = None;
+      answered =
+          None;
     }

@@ -1,19 +1,19 @@
 -- No commit is a fault, and no observer's return is one.
 use Rattle.std.proofs.Common.{◌≡◌, ℕ, Bool, true, false, cond, not, ◌||◌, List, [], ◌∷◌, ◌++◌, map}
-use Rattle.std.proofs.Common.{Option, Some, None, option_map, length, refl, ap, ◌∙◌, sym}
-use Rattle.std.specs.Prelude.{◌==◌, filter, slice_get, drop, option_and_then}
-use Rattle.std.specs.Option.{option_and, option_map_or}
+use Rattle.std.proofs.Common.{Option, Some, None, length, refl, ap, ◌∙◌, sym}
+use Rattle.std.specs.Prelude.{◌==◌, filter, slice_get, option_and_then}
+use Rattle.std.specs.Option.{option_and}
 use Rattle.std.specs.List.{list_any}
 use Rattle.std.proofs.lemmas.Bool.{not-false}
 use Rattle.vyrd_base.specs.declared.header.Header.{Header}
 use Rattle.vyrd_base.specs.declared.log.Entry.{Entry}
 use Rattle.vyrd_base.specs.declared.log.Kind.TheVariants.{Return}
-use Rattle.vyrd_base.specs.declared.verdict.Why.TheVariants.{View, Reply, Observer}
+use Rattle.vyrd_base.specs.declared.verdict.Why.TheVariants.{Observer}
 use Rattle.vyrd_base.specs.Places.{Place}
 use Rattle.vyrd_base.specs.Callers.{Called, open_call, has_committed, entries_before_call}
 use Rattle.vyrd_base.specs.Shape.{broken_rule, is_observing}
 use Rattle.vyrd_base.specs.Subjects.{is_observer, is_built_in}
-use Rattle.vyrd_base.specs.Amounts.{Amounts, amount_of, keys_of, least, first_difference}
+use Rattle.vyrd_base.specs.Amounts.{Amounts, least, first_difference}
 use Rattle.vyrd_base.specs.States.{State, showing}
 use Rattle.vyrd_base.specs.Specification.{next_state, answer_in}
 use Rattle.vyrd_base.specs.Words.{words_at}
@@ -21,8 +21,8 @@ use Rattle.vyrd_base.specs.FirstVersion.{old_words_after}
 use Rattle.vyrd_base.specs.Front.{WellFormed}
 use Rattle.vyrd_base.proofs.VersionWords.{first_words_at}
 use Rattle.vyrd_base.specs.Views.{view_of_words}
-use Rattle.vyrd_base.specs.Commits.{next_reply, committed_at, commit_count}
-use Rattle.vyrd_base.specs.Faults.{commit_fault, states_since_call, observer_fault, return_fault}
+use Rattle.vyrd_base.specs.Commits.{next_reply, commit_count}
+use Rattle.vyrd_base.specs.Faults.{states_since_call, observer_fault, return_fault}
 use Rattle.vyrd_base.specs.Faults.{fault_of_commit}
 use Rattle.vyrd_base.proofs.BlockLaws.{entry}
 use Rattle.vyrd_base.proofs.CommittedLaws.{returns_committed}
@@ -34,14 +34,10 @@ use Rattle.vyrd_base.specs.Rules.{rules_of}
 -- a state differs from itself nowhere
 none_kept : (p : ℕ → Bool) (xs : List ℕ) → ((x : ℕ) → p x ≡ false) → filter p xs ≡ []
 none_kept p [] none = refl
-none_kept p (x ∷ xs) none = ap (λ b. cond b (x ∷ filter p xs) (filter p xs)) (none x)
-    ∙ none_kept p xs none
+none_kept p (x ∷ xs) none = cc (none x, none_kept p xs none)
 
 no_difference : (state : Amounts) → first_difference state state ≡ None
-no_difference state =
-    ap least (none_kept (λ key. not (amount_of state key == amount_of state key))
-    (keys_of state ++ keys_of state)
-    (λ key. ap not (same_number (amount_of state key))))
+no_difference state = simp (least, none_kept, same_number)
 
 -- a commit after which the words show the next state isn't a fault
 pub commit_is_right : (h : Header) → h.version ≡ 1 → (passed : List Amounts) (later : List State)
@@ -55,21 +51,12 @@ pub commit_is_right : (h : Header) → h.version ≡ 1 → (passed : List Amount
     → fault_of_commit (rules_of h) [] (map showing passed ++ showing state ∷ later) place ≡ None
 commit_is_right h one passed later state next place called reply wf shows count call returns
     allowed =
-    ap (option_and_then (commit_fault (rules_of h) shown (committed_at place)))
-    (state_here passed later state (commit_count place.earlier) count)
-    ∙ (λ i. commit_fault (rules_of h) shown
-    (record { caller = place.here.caller; called = call i; reply = returns i }) (showing state))
-    ∙ ap (λ o. elim (option_map showing o) [
-      | None ↦ Some (Reply reply)
-      | Some after ↦ option_map
-          View (first_difference shown after.shown)
-    ]) allowed
-    ∙ ap (λ s. option_map View (first_difference s next))
-    (ap (view_of_words h) (first_words_at h place one wf) ∙ shows)
-    ∙ ap (option_map View) (no_difference next)
-  where
-    shown : Amounts
-    shown = view_of_words h (words_at h [] place)
+    cc (
+      state_here passed later state (commit_count place.earlier) count,
+      first_words_at h place one
+          wf,
+      no_difference next,
+    )
 
 -- an observer's return with an answer that was seen isn't a fault
 and_none : {A B : Type 0} (o : Option A) → option_and {T = A} {U = B} o None ≡ None
@@ -86,8 +73,7 @@ pub return_is_right : (h : Header) → is_built_in h.subject ≡ true
     ≡ true)
     → return_fault (rules_of h) (map showing passed ++ showing state ∷ later) c log reply ≡ None
 return_is_right h built passed later state c log reply count wf kept seen =
-    ap (option_and (slice_get states (commit_count log))) (by_call (open_call c log) refl)
-    ∙ and_none (slice_get states (commit_count log))
+    cc (by_call (open_call c log) refl, and_none (slice_get states (commit_count log)))
   where
     states : List State
     states = map showing passed ++ showing state ∷ later
@@ -97,26 +83,20 @@ return_is_right h built passed later state c log reply count wf kept seen =
         → list_any (λ s. answer_in s.shown called.method called.args == reply)
         (states_since_call states c log)
         ≡ has_answer (passed ++ state ∷ []) (commit_count (entries_before_call c log)) called reply
-    in_window called =
-        ap (list_any (λ s. answer_in s.shown called.method called.args == reply))
-        (states_seen passed later state c log count)
-        ∙ any_showing (λ s. answer_in s.shown called.method called.args == reply)
-        (drop (commit_count (entries_before_call c log)) (passed ++ state ∷ []))
+    in_window called = simp (states_seen, passed, count, any_showing)
 
     -- an execution without a commit is an observer's
     observes : (called : Called) → open_call c log ≡ Some called → has_committed c log ≡ false
         → is_observer called.method ≡ true
-    observes called e none = ap (λ o. option_map_or (λ k. is_observer k.method) o false) (sym e)
-        ∙ not-false (is_observing c log) (sym (returns_committed h c reply log built wf kept)
-        ∙ none)
+    observes called e none = cc (not-false (is_observing c log) (sym (returns_committed h c reply
+        log built wf kept) ∙ none))
 
     by_commit : (called : Called) → open_call c log ≡ Some called → (b : Bool) → has_committed c log
         ≡ b
         → cond (b || list_any (λ s. answer_in s.shown called.method called.args == reply)
         (states_since_call states c log)) None (Some (Observer reply))
         ≡ None
-    by_commit called e false none = ap (λ b. cond b None (Some (Observer reply)))
-        (in_window called ∙ seen called e (observes called e none))
+    by_commit called e false none = cc (in_window called, seen called e (observes called e none))
     by_commit called e true committed = refl
 
     by_call : (o : Option Called) → open_call c log ≡ o

@@ -1,9 +1,8 @@
 -- What one more event makes of what the log says.
-use Rattle.std.proofs.Common.{◌≡◌, ℕ, ◌<◌, Bool, true, false, cond, not, ◌&&◌, ◌||◌, List, [], ◌∷◌}
-use Rattle.std.proofs.Common.{◌++◌, Some, None, refl, ap, ◌∙◌, sym, arith}
-use Rattle.std.specs.Prelude.{◌==◌, unwrap_or}
-use Rattle.std.specs.Option.{option_or, option_flatten}
-use Rattle.std.specs.List.{list_any, cons_option}
+use Rattle.std.proofs.Common.{◌≡◌, ℕ, ◌<◌, Bool, true, false, cond, not, List, [], ◌∷◌}
+use Rattle.std.proofs.Common.{◌++◌, Some, None, refl, ap, arith}
+use Rattle.std.specs.Prelude.{◌==◌}
+use Rattle.std.specs.List.{cons_option}
 use Rattle.std.proofs.lemmas.Bool.Decides.{nat_tests}
 use Rattle.vyrd_base.specs.declared.header.Header.{Header}
 use Rattle.vyrd_base.specs.declared.log.Kind.{Kind}
@@ -13,11 +12,9 @@ use Rattle.vyrd_base.specs.declared.log.Entry.{Entry}
 use Rattle.vyrd_base.specs.declared.history.Did.{Did}
 use Rattle.vyrd_base.specs.declared.history.Did.TheVariants.{Read, Wrote, Took, Gave, Marked}
 use Rattle.vyrd_base.specs.declared.verdict.Rule.TheVariants.{BlockRaced}
-use Rattle.vyrd_base.specs.Places.{first_answer}
-use Rattle.vyrd_base.specs.Callers.{call_or_return, open_call, has_block, holds_word}
-use Rattle.vyrd_base.specs.Shape.{Check, first_broken, checks_at, broken_rule, is_held_by_other}
-use Rattle.vyrd_base.specs.Shape.{is_raced}
-use Rattle.vyrd_base.specs.Words.{block_writes, given_to, effects_of_others}
+use Rattle.vyrd_base.specs.Callers.{open_call, has_block, holds_word}
+use Rattle.vyrd_base.specs.Shape.{Check, first_broken, broken_rule, is_held_by_other}
+use Rattle.vyrd_base.specs.Words.{block_writes}
 use Rattle.vyrd_base.specs.FirstVersion.{old_effects, old_value_after}
 use Rattle.vyrd_base.specs.Histories.{logged}
 use Rattle.vyrd_base.specs.Front.{WellFormed}
@@ -38,24 +35,12 @@ use Rattle.vyrd_every.proofs.Acts.{never}
 pub one_more : (word value : ℕ) (writes : List (ℕ × ℕ)) (w : ℕ)
     → old_value_after ((word, value) ∷ writes) w ≡ with_cell (λ q. old_value_after writes q) word
     value w
-one_more word value writes w = by_place (word == w) refl
-  where
-    flip : (a b : ℕ) (t : Bool) → (a == b) ≡ t → (b == a) ≡ t
-    flip a b true e = grind (arith, nat_tests)
-    flip a b false e = grind (arith, nat_tests)
-
-    by_place : (b : Bool) → (word == w) ≡ b
-        → unwrap_or (option_or (cond b (Some value) None) (first_answer (given_to w) writes)) 0
-        ≡ cond (w == word) value (old_value_after writes w)
-    by_place true e = ap (λ t. cond t value (old_value_after writes w)) (sym (flip word w true e))
-    by_place false e = ap (λ t. cond t value (old_value_after writes w)) (sym (flip word w false e))
+one_more word value writes w = grind (arith, nat_tests)
 
 pub more : (writes others : List (ℕ × ℕ)) → (λ w. old_value_after (writes ++ others) w)
     ≡ written writes (λ w. old_value_after others w)
 more [] others = refl
-more ((word, value) ∷ writes) others =
-    (λ i w. one_more word value (writes ++ others) w i) ∙ ap (λ m. with_cell m word value)
-    (more writes others)
+more ((word, value) ∷ writes) others = grind (arith, more writes others)
 
 -- what the log shows after one more event of the caller
 pub shown_step : (S : Structure) (c : ℕ) (did : Did) (s : Situation) (k : Locals) (log : List Entry)
@@ -65,95 +50,52 @@ pub shown_step : (S : Structure) (c : ℕ) (did : Did) (s : Situation) (k : Loca
 shown_step S c (Read cell value) s k log block pending reaches = refl
 shown_step S c (Took lock) s k log block pending reaches = refl
 shown_step S c (Gave lock) s k log block pending reaches = refl
-shown_step S c (Wrote cell value) s k log block pending reaches =
-    ap (λ b. (λ w. old_value_after (cond b [] ((cell, value) ∷ []) ++ old_effects log) w)) block
-    ∙ by_block s.in_block
+shown_step S c (Wrote cell value) s k log block pending reaches = cc (by_block s.in_block)
   where
     by_block : (b : Bool)
         → (λ w. old_value_after (cond b [] ((cell, value) ∷ []) ++ old_effects log) w)
         ≡ cond b (shown_by log) (with_cell (shown_by log) cell value)
-    by_block true = refl
-    by_block false = λ i w. one_more cell value (old_effects log) w i
+    by_block b = search (one_more, arith)
 shown_step S c (Marked (Call method args)) s k log block pending reaches = refl
 shown_step S c (Marked (Return reply)) s k log block pending reaches = refl
 shown_step S c (Marked (Write word value)) s k log block pending reaches = absurd reaches
 shown_step S c (Marked Commit) s k log block pending reaches = refl
 shown_step S c (Marked BlockOpen) s k log block pending reaches = refl
 shown_step S c (Marked BlockClose) s k log block pending reaches =
-    more (block_writes c log) (old_effects log) ∙ ap (λ ws. written ws (shown_by log)) (sym pending)
+    cc (more (block_writes c log) (old_effects log))
 shown_step S c (Marked BlockCommit) s k log block pending reaches =
-    more (block_writes c log) (old_effects log) ∙ ap (λ ws. written ws (shown_by log)) (sym pending)
+    cc (more (block_writes c log) (old_effects log))
 
 -- the writes since the last open
 pub pending_step : (c : ℕ) (did : Did) (log : List Entry)
     → block_writes c (cons_option (logged c did) log) ≡ pending_after (act_of_event did)
     (block_writes c log)
-pending_step c (Read cell value) log = refl
-pending_step c (Took lock) log = refl
-pending_step c (Gave lock) log = refl
-pending_step c (Wrote cell value) log = own_writes c (Write cell value) log
-pending_step c (Marked kind) log = own_writes c kind log
+pending_step c did log = grind (arith, own_writes)
 
 pub pending_other : (c d : ℕ) (did : Did) (log : List Entry) → (d == c) ≡ false
     → block_writes c (cons_option (logged d did) log) ≡ block_writes c log
-pending_other c d (Read cell value) log apart = refl
-pending_other c d (Took lock) log apart = refl
-pending_other c d (Gave lock) log apart = refl
-pending_other c d (Wrote cell value) log apart = other_writes c d (Write cell value) log apart
-pending_other c d (Marked kind) log apart = other_writes c d kind log apart
+pending_other c d did log apart = grind (arith, apart, other_writes)
 
 -- the open call
 pub called_step : (c : ℕ) (did : Did) (log : List Entry)
     → open_call c (cons_option (logged c did) log) ≡ called_after (act_of_event did)
     (open_call c log)
-called_step c (Read cell value) log = refl
-called_step c (Took lock) log = refl
-called_step c (Gave lock) log = refl
-called_step c (Wrote cell value) log = ap option_flatten
-    (own_answer c call_or_return (Write cell value) log)
-called_step c (Marked (Call method args)) log = ap option_flatten
-    (own_answer c call_or_return (Call method args) log)
-called_step c (Marked (Return reply)) log = ap option_flatten
-    (own_answer c call_or_return (Return reply) log)
-called_step c (Marked (Write word value)) log = ap option_flatten
-    (own_answer c call_or_return (Write word value) log)
-called_step c (Marked Commit) log = ap option_flatten (own_answer c call_or_return Commit log)
-called_step c (Marked BlockOpen) log = ap option_flatten (own_answer c call_or_return BlockOpen log)
-called_step c (Marked BlockClose) log = ap option_flatten
-    (own_answer c call_or_return BlockClose log)
-called_step c (Marked BlockCommit) log = ap option_flatten
-    (own_answer c call_or_return BlockCommit log)
+called_step c did log = grind (arith, own_answer)
 
 pub called_other : (c d : ℕ) (did : Did) (log : List Entry) → (d == c) ≡ false
     → open_call c (cons_option (logged d did) log) ≡ open_call c log
-called_other c d (Read cell value) log apart = refl
-called_other c d (Took lock) log apart = refl
-called_other c d (Gave lock) log apart = refl
-called_other c d (Wrote cell value) log apart = ap option_flatten
-    (other_answer c d call_or_return (Write cell value) log apart)
-called_other c d (Marked kind) log apart = ap option_flatten
-    (other_answer c d call_or_return kind log apart)
+called_other c d did log apart = grind (arith, apart, other_answer)
 
 -- what another caller's block has written
 pub word_other : (c d w : ℕ) (did : Did) (log : List Entry) → (d == c) ≡ false
     → holds_word c w (cons_option (logged d did) log) ≡ holds_word c w log
-word_other c d w (Read cell value) log apart = refl
-word_other c d w (Took lock) log apart = refl
-word_other c d w (Gave lock) log apart = refl
-word_other c d w (Wrote cell value) log apart = holds_other c d w (Write cell value) log apart
-word_other c d w (Marked kind) log apart = holds_other c d w kind log apart
+word_other c d w did log apart = grind (arith, apart, holds_other)
 
 -- a word that no other caller's block has written is held by none
 pub held_by_none : (h : Header) (c w : ℕ) (log : List Entry)
     → ((d : ℕ) → d < h.callers → (d == c) ≡ false → holds_word d w log ≡ false)
     → is_held_by_other h c w log ≡ false
-held_by_none h c w log free = none_any (λ d. not (d == c) && holds_word d w log) 0 h.callers
-    (λ d from to. by_caller d (omega arith) (d == c) refl)
-  where
-    by_caller : (d : ℕ) → d < h.callers → (b : Bool) → (d == c) ≡ b → (not b && holds_word d w log)
-        ≡ false
-    by_caller d low true e = refl
-    by_caller d low false e = free d low e
+held_by_none h c w log free = grind (arith, free, none_any)
 
 -- no check is broken, where none is that of raced blocks and broken
 abbrev pub AreUnraced : List Check → Type 0
@@ -170,8 +112,7 @@ none_raced (check ∷ checks) un only = by_test check.broken refl (none_raced ch
         → (OnlyRaced (first_broken checks) → first_broken checks ≡ None)
         → OnlyRaced (cond b (Some check.rule) (first_broken checks)) → cond b (Some check.rule)
         (first_broken checks) ≡ None
-    by_test true e rest only = absurd (un.0 e (only.raced check.rule refl))
-    by_test false e rest only = rest only
+    by_test b e rest only = search arith
 
 -- in version 1 a word that nobody else's block has written may be written
 pub write_unraced : (h : Header) (c word value : ℕ) (log : List Entry) → h.version ≡ 1
@@ -179,12 +120,7 @@ pub write_unraced : (h : Header) (c word value : ℕ) (log : List Entry) → h.v
     → OnlyRaced (broken_rule h log (entry c (Write word value)))
     → broken_rule h log (entry c (Write word value)) ≡ None
 write_unraced h c word value log one wf free only =
-    let unraced : is_raced h c word log ≡ false =
-    (λ i. free i
-    || (no_inner_commit h c log one wf i && list_any (λ write. write.0 == word)
-    (effects_of_others c log []))) in
-    none_raced (checks_at h log (entry c (Write word value)))
-    (λ b e. cc, (λ b e. cc, (λ b e. cc, (λ b e. cc, (λ b e. never unraced b, tt))))) only
+    grind (arith, free, no_inner_commit, none_raced, never)
 
 -- a mark that isn't a write
 abbrev pub IsNoWrite : Kind → Type 0
@@ -193,20 +129,4 @@ IsNoWrite _ = Unit {0}
 
 pub mark_unraced : (h : Header) (c : ℕ) (kind : Kind) (log : List Entry) → IsNoWrite kind
     → OnlyRaced (broken_rule h log (entry c kind)) → broken_rule h log (entry c kind) ≡ None
-mark_unraced h c (Call method args) log none only =
-    none_raced (checks_at h log (entry c (Call method args)))
-    (λ b e. cc, (λ b e. cc, (λ b e. cc, (λ b e. cc, tt)))) only
-mark_unraced h c (Return reply) log none only =
-    none_raced (checks_at h log (entry c (Return reply)))
-    (λ b e. cc, (λ b e. cc, (λ b e. cc, (λ b e. cc, tt)))) only
-mark_unraced h c (Write word value) log none only = absurd none
-mark_unraced h c Commit log none only =
-    none_raced (checks_at h log (entry c Commit))
-    (λ b e. cc, (λ b e. cc, (λ b e. cc, (λ b e. cc, (λ b e. cc, tt))))) only
-mark_unraced h c BlockOpen log none only =
-    none_raced (checks_at h log (entry c BlockOpen)) (λ b e. cc, (λ b e. cc, (λ b e. cc, tt))) only
-mark_unraced h c BlockClose log none only =
-    none_raced (checks_at h log (entry c BlockClose)) (λ b e. cc, (λ b e. cc, (λ b e. cc, tt))) only
-mark_unraced h c BlockCommit log none only =
-    none_raced (checks_at h log (entry c BlockCommit))
-    (λ b e. cc, (λ b e. cc, (λ b e. cc, (λ b e. cc, (λ b e. cc, tt))))) only
+mark_unraced h c kind log none only = grind (arith, none_raced)

@@ -85,13 +85,11 @@ pub record Next (S : Structure) (scripts : List Script) (earlier : List Stamped)
 pub part_own : (number c : ℕ) (did : Did) (earlier : List Stamped)
     → part_of c (record { number = number; caller = c; did = did } ∷ earlier) ≡ did
     ∷ part_of c earlier
-part_own number c did earlier = ap (λ b. cons_option (cond b (Some did) None) (part_of c earlier))
-    (same_number c)
+part_own number c did earlier = cc (same_number c)
 
 pub part_other : (number c d : ℕ) (did : Did) (earlier : List Stamped) → (c == d) ≡ false
     → part_of d (record { number = number; caller = c; did = did } ∷ earlier) ≡ part_of d earlier
-part_other number c d did earlier apart =
-    ap (λ b. cons_option (cond b (Some did) None) (part_of d earlier)) apart
+part_other number c d did earlier apart = cc
 
 pub run_before : (h : Header) (scripts : List Script) (e : Stamped) (earlier : List Stamped)
     → IsRun h scripts (e ∷ earlier) → IsRun h scripts earlier
@@ -248,8 +246,7 @@ event_leads S s k next c (Marked BlockCommit) log shown rest state called does m
 -- the states along the log grow at their end
 path_same : (passed : List Amounts) (state next : Amounts) → next ≡ state → passed ++ next ∷ []
     ≡ (passed ++ state ∷ []) ++ []
-path_same passed state next e = ap (λ s. passed ++ s ∷ []) e
-    ∙ sym (append-nil (passed ++ state ∷ []))
+path_same passed state next e = cc (append-nil (passed ++ state ∷ []))
 
 pub path_grows : (c : ℕ) (did : Did) (log : List Entry) (rest : Script) (passed : List Amounts)
     (state next : Amounts) → Leading c did log rest state next
@@ -352,8 +349,7 @@ pub seen_other : (c d : ℕ) (did : Did) (k : Locals) (log : List Entry) (states
 seen_other c d did k log states more apart seen called is reply answer =
     answer_more states more (commit_count (entries_before_call d (cons_option (logged c did) log)))
     called reply
-    (ap (λ es. has_answer states (commit_count es) called reply) (call_other c d did log apart)
-    ∙ seen called is reply answer)
+    (cc (call_other c d did log apart, seen called is reply answer))
 
 -- an observer returns what it has seen
 event_returns : (S : Structure) (c : ℕ) (did : Did) (k next : Locals) (log : List Entry)

@@ -205,9 +205,8 @@ other_step S script part log c d did s k kd one apart shows guarantee alone sepa
     kept : Rely S (situation_after part) kd (shown_by log)
         (shown_by (cons_option (logged c did) log))
     kept = record {
-      held = λ cell access. ap (λ m. m cell) shows ∙ by_held cell access (holds s (S.guard cell))
-          refl;
-      owned = λ slot mine. subst (λ m. S.Same (shown_by log) m slot) (sym shows)
+      held = λ cell access. cc (by_held cell access (holds s (S.guard cell)) refl);
+      owned = λ slot mine. rw shows
           (by_owned slot mine (k.owned slot) refl);
     }
 

@@ -1,6 +1,5 @@
 -- A plain word that no open block has written has the value that the log shows.
-use Rattle.std.proofs.Common.{◌≡◌, ℕ, ◌+◌, ◌<◌, true, false, List, [], ◌∷◌, ◌∙◌, sym, arith}
-use Rattle.std.specs.Prelude.{◌==◌}
+use Rattle.std.proofs.Common.{◌≡◌, ℕ, ◌<◌, true, false, List, [], ◌∷◌, ◌∙◌, sym, arith}
 use Rattle.std.proofs.lemmas.Bool.Decides.{nat_tests}
 use Rattle.vyrd_base.specs.declared.history.Stamped.{Stamped}
 use Rattle.vyrd_base.specs.Callers.{holds_word}
@@ -43,12 +42,4 @@ pub one_holder : (S : Structure) (c d : ℕ) (earlier : List Stamped) (cell : �
     → Access S (situation_after (part_of c earlier)) cell
     → Access S (situation_after (part_of d earlier)) cell → c ≡ d
 one_holder S c d earlier cell is legal keeps_c keeps_d access_c access_d =
-    let lock : ℕ = S.guard cell in
-    let is_its : is_lock (cells_of S.header) (S.guard cell)
-    ≡ true = its_lock S cell is access_c.low in
-    same c d (value_in earlier (S.guard cell))
-    (sym (held_is S.header c earlier (S.guard cell) legal keeps_c is_its) ∙ access_c.held)
-    (sym (held_is S.header d earlier (S.guard cell) legal keeps_d is_its) ∙ access_d.held)
-  where
-    same : (c d v : ℕ) → (v == c + 1) ≡ true → (v == d + 1) ≡ true → c ≡ d
-    same c d v e f = grind (arith, nat_tests)
+    grind (arith, nat_tests, its_lock, held_is)

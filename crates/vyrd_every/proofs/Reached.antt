@@ -1,6 +1,5 @@
 -- What holds at the beginning, and so after every event.
-use Rattle.std.proofs.Common.{◌≡◌, List, [], ◌∷◌, None, refl, ap, ◌∙◌, sym, subst}
-use Rattle.std.specs.Option.{option_or}
+use Rattle.std.proofs.Common.{◌≡◌, List, [], ◌∷◌, None, refl, sym, subst}
 use Rattle.vyrd_base.specs.declared.header.Header.{Header}
 use Rattle.vyrd_base.specs.declared.log.Entry.{Entry}
 use Rattle.vyrd_base.specs.declared.history.Stamped.{Stamped}
@@ -46,8 +45,7 @@ unbroken : (h : Header) (earlier xs : List Entry) → WellFormed h (newest_first
     → break_after h earlier xs ≡ None
 unbroken h earlier [] kept = refl
 unbroken h earlier (x ∷ xs) kept =
-    ap (λ o. option_or o (break_after h (x ∷ earlier) xs)) (kept_before xs (x ∷ earlier) kept).0
-    ∙ unbroken h (x ∷ earlier) xs kept
+    cc ((kept_before xs (x ∷ earlier) kept).0, unbroken h (x ∷ earlier) xs kept)
   where
     kept_before : (xs earlier : List Entry) → WellFormed h (newest_first_onto earlier xs)
         → WellFormed h earlier

@@ -1,6 +1,6 @@
 -- Steps that don't do right.
-use Rattle.std.proofs.Common.{◌≡◌, ◌≢◌, ◌⊎◌, inl, inr, ℕ, ◌+◌, ◌*◌, ◌/◌, ◌<◌, ◌≤◌, true, false, []}
-use Rattle.std.proofs.Common.{◌∷◌, Option, Some, refl, ap, ◌∙◌, sym, arith, None}
+use Rattle.std.proofs.Common.{◌≡◌, ◌≢◌, ℕ, ◌+◌, ◌*◌, ◌/◌, ◌<◌, ◌≤◌, true, false, []}
+use Rattle.std.proofs.Common.{◌∷◌, Some, refl, ap, ◌∙◌, arith, None}
 use Rattle.std.specs.Prelude.{◌==◌, ◌||◌}
 use Rattle.std.specs.List.{list_any}
 use Rattle.vyrd_base.specs.declared.header.Header.{Header}
@@ -26,12 +26,11 @@ use Rattle.vyrd_buffers.specs.Cells as texts
 use Rattle.vyrd_buffers.specs.Procedures.{buffers_procedure}
 use Rattle.vyrd_tree.specs.Cells.{node_cell, root_cell, root_lock}
 use Rattle.vyrd_tree.specs.Cells as cells
-use Rattle.vyrd_tree.specs.Contents.{level_at}
 use Rattle.vyrd_every.specs.Guarded.{multiset, cache, buffers}
 use Rattle.vyrd_every.specs.Locals.{Locals}
 use Rattle.vyrd_every.specs.RightScripts.{DoesRight, IsRight}
 use Rattle.vyrd_every.specs.Trees.Shapes.{Shape}
-use Rattle.vyrd_every.specs.Trees.Locals.{TreeLocals, MayLoad, InNode, MayStore}
+use Rattle.vyrd_every.specs.Trees.Locals.{TreeLocals, MayLoad, MayStore}
 use Rattle.vyrd_every.specs.Trees.RightScripts.{TreeRight}
 use Rattle.vyrd_every.proofs.Relies.{rely_same}
 use Rattle.vyrd_every.proofs.Acts.{never}
@@ -64,8 +63,7 @@ lock_too_early h args right =
     let loaded = taken.2 all_dirty (rely_same (cache h) locked taken.0 all_dirty) in
     let given = loaded.2 all_dirty
     (rely_same (cache h) (after_act locked (Give (lock_of h args.a))) loaded.0 all_dirty) in
-    never (ap (λ locks. list_any (λ held. held == lock_of h ((5 * args.a + 1) / 5)) locks)
-    (gone (lock_of h args.a) [])) given.1.reaches.held
+    never (cc (gone (lock_of h args.a) [])) given.1.reaches.held
   where
     locked : Situation
     locked = after_act (just_called (OfCache Write)) (Take (lock_of h args.a))
@@ -108,8 +106,7 @@ no_source_lock h args apart right =
 pub not_above : (h : Header) (s : Situation) (k : Locals) (shown : Memory) (lock held : ℕ)
     (later : Script) → holds s held ≡ true → lock ≤ held
     → DoesRight (multiset h) s k shown (perform (Take lock) later) → ⊥
-not_above h s k shown lock held later is low right = let above : held < lock =
-    right.1.reaches held is in omega (arith, above, low)
+not_above h s k shown lock held later is low right = grind (arith, right.1.reaches held is)
 
 -- Words of different nodes, and of nodes and others, have different numbers. So the node is the one
 -- whose word is loaded, and
@@ -120,17 +117,8 @@ pub no_node_lock : (h : Header) (s : Situation) (k : TreeLocals) (g : Shape) (m 
     → TreeRight h s k g m (step (Load (node_cell node place)) rest) → ⊥
 no_node_lock h s k g m node place rest fits low some free right = by_word right.2.reaches.0
   where
-    by_lock : (n i : ℕ) → node ≡ n → place ≡ i → (holds s (cells.lock_of h n) ≡ true) ⊎ (i ≡ 0) → ⊥
-    by_lock n i at there (inl held) = never free (ap (λ n. holds s (cells.lock_of h n)) at ∙ held)
-    by_lock n i at there (inr none) = some (there ∙ none)
-
     by_word : MayLoad h s g (node_cell node place) → ⊥
-    by_word (inl o) =
-        let is : 12 * node + place ≡ 12 * o.node + o.place = o.is in
-        let its : o.place < 12 = o.low in
-        by_lock o.node o.place (omega (arith, is, its, low)) (omega (arith, is, its, low)) o.may
-    by_word (inr (inl is)) = omega (arith, is, low, fits)
-    by_word (inr (inr is)) = let at = is.0 in omega (arith, at, low, fits)
+    by_word e0 = search (fits, arith)
 
 -- the root's word isn't a node's, and not the count of nodes in use
 pub no_root_lock : (h : Header) (s : Situation) (k : TreeLocals) (g : Shape) (m : Memory) (root : ℕ)
@@ -139,20 +127,5 @@ pub no_root_lock : (h : Header) (s : Situation) (k : TreeLocals) (g : Shape) (m 
     → ⊥
 no_root_lock h s k g m root later none free right = by_block right.2.reaches
   where
-    none_isnt : (v : ℕ) → ◌≡◌ {A = Option ℕ} None (Some v) → ⊥
-    none_isnt v e = cc
-
-    by_node : (n place : ℕ) → 12 * h.size ≡ 12 * n + place → place < 12
-        → (k.fresh ≡ Some n) ⊎ ((g.linked n ≡ true) × (holds s (cells.lock_of h n) ≡ true)
-        × (place ≢ 0) × (level_at m n ≤ g.top)) → ⊥
-    by_node n place is low (inl mine) = none_isnt n (sym none ∙ mine)
-    by_node n place is low (inr other) = other.2 (omega (arith, is, low))
-
-    by_word : InNode h s k g m (root_cell h)
-        ⊎ ((root_cell h ≡ root_cell h) × (holds s (root_lock h) ≡ true)) → ⊥
-    by_word (inl o) = by_node o.node o.place o.is o.low o.may
-    by_word (inr locked) = never free locked.1
-
     by_block : MayStore h s k g m (root_cell h) → ⊥
-    by_block (inl inside) = by_word inside.2
-    by_block (inr outside) = let at = outside.1 in omega (arith, at)
+    by_block e0 = search arith

@@ -1,27 +1,25 @@
 -- The run by turns isn't stuck: a caller that waits for a lock has only lower ones, and the caller
 -- that holds that lock waits for a higher one.
-use Rattle.std.proofs.Common.{◌≡◌, ℕ, zero, suc, ◌+◌, ◌^◌, ◌<◌, ◌≤◌, ◌⊎◌, inl, inr, Bool, true}
-use Rattle.std.proofs.Common.{false, cond, not, ◌&&◌, ◌||◌, List, [], ◌∷◌, Some, None, length, refl}
-use Rattle.std.proofs.Common.{ap, ◌∙◌, sym, subst, arith}
-use Rattle.std.specs.Prelude.{◌==◌, nat_lt, nat_le, unwrap_or}
-use Rattle.std.specs.Option.{option_or}
+use Rattle.std.proofs.Common.{◌≡◌, ℕ, zero, suc, ◌+◌, ◌<◌, ◌≤◌, ◌⊎◌, inl, inr, Bool, true}
+use Rattle.std.proofs.Common.{false, cond, not, ◌&&◌, ◌||◌, List, [], ◌∷◌, length, refl}
+use Rattle.std.proofs.Common.{ap, ◌∙◌, arith}
+use Rattle.std.specs.Prelude.{◌==◌, nat_lt, nat_le}
 use Rattle.std.specs.List.{list_all}
 use Rattle.std.proofs.lemmas.Bool.Decides.{nat_tests}
 use Rattle.vyrd_base.specs.declared.header.Header.{Header}
 use Rattle.vyrd_base.specs.declared.history.Did.{Did}
-use Rattle.vyrd_base.specs.declared.history.Did.TheVariants.{Read, Wrote, Took, Gave, Marked}
 use Rattle.vyrd_base.specs.declared.history.Stamped.{Stamped}
-use Rattle.vyrd_base.specs.Places.{first_answer, numbers_from}
-use Rattle.vyrd_base.specs.Histories.{Cells, cells_of, is_plain, is_lock, made_of, value_in, may_do}
+use Rattle.vyrd_base.specs.Places.{numbers_from}
+use Rattle.vyrd_base.specs.Histories.{Cells, cells_of, is_lock, value_in, may_do}
 use Rattle.vyrd_base.proofs.TestLaws.{first_true, second_true, same_number, below_of}
 use Rattle.vyrd_base.proofs.CellLaws.{plain_isnt}
 use Rattle.vyrd_memory.specs.declared.act.Act.{Act}
-use Rattle.vyrd_memory.specs.declared.act.Act.TheVariants.{Load, Store, Take, Give, Mark, Done}
+use Rattle.vyrd_memory.specs.declared.act.Act.TheVariants.{Take}
 use Rattle.vyrd_memory.specs.declared.op.Turn.{Turn}
-use Rattle.vyrd_memory.specs.Scripts.{Script, stop, step, next_act, left_after}
-use Rattle.vyrd_memory.specs.Soundness.{Situation, IsSound, holds, may_act}
+use Rattle.vyrd_memory.specs.Scripts.{Script, step, next_act, left_after}
+use Rattle.vyrd_memory.specs.Soundness.{Situation, IsSound, holds}
 use Rattle.vyrd_memory.specs.Turns.{part_of, script_of, act_of, is_done, are_done, is_held_up}
-use Rattle.vyrd_memory.specs.Turns.{are_stuck, after_turns, turns_of, run_for, GetsStuck}
+use Rattle.vyrd_memory.specs.Turns.{are_stuck, after_turns, GetsStuck}
 use Rattle.vyrd_memory.proofs.NumberLists.{all_pass}
 use Rattle.vyrd_memory.proofs.Situations.{situation_after, sound_keeps}
 use Rattle.vyrd_memory.proofs.LegalEvents.{AreLegal, does, caller_low, value_with, are_answers}
@@ -39,30 +37,7 @@ event_held : (cells : Cells) (earlier : List Stamped) (lock c : ℕ) (did : Did)
     → may_do cells earlier c did ≡ true
     → is_lock cells lock ≡ true → Held cells (value_in earlier lock)
     → Held cells (value_with earlier lock c did)
-event_held cells earlier lock c (Read cell value) low may is before = before
-event_held cells earlier lock c (Marked kind) low may is before = before
-event_held cells earlier lock c (Wrote cell value) low may is before =
-    subst (λ b. Held cells
-    (unwrap_or (option_or (cond b (Some value) None)
-    (first_answer (λ e. made_of lock e.caller e.did) earlier)) 0))
-    (sym (plain_isnt cells cell lock (first_true (is_plain cells cell) (nat_lt value (2 ^ 63)) may)
-    is)) before
-event_held cells earlier lock c (Took other) low may is before = by_place (other == lock)
-  where
-    by_place : (b : Bool)
-        → Held cells
-        (unwrap_or (option_or (cond b (Some (c + 1)) None)
-        (first_answer (λ e. made_of lock e.caller e.did) earlier)) 0)
-    by_place true = inr (c, low, refl)
-    by_place false = before
-event_held cells earlier lock c (Gave other) low may is before = by_place (other == lock)
-  where
-    by_place : (b : Bool)
-        → Held cells
-        (unwrap_or (option_or (cond b (Some 0) None)
-        (first_answer (λ e. made_of lock e.caller e.did) earlier)) 0)
-    by_place true = inl refl
-    by_place false = before
+event_held cells earlier lock c did low may is before = grind (arith, plain_isnt, first_true)
 
 lock_held : (cells : Cells) (earlier : List Stamped) (lock : ℕ) → AreLegal cells earlier
     → is_lock cells lock ≡ true → Held cells (value_in earlier lock)
@@ -74,24 +49,12 @@ lock_held cells (e ∷ earlier) lock legal is =
 -- what is left of a script that takes a lock next
 takes_lock : (h : Header) (s : Situation) (script : Script) (lock : ℕ) → IsSound h s script
     → next_act script ≡ Take lock → is_lock (cells_of h) lock ≡ true
-takes_lock h s stop lock sound e = cc
-takes_lock h s (step act rest) lock sound e =
-    first_true (is_lock (cells_of h) lock) (not (holds s lock))
-    (subst (λ a. may_act h s a ≡ true) e sound.0)
+takes_lock h s script lock sound e = grind (arith, step, first_true)
 
 -- an act that is held up takes a lock that isn't free
 held_up : (earlier : List Stamped) (act : Act) → is_held_up earlier act ≡ true → (lock : ℕ)
     × (act ≡ Take lock) × ((value_in earlier lock == 0) ≡ false)
-held_up earlier (Load cell) e = cc
-held_up earlier (Store cell value) e = cc
-held_up earlier (Take lock) e = (lock, refl, not_true (value_in earlier lock == 0) e)
-  where
-    not_true : (b : Bool) → not b ≡ true → b ≡ false
-    not_true true f = cc
-    not_true false f = refl
-held_up earlier (Give lock) e = cc
-held_up earlier (Mark kind) e = cc
-held_up earlier Done e = cc
+held_up earlier act e = grind arith
 
 -- each caller is done, or held up
 abbrev AllWait : Header → List Script → List Stamped → Type 0
@@ -185,15 +148,12 @@ some_wait h scripts keeping earlier run wait k (suc n) fits e =
         ≡ true
         → (list_all (λ c. is_done (act_of scripts c earlier)) (numbers_from (k + 1) n) ≡ false → ⊥)
         → ⊥
-    by_done true waits f g all either later =
-        later (sym (ap (λ b. b && list_all (λ c. is_done (act_of scripts c earlier))
-        (numbers_from (k + 1) n)) f) ∙ all)
+    by_done true waits f g all either later = search arith
     by_done false true f g all either later =
         let up = held_up earlier (act_of scripts k earlier) g in
         none_waits h scripts keeping earlier ((cells_of h).plain + (cells_of h).locks) k up.0 run
         wait (omega (arith, fits)) up.1 up.2 (omega arith)
-    by_done false false f g all either later = let no : false ≡ true = sym (λ i. f i || g i)
-        ∙ either in cc
+    by_done false false f g all either later = grind arith
 
 not_stuck : (h : Header) (scripts : List Script) (keeping : Keeping h scripts)
     (earlier : List Stamped) → IsRun h scripts earlier
@@ -204,8 +164,7 @@ not_stuck h scripts keeping earlier run e =
     (not_true (are_done scripts earlier) (first_true (not (are_done scripts earlier)) _ e))
   where
     not_true : (b : Bool) → not b ≡ true → b ≡ false
-    not_true true f = cc
-    not_true false f = refl
+    not_true b f = search arith
 
     wait : AllWait h scripts earlier
     wait c low = all_pass (λ c. is_done (act_of scripts c earlier) || is_held_up earlier
@@ -217,8 +176,4 @@ not_stuck h scripts keeping earlier run e =
 pub never_stuck : (h : Header) (scripts : List Script) (keeping : Keeping h scripts)
     (turns : List Turn) → GetsStuck scripts turns → ⊥
 never_stuck h scripts keeping turns stuck =
-    not_stuck h scripts keeping (run_for scripts turns stuck.rounds)
-    (rounds_run h scripts stuck.rounds (after_turns scripts (turns_of turns) []) keeping.sound
-    (turns_run h scripts (turns_of turns) [] keeping.sound
-    (record { legal = tt; plays = λ c. tt })))
-    stuck.stuck
+    search (keeping, not_stuck, rounds_run, after_turns, turns_run, arith)

@@ -2,7 +2,7 @@
 -- amounts, and a verdict of states.
 -- Those of a built-in structure hide nothing, so here the two meet.
 use Rattle.std.proofs.Common.{◌≡◌, ℕ, ◌+◌, Bool, ◌||◌, List, [], ◌∷◌, ◌++◌, map, length, Some, None}
-use Rattle.std.proofs.Common.{option_map, refl, ap, ◌∙◌, sym}
+use Rattle.std.proofs.Common.{refl, ap, ◌∙◌, sym}
 use Rattle.std.specs.Prelude.{slice_get, take, drop}
 use Rattle.std.specs.List.{list_any}
 use Rattle.std.proofs.lemmas.List.{append_assoc, map-append, length-map, drop-map}
@@ -13,7 +13,7 @@ use Rattle.vyrd_base.specs.Callers.{Called, entries_before_call}
 use Rattle.vyrd_base.specs.Amounts.{Amounts}
 use Rattle.vyrd_base.specs.States.{State, showing}
 use Rattle.vyrd_base.specs.Specification.{next_state}
-use Rattle.vyrd_base.specs.Commits.{Committed, once_returned, state_after, states_from}
+use Rattle.vyrd_base.specs.Commits.{Committed, state_after, states_from}
 use Rattle.vyrd_base.specs.Commits.{commit_count}
 use Rattle.vyrd_base.specs.Faults.{states_since_call}
 use Rattle.vyrd_base.specs.Rules.{rules_of}
@@ -53,18 +53,10 @@ pub state_goes_on : (h : Header) (passed : List Amounts) (state next : Amounts) 
     → next_state called.method called.args reply state ≡ Some next
     → states_with h passed state (x ∷ xs) ≡ states_with h (passed ++ state ∷ []) next xs
 state_goes_on h passed state next x xs called reply call returns allowed =
-    ap (λ o. map showing passed ++ showing state
-    ∷ (elim o [ None ↦ [] | Some after ↦ states_from (rules_of h) after xs ])) after
-    ∙ sym (append_assoc (map showing passed) (showing state ∷ [])
-    (states_from (rules_of h) (showing next) xs))
-    ∙ ap (λ states. states ++ states_from (rules_of h) (showing next) xs)
-    (sym (map-append showing passed (state ∷ [])))
+    simp (passed, after, append_assoc, map-append)
   where
     after : state_after (rules_of h) (showing state) x ≡ Some (showing next)
-    after =
-        (λ i. once_returned (λ c r. option_map showing (next_state c.method c.args r state))
-        (record { caller = x.caller; called = call i; reply = returns i }))
-        ∙ ap (option_map showing) allowed
+    after = cc
 
 -- the states since a caller's call, up to the one now
 pub states_seen : (passed : List Amounts) (later : List State) (state : Amounts) (c : ℕ)

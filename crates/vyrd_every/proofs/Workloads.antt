@@ -76,8 +76,7 @@ script_right S w procedure c now same low callable each =
     its : script_of (work_scripts w) c ≡ operations procedure (ops_of c w.ops)
     its =
         let e : 0 + c ≡ c = omega arith in
-        script_at (work_script w) 0 w.header.callers c low ∙ ap (work_script w) e
-        ∙ ap (λ p. operations p (ops_of c w.ops)) same
+        cc (script_at (work_script w) 0 w.header.callers c low)
 
 -- so do the scripts of a workload of the correct multiset, of the correct cache, and of correct
 -- string buffers

@@ -6,7 +6,6 @@ use Rattle.std.proofs.Math.Logic.{∥∥₁_elim}
 use Rattle.std.proofs.Math.Bool.{Bool-set}
 use Rattle.vyrd_base.specs.declared.header.Header.{Header}
 use Rattle.vyrd_base.specs.declared.subject.Subject.{Subject}
-use Rattle.vyrd_base.specs.declared.subject.Subject.TheVariants.{Multiset, Cache, Tree, Buffers}
 use Rattle.vyrd_base.specs.declared.subject.Subject.TheVariants.{Own}
 use Rattle.vyrd_base.specs.declared.verdict.Verdict.{Verdict}
 use Rattle.vyrd_base.specs.LogVerdicts.{log_verdict, log_verdict_so_far}
@@ -96,11 +95,7 @@ kept_few e somewhere low high =
     omega (arith, few, high)
 
 own_of : (s : Subject) → is_built_in s ≡ false → s ≡ Own
-own_of Own e = refl
-own_of Multiset e = cc
-own_of Cache e = cc
-own_of Tree e = cc
-own_of Buffers e = cc
+own_of s e = grind arith
 
 module _ (e : ExplainerState) (somewhere : ∥ ((bytes : List ℕ) × HasTaken e bytes) ∥₁)
     (low : 1 ≤ own_limit e.own) (high : own_limit e.own ≤ most_lines) where

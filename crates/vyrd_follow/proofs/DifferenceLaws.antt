@@ -1,11 +1,10 @@
 -- The keys at which two sides differ: they are told by which keys they are, since they rise.
 use Rattle.std.proofs.Common.{◌≡◌, ℕ, ◌+◌, ◌<◌, ◌≤◌, Bool, true, false, cond, not, ◌&&◌, ◌||◌, T}
-use Rattle.std.proofs.Common.{List, [], ◌∷◌, ◌++◌, Some, refl, ap, ◌∙◌, sym, subst, arith}
-use Rattle.std.specs.Prelude.{◌==◌, ◌≢◌, nat_lt, filter, unwrap_or}
+use Rattle.std.proofs.Common.{List, [], ◌∷◌, ◌++◌, refl, ap, ◌∙◌, sym, subst, arith}
+use Rattle.std.specs.Prelude.{◌==◌, ◌≢◌, nat_lt, filter}
 use Rattle.std.specs.Ordering.{nat_cmp, is_lt}
-use Rattle.std.specs.FinMap.Entries.{find, below_all, is_sorted}
+use Rattle.std.specs.FinMap.Entries.{below_all, is_sorted}
 use Rattle.std.specs.List.{AllByRecursion}
-use Rattle.std.specs.Cmp.{unsigned_tied}
 use Rattle.std.proofs.lemmas.Bool.{or_left, or_right}
 use Rattle.std.proofs.lemmas.Bool.Decides.{nat_tests}
 use Rattle.vyrd_base.specs.Amounts.{Amounts, IsAmounts, amount_of, keys_of, collected, given}
@@ -33,17 +32,13 @@ Rise (k ∷ ks) = AllAbove k ks × Rise ks
 -- no key at or below one that stands before them is among them
 pub not_among : (k q : ℕ) (ks : List ℕ) → AllAbove k ks → q ≤ k → is_in q ks ≡ false
 not_among k q [] above low = refl
-not_among k q (x ∷ ks) above low =
-    ap (λ b. b || is_in q ks) (isnt_same x q (λ e. omega (arith, e, above.0, low)))
-    ∙ not_among k q ks above.1 low
+not_among k q (x ∷ ks) above low = grind (arith, not_among k q ks above.1 low, isnt_same)
 
 pub first_among : (k : ℕ) (ks : List ℕ) → is_in k (k ∷ ks) ≡ true
 first_among k ks = or_left (k == k) (is_in k ks) (same_number k)
 
 below_first : (k q : ℕ) (ks : List ℕ) → Rise (k ∷ ks) → q < k → is_in q (k ∷ ks) ≡ false
-below_first k q ks rise low =
-    ap (λ b. b || is_in q ks) (isnt_same k q (λ e. omega (arith, e, low)))
-    ∙ not_among k q ks rise.0 (omega (arith, low))
+below_first k q ks rise low = grind (arith, isnt_same, not_among)
 
 pub true_false : (b : Bool) → b ≡ true → b ≡ false → {A : Type 0} → A
 true_false true e f = cc
@@ -95,16 +90,12 @@ among_filtered p q (x ∷ xs) = by_test (p x) (x == q) refl refl (among_filtered
     by_test : (b same : Bool) → p x ≡ b → (x == q) ≡ same
         → is_in q (filter p xs) ≡ (is_in q xs && p q)
         → is_in q (cond b (x ∷ filter p xs) (filter p xs)) ≡ ((same || is_in q xs) && p q)
-    by_test true true passes is rest =
-        or_left (x == q) (is_in q (filter p xs)) is ∙ sym (ap p (sym (same_of x q is)) ∙ passes)
+    by_test true true passes is rest = search (same_of, arith)
     by_test true false passes is rest = ap (λ b. b || is_in q (filter p xs)) is ∙ rest
-    by_test false true fails is rest =
-        let not_kept : p q ≡ false = ap p (sym (same_of x q is)) ∙ fails in
-        rest ∙ ap (λ b. is_in q xs && b) not_kept ∙ none (is_in q xs) ∙ sym not_kept
+    by_test false true fails is rest = cc (same_of x q is, none (is_in q xs))
       where
         none : (b : Bool) → (b && false) ≡ false
-        none true = refl
-        none false = refl
+        none b = search arith
     by_test false false fails is rest = rest
 
 above_filtered : (p : ℕ → Bool) (k : ℕ) (ks : List ℕ) → AllAbove k ks → AllAbove k (filter p ks)
@@ -144,14 +135,7 @@ keys_rise (e ∷ s) rising = (
 
 pub amount_of-cons : (x : ℕ × ℕ) (xs : Amounts) (q : ℕ)
     → amount_of (x ∷ xs) q ≡ cond (q == x.0) x.1 (amount_of xs q)
-amount_of-cons x xs q =
-    ap (λ b. unwrap_or (cond b (Some x.1) (find nat_cmp q xs)) 0) (unsigned_tied q x.0)
-    ∙ by_test (q == x.0)
-  where
-    by_test : (b : Bool) → unwrap_or (cond b (Some x.1) (find nat_cmp q xs)) 0
-        ≡ cond b x.1 (amount_of xs q)
-    by_test true = refl
-    by_test false = refl
+amount_of-cons x xs q = grind arith
 
 -- a key whose amount isn't 0 is among the keys
 pub key_among : (s : Amounts) (q : ℕ) → amount_of s q ≢ 0 → is_in q (keys_of s) ≡ true
@@ -162,8 +146,7 @@ key_among (e ∷ s) q some =
     by_test : (b : Bool) → (q == e.0) ≡ b → cond b e.1 (amount_of s q) ≢ 0
         → (amount_of s q ≢ 0 → is_in q (keys_of s) ≡ true)
         → (e.0 == q || is_in q (keys_of s)) ≡ true
-    by_test true is here rest =
-        or_left (e.0 == q) _ (is_same e.0 q (sym (same_of q e.0 is)))
+    by_test true is here rest = search (is_same, same_of, arith)
     by_test false is there rest = or_right (e.0 == q) _ (rest there)
 
 -- an amount is part of all that the pairs give
@@ -174,8 +157,7 @@ amount_given (x ∷ xs) q =
   where
     by_test : (b : Bool) → amount_of xs q ≤ given q xs
         → cond b x.1 (amount_of xs q) ≤ cond b x.1 0 + given q xs
-    by_test true rest = omega arith
-    by_test false rest = omega (arith, rest)
+    by_test b rest = search arith
 
 -- ---- keys at which two sides differ
 
@@ -195,37 +177,22 @@ among_differences a b q =
     among_filtered (differ_at a b) q (keys_of_both a b) ∙ by_test (differ_at a b q) refl
   where
     by_test : (d : Bool) → differ_at a b q ≡ d → (is_in q (keys_of_both a b) && d) ≡ d
-    by_test true differ = ap (λ b. b && true) (differ_among a b q differ)
-    by_test false agree = none (is_in q (keys_of_both a b))
-      where
-        none : (b : Bool) → (b && false) ≡ false
-        none true = refl
-        none false = refl
+    by_test d differ = search (differ, differ_among, arith)
 
 -- and rise
 pub differences_rise : (a b : Amounts) → Rise (differences a b)
-differences_rise a b = rise_filtered (differ_at a b) (keys_of_both a b)
-    (keys_rise (collected (a ++ b)) (IsAmounts-collected (a ++ b)).rising)
+differences_rise a b = search (rise_filtered, keys_rise, collected, IsAmounts-collected, arith)
 
 -- Keys that rise and are exactly those at which the sides differ are the differences.
 pub differences_are : (a b : Amounts) (ks : List ℕ) → Rise ks
     → ((q : ℕ) → is_in q ks ≡ differ_at a b q) → ks ≡ differences a b
-differences_are a b ks rise same = same_rising ks (differences a b) rise (differences_rise a b)
-    (λ q. same q ∙ sym (among_differences a b q))
+differences_are a b ks rise same = search (same_rising, differences_rise, among_differences, arith)
 
 -- So are those that differ of keys that rise, if there is each key that differs.
 pub differences_of : (a b : Amounts) (ks : List ℕ) → Rise ks
     → ((q : ℕ) → is_in q ks ≡ false → amount_of a q ≡ amount_of b q)
     → filter (differ_at a b) ks ≡ differences a b
-differences_of a b ks rise others =
-    differences_are a b (filter (differ_at a b) ks) (rise_filtered (differ_at a b) ks rise)
-    (λ q. among_filtered (differ_at a b) q ks ∙ by_test q (is_in q ks) refl)
-  where
-    by_test : (q : ℕ) (here : Bool) → is_in q ks ≡ here
-        → (here && differ_at a b q) ≡ differ_at a b q
-    by_test q true is = refl
-    by_test q false isnt =
-        sym (ap not (is_same (amount_of a q) (amount_of b q) (others q isnt)))
+differences_of a b ks rise others = search (differences_are, rise_filtered, among_filtered, arith)
 
 -- sides that don't differ at any key
 pub no_differences : (a b : Amounts) → IsAmounts a → IsAmounts b → differences a b ≡ [] → a ≡ b

@@ -53,8 +53,7 @@ without_greater k x rest is low = record {
 }
 
 pub at_first : (x : ℕ × ℕ) (rest : Amounts) → amount_of (x ∷ rest) x.0 ≡ x.1
-at_first x rest =
-    amount_of-cons x rest x.0 ∙ ap (λ b. cond b x.1 (amount_of rest x.0)) (same_number x.0)
+at_first x rest = cc (amount_of-cons x rest x.0, same_number x.0)
 
 -- ---- the least key first
 

@@ -1,5 +1,5 @@
 -- What is said of a front, one entry further.
-use Rattle.std.proofs.Common.{◌≡◌, ℕ, ◌+◌, ◌<◌, List, [], ◌++◌, length, take, drop, Option, Some}
+use Rattle.std.proofs.Common.{◌≡◌, ℕ, ◌+◌, ◌<◌, List, [], ◌++◌, length, Option, Some}
 use Rattle.std.proofs.Common.{None, refl, ap, ◌∙◌, sym, arith, append_assoc}
 use Rattle.std.specs.Prelude.{IfSome, option_map, flat_map}
 use Rattle.std.specs.Option.{option_map_or}
@@ -8,11 +8,11 @@ use Rattle.vyrd_base.specs.declared.header.Header.{Header}
 use Rattle.vyrd_base.specs.declared.log.Entry.{Entry}
 use Rattle.vyrd_base.specs.declared.log.StartWord.{StartWord}
 use Rattle.vyrd_base.specs.Layout.{plain_words}
-use Rattle.vyrd_base.specs.Places.{newest_first, numbers_below}
+use Rattle.vyrd_base.specs.Places.{numbers_below}
 use Rattle.vyrd_base.specs.Rules.{Charter, rules_by}
 use Rattle.vyrd_base.specs.Starts.{state_at_start}
 use Rattle.vyrd_base.specs.States.{State}
-use Rattle.vyrd_base.specs.Words.{effects, value_after}
+use Rattle.vyrd_base.specs.Words.{effects}
 use Rattle.vyrd_base.proofs.PlaceLaws.{length_below}
 use Rattle.vyrd_item_text.specs.ItemText.{item_text, items_text}
 use Rattle.vyrd_states.specs.Running.{IsKnown, run_by}
@@ -38,9 +38,7 @@ words_on h starting front at low =
 
 pub length_then : (h : Header) (starting : List StartWord) (front : List Entry) (at : ℕ)
     → length (words_then h starting front at) ≡ plain_words h
-length_then h starting front at =
-    length_below (value_after starting (effects (newest_first (take at front)) (drop at front)))
-    (plain_words h)
+length_then h starting front at = grind (arith, starting, length_below)
 
 -- what runs at the start
 pub known_start : {S : Type 0} (charter : S → Charter) (state : S → State) (made : S → ℕ)
@@ -60,11 +58,8 @@ pub start_is : {S : Type 0} (charter : S → Charter) (state : S → State) (c :
     → IfSome spec (λ s. charter s ≡ c)
     → option_map_or (λ s. agreed_items ((rules_by (charter s)).shown (state s))) spec []
     ≡ start_items (rules_by c) starting
-start_is charter state c starting None begins same =
-    ap (λ o. option_map_or (λ s. agreed_items ((rules_by c).shown s)) o []) begins
-start_is charter state c starting (Some s) begins same =
-    ap (λ d. agreed_items ((rules_by d).shown (state s))) same
-    ∙ ap (λ o. option_map_or (λ t. agreed_items ((rules_by c).shown t)) o []) begins
+start_is charter state c starting None begins same = cc
+start_is charter state c starting (Some s) begins same = cc
 
 -- the lines
 pub text_next : (line : ℕ → ℕ) (first : List ℕ) (start : List Item) (f : ℕ → List Item) (at : ℕ)

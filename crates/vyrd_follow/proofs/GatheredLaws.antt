@@ -5,7 +5,7 @@ use Rattle.std.proofs.Common.{refl, ap, ◌∙◌, sym, subst, arith}
 use Rattle.std.specs.Prelude.{◌==◌, filter}
 use Rattle.std.specs.Ordering.{nat_cmp}
 use Rattle.std.specs.declared.cmp.Ordering.TheVariants.{Greater}
-use Rattle.std.specs.FinMap.Entries.{put, by_order}
+use Rattle.std.specs.FinMap.Entries.{put}
 use Rattle.std.specs.List.{AllByRecursion}
 use Rattle.std.proofs.lemmas.Bool.Decides.{nat_tests}
 use Rattle.std.proofs.lemmas.List.{take_more, take-append-drop}
@@ -23,10 +23,7 @@ greater_of k e low = grind (arith, nat_tests)
 put_last : (k a : ℕ) (s : Amounts) → AllByRecursion (λ p. p.0 < k) s
     → put nat_cmp k a s ≡ s ++ (k, a) ∷ []
 put_last k a [] lower = refl
-put_last k a (e ∷ s) lower =
-    ap (λ o. by_order o ((k, a) ∷ e ∷ s) ((e.0, a) ∷ s) (e ∷ put nat_cmp k a s))
-    (greater_of k e.0 lower.0)
-    ∙ ap (λ xs. e ∷ xs) (put_last k a s lower.1)
+put_last k a (e ∷ s) lower = cc (greater_of k e.0 lower.0, put_last k a s lower.1)
 
 -- so the next of amounts comes to those before it
 pub with_next : (s : Amounts) (i : ℕ) (d : ℕ × ℕ) → IsAmounts s → i < length s

@@ -1,6 +1,6 @@
 -- The keys that a step of a built-in structure can change are among those that its call looks at.
 use Rattle.std.proofs.Common.{◌≡◌, ℕ, Bool, true, false, cond, ◌||◌, [], ◌∷◌, Option, Some}
-use Rattle.std.proofs.Common.{None, refl, ap, subst, ◌∙◌, sym}
+use Rattle.std.proofs.Common.{None, refl, ap, ◌∙◌, sym}
 use Rattle.std.specs.Prelude.{◌==◌, nat_lt}
 use Rattle.std.specs.Option.{option_map}
 use Rattle.std.proofs.lemmas.Option.{same_Some}
@@ -35,8 +35,7 @@ neither_key x y key other = by_same (x == y) refl other
   where
     by_same : (b : Bool) → (x == y) ≡ b → is_touched (cond b (x ∷ []) (x ∷ y ∷ [])) key ≡ false
         → is_touched (x ∷ y ∷ []) key ≡ false
-    by_same true same e = subst (λ z. is_touched (x ∷ z ∷ []) key ≡ false) (same_of x y same)
-        (twice_false (x == key) e)
+    by_same true same e = cc (same_of x y same, twice_false (x == key) e)
     by_same false differ e = e
 
 first_false : (p q : Bool) → (p || (q || false)) ≡ false → (p || false) ≡ false

@@ -22,9 +22,7 @@ use Rattle.vyrd_follow.specs.LastSteps.{does_set, placed_at, done_before, last_s
 use Rattle.vyrd_follow.specs.LastSteps.{last_item}
 
 last_in-push : (xs : List (ℕ × Effect)) (x : ℕ × Effect) → last_in (xs ++ x ∷ []) ≡ Some x
-last_in-push xs x =
-    let last : length (xs ++ x ∷ []) - 1 ≡ length xs = omega (arith, length-append xs (x ∷ [])) in
-    ap (slice_get (xs ++ x ∷ [])) last ∙ slice_get-last xs x
+last_in-push xs x = grind (arith, length-append xs (x ∷ []), slice_get-last xs x)
 
 -- one effect more is the last, if it sets the thing
 setting-push : (told : Thing) (done : List (ℕ × Effect)) (x : ℕ × Effect)
@@ -46,22 +44,18 @@ pub last_of-push : (told : Thing) (done : List (ℕ × Effect)) (at : ℕ) (doin
     → last_of (done ++ (at, doing) ∷ []) told
     ≡ cond (does_set told doing) (Some (LastStepped at doing)) (last_of done told)
 last_of-push told done at doing =
-    ap (option_map (λ step. LastStepped step.0 step.1)) (setting-push told done (at, doing))
-    ∙ by_test (does_set told doing)
+    cc (setting-push told done (at, doing), by_test (does_set told doing))
   where
     by_test : (b : Bool) → option_map (λ step. LastStepped step.0 step.1)
         (cond b (Some (at, doing)) (last_setting told done))
         ≡ cond b (Some (LastStepped at doing)) (last_of done told)
-    by_test true = refl
-    by_test false = refl
+    by_test b = search arith
 
 -- the next of what a step does
 placed_more : (before : List (ℕ × Effect)) (at : ℕ) (done : List Effect) (doing : Effect)
     → before ++ map (placed_at at) (done ++ doing ∷ [])
     ≡ (before ++ map (placed_at at) done) ++ (at, doing) ∷ []
-placed_more before at done doing =
-    ap (λ xs. before ++ xs) (map-append (placed_at at) done (doing ∷ []))
-    ∙ sym (append_assoc before (map (placed_at at) done) ((at, doing) ∷ []))
+placed_more before at done doing = grind (arith, map-append, append_assoc)
 
 pub noted_next : (told : Thing) (before : List (ℕ × Effect)) (at : ℕ) (done : List Effect)
     (doing : Effect) (found next : Option Item)
@@ -69,9 +63,7 @@ pub noted_next : (told : Thing) (before : List (ℕ × Effect)) (at : ℕ) (done
     → next ≡ cond (does_set told doing) (Some (LastStepped at doing)) found
     → next ≡ last_of (before ++ map (placed_at at) (done ++ doing ∷ [])) told
 noted_next told before at done doing found next so is =
-    is ∙ ap (cond (does_set told doing) (Some (LastStepped at doing))) so
-    ∙ sym (last_of-push told (before ++ map (placed_at at) done) at doing)
-    ∙ ap (λ steps. last_of steps told) (sym (placed_more before at done doing))
+    grind (arith, told, found, last_of-push, last_of, placed_more)
 
 -- a list in which one element more is that of another function
 pub one_more_set : {A B : Type 0} (f g : A → B) (xs : List A) (i : ℕ) (d : A) → i < length xs
@@ -80,9 +72,7 @@ pub one_more_set : {A B : Type 0} (f g : A → B) (xs : List A) (i : ℕ) (d : A
 one_more_set f g [] i d low = absurd (omega (arith, low))
 one_more_set f g (x ∷ xs) zero d low = refl
 one_more_set f g (x ∷ xs) (suc i) d low =
-    let more : suc (i + 1) ≡ suc i + 1 = omega arith in
-    ap (λ ys. g x ∷ ys) (one_more_set f g xs i d (omega (arith, low)))
-    ∙ ap (λ n. map g (take n (x ∷ xs)) ++ map f (drop n (x ∷ xs))) more
+    grind (arith, one_more_set f g xs i d (omega (arith, low)))
 
 pub here_still : {A B : Type 0} (f g : A → B) (xs : List A) (i : ℕ) (d : A) (e : B) → i < length xs
     → get_or (map g (take i xs) ++ map f (drop i xs)) i e ≡ f (get_or xs i d)

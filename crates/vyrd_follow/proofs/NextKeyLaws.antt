@@ -43,15 +43,6 @@ agree_where_none a b old new from next turned none q low before =
     let nothing = none q low before in
     omega (arith, turned q, nothing.0, nothing.1)
 
--- at the start
-pub up_to_first : (a b : Amounts) (next : Option ℕ) → AgreeFrom a b 0 next → AreUpTo a b next a
-up_to_first a b next agree q = by_test (comes_before next q) refl
-  where
-    by_test : (t : Bool) → comes_before next q ≡ t
-        → amount_of a q ≡ cond t (amount_of b q) (amount_of a q)
-    by_test true e = agree q (omega arith) e
-    by_test false e = refl
-
 -- once a key has been gone through
 pub up_to_next : (a b shown later : Amounts) (key : ℕ) (next : Option ℕ)
     → AreUpTo a b (Some key) shown → later ≡ with_amount shown key (amount_of b key)
@@ -61,8 +52,7 @@ up_to_next a b shown later key next known then low agree q =
     ∙ by_test (q == key) (nat_lt q key) refl refl
   where
     early : (n : Option ℕ) → IfSome n (λ k. key + 1 ≤ k) → q ≤ key → comes_before n q ≡ true
-    early None up at = refl
-    early (Some k) up at = is_below q k (omega (arith, up, at))
+    early n up at = search (is_below, arith)
 
     here : comes_before next q ≡ true
         → amount_of b q ≡ cond (comes_before next q) (amount_of b q) (amount_of a q)
@@ -70,22 +60,19 @@ up_to_next a b shown later key next known then low agree q =
 
     later_on : key < q → (t : Bool) → comes_before next q ≡ t
         → amount_of a q ≡ cond t (amount_of b q) (amount_of a q)
-    later_on past true e = agree q (omega (arith, past)) e
-    later_on past false e = refl
+    later_on past t e = search (past, arith)
 
     by_test : (same below : Bool) → (q == key) ≡ same → nat_lt q key ≡ below
         → cond same (amount_of b key) (amount_of shown q)
         ≡ cond (comes_before next q) (amount_of b q) (amount_of a q)
-    by_test true below e f =
-        let at : q ≡ key = same_of q key e in
-        ap (amount_of b) (sym at) ∙ here (early next low (omega (arith, at)))
-    by_test false true e f =
-        known q ∙ ap (λ t. cond t (amount_of b q) (amount_of a q)) f
-        ∙ here (early next low (omega (arith, below_of q key f)))
+    by_test true below e f = search (same_of, here, arith)
+    by_test false true e f = cc (known q, here (early next low (omega (arith, below_of q key f))))
     by_test false false e f =
-        let past : key < q = omega (arith, not_below_of q key f, apart_of q key e) in
-        known q ∙ ap (λ t. cond t (amount_of b q) (amount_of a q)) f
-        ∙ later_on past (comes_before next q) refl
+        cc (
+          known q,
+          later_on (omega (arith, not_below_of q key f, apart_of q key e)) (comes_before
+              next q) refl,
+        )
 
 -- ---- the next difference
 
@@ -151,11 +138,7 @@ up_to_date a b shown is it known = same_amounts shown b is it known
 
 pub items_all : {A : Type 0} (f : ℕ → A) (b shown : Amounts) (items all : List A) → shown ≡ b
     → items ++ map f (differences shown b) ≡ all → items ≡ all
-items_all f b shown items all same is =
-    sym (append-nil items)
-    ∙ ap (λ ks. items ++ map f ks) (sym (ap (λ s. differences s b) same
-    ∙ no_differences_from_itself b))
-    ∙ is
+items_all f b shown items all same is = cc (append-nil items, no_differences_from_itself b)
 
 -- no key is left
 pub at_end : (next : Option ℕ) → ((key : ℕ) → next ≢ Some key) → next ≡ None
@@ -167,9 +150,4 @@ at_end (Some key) none = absurd (none key refl)
 -- keys before the next one have no pair in the places so far
 pub place_gives_none : (f : ℕ → ℕ × ℕ) (j q : ℕ) → given q (map f (numbers_below j)) ≡ 0
     → (f j).0 ≢ q → given q (map f (numbers_below (j + 1))) ≡ 0
-place_gives_none f j q none apart = omega (
-  arith,
-  none,
-  given_map_push q f j,
-  other_part q (f j).0 (f j).1 (λ same. apart (sym same)),
-)
+place_gives_none f j q none apart = grind (arith, apart, given_map_push, other_part)

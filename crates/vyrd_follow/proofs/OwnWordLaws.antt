@@ -1,5 +1,5 @@
 -- What own words show is what the words of all whole parts show.
-use Rattle.std.proofs.Common.{◌≡◌, ℕ, ◌*◌, ◌/◌, ◌≤◌, List, [], ◌++◌, length, map, set, take}
+use Rattle.std.proofs.Common.{◌≡◌, ℕ, ◌*◌, ◌/◌, ◌≤◌, List, ◌++◌, length, map, set, take}
 use Rattle.std.proofs.Common.{length-set, refl, ap, ◌∙◌, sym, arith}
 use Rattle.std.proofs.lemmas.List.{append-nil, take-set-le}
 use Rattle.std.proofs.Math.Nat.{div-add-mod}
@@ -12,7 +12,6 @@ use Rattle.vyrd_base.specs.Own.OwnRules.{own_view}
 use Rattle.vyrd_base.specs.Own.Reader.{written_in}
 use Rattle.vyrd_base.specs.Rules.{own}
 use Rattle.vyrd_base.specs.Starts.{words_at_start}
-use Rattle.vyrd_base.specs.Words.{value_after}
 use Rattle.vyrd_base.proofs.PlaceLaws.{length_below}
 use Rattle.vyrd_own_spec.specs.Parts.{width_of}
 use Rattle.vyrd_own_states.proofs.OwnShownLaws.{are_whole, whole_seen}
@@ -28,21 +27,17 @@ own_count h subject = ap (λ s. plain_words_of s h.size) subject
 
 pub start_count : (h : Header) (starting : List StartWord) (words : List ℕ) → h.subject ≡ Own
     → words ≡ words_at_start h starting → length words ≡ h.size
-start_count h starting words subject is =
-    ap length is ∙ length_below (value_after starting []) (plain_words h) ∙ own_count h subject
+start_count h starting words subject is = search (length_below, starting, own_count, arith)
 
 -- ---- all whole parts
 
 -- they have no more words than there are
 pub whole_within : (size width parts n : ℕ) → n ≡ size → parts ≡ size / width → parts * width ≤ n
-whole_within size width parts n count many =
-    let turned : size / width * width ≡ width * (size / width) = omega arith in
-    omega (arith, count, ap (λ k. k * width) many, turned, div-add-mod size width)
+whole_within size width parts n count many = grind (arith, div-add-mod size width)
 
 -- and a word isn't below their number where it isn't below that as it was read
 pub past_whole : (a b parts width w : ℕ) → a ≡ parts → b ≡ width → a * b ≤ w → parts * width ≤ w
-past_whole a b parts width w first second past =
-    omega (arith, past, ap (λ k. k * b) first, ap (λ k. parts * k) second)
+past_whole a b parts width w first second past = grind arith
 
 module _ (h : Header) (lines : List (List ℕ)) (width parts : ℕ) (subject : h.subject ≡ Own)
     (wide : width ≡ width_of (written_in lines)) (many : parts ≡ h.size / width) where
@@ -67,13 +62,10 @@ module _ (h : Header) (lines : List (List ℕ)) (width parts : ℕ) (subject : h
 pub same_items : (e : Effect) (was : ℕ) {a c b d : Amounts} → a ≡ c → b ≡ d
     → map (changed_item e was a b) (differences a b)
     ≡ map (changed_item e was c d) (differences c d)
-same_items e was first second =
-    λ i. map (changed_item e was (first i) (second i)) (differences (first i) (second i))
+same_items e was first second = search arith
 
 -- none if nothing else is shown
 pub no_items : (e : Effect) (was : ℕ) (a b : Amounts) (items : List Item) → a ≡ b
     → items ≡ items ++ map (changed_item e was a b) (differences a b)
 no_items e was a b items same =
-    sym (append-nil items)
-    ∙ ap (λ ks. items ++ map (changed_item e was a a) ks) (sym (no_differences_from_itself a))
-    ∙ ap (λ more. items ++ more) (same_items e was {a = a} refl same)
+    cc (append-nil items, no_differences_from_itself a, same_items e was {a = a} refl same)

@@ -1,7 +1,6 @@
 -- What runs past one entry more.
-use Rattle.std.proofs.Common.{◌≡◌, ℕ, ◌+◌, ◌<◌, List, length, Option, Some, None, slice_get, ap}
-use Rattle.std.proofs.Common.{◌∙◌, sym, arith}
-use Rattle.std.specs.Prelude.{option_and_then}
+use Rattle.std.proofs.Common.{◌≡◌, ℕ, ◌+◌, ◌<◌, List, length, Option, Some, None, slice_get}
+use Rattle.std.proofs.Common.{sym, arith}
 use Rattle.vyrd_base.specs.declared.log.Entry.{Entry}
 use Rattle.vyrd_base.specs.declared.log.StartWord.{StartWord}
 use Rattle.vyrd_base.specs.Rules.{Charter, Rules, rules_by}
@@ -19,8 +18,7 @@ pub known_past : (c : Charter) (starting : List StartWord) (front : List Entry) 
     → LeadsTo run (state_past (rules_by run.charter) front at run.state) found
     → IsKnown c starting front (at + 1) found
 known_past c starting front at run None within known leads =
-    known_none c starting front (at + 1) (at + 1) (omega arith) (omega (arith, within))
-    (none_next c starting front at run within known leads)
+    search (known_none, starting, within, none_next, leads, arith)
 known_past c starting front at run (Some next) within known leads =
     known_next c starting front at run next within known leads
 
@@ -28,9 +26,7 @@ known_past c starting front at run (Some next) within known leads =
 pub past_commit : (r : Rules) (front : List Entry) (at : ℕ) (e : Entry) (x : Execution)
     (s : State) → slice_get front at ≡ Some e → Commits e.kind
     → execution_in front at e.caller ≡ Some x → state_past r front at s ≡ state_by r x s
-past_commit r front at e x s here commits found =
-    state_past-commit r front at e s here commits
-    ∙ ap (option_and_then (λ y. state_by r y s)) found
+past_commit r front at e x s here commits found = cc (state_past-commit r front at e s here commits)
 
 -- a state that isn't known isn't known later
 pub none_past : (c : Charter) (starting : List StartWord) (front : List Entry) (at : ℕ)

@@ -1,15 +1,13 @@
 -- The amounts that a step sets, of the keys that are named.
 use Rattle.std.proofs.Common.{◌≡◌, ℕ, zero, suc, ◌<◌, ◌≤◌, List, [], ◌∷◌, ◌++◌, take, Option, Some}
-use Rattle.std.proofs.Common.{refl, ap, ◌∙◌, sym, arith}
+use Rattle.std.proofs.Common.{refl, ap, arith}
 use Rattle.std.specs.Option.{option_map_or}
 use Rattle.vyrd_base.specs.declared.own.effect.Effect.{Effect}
 use Rattle.vyrd_base.specs.States.{State}
 use Rattle.vyrd_follow.specs.Doings.{amounts_set}
 
 pub one_key : (n a b : ℕ) → 0 < n → n ≤ 1 → a ∷ [] ≡ take n (a ∷ b ∷ [])
-one_key zero a b some few = absurd (omega (arith, some))
-one_key (suc zero) a b some few = refl
-one_key (suc (suc n)) a b some few = absurd (omega (arith, few))
+one_key n a b some few = grind (arith, few)
 
 pub no_key : (n a b : ℕ) → n ≤ 0 → [] ≡ take n (a ∷ b ∷ [])
 no_key zero a b none = refl
@@ -20,6 +18,4 @@ pub set_so : (old done : List Effect) (before after : State) (o : Option State)
     (keys named : List ℕ) → o ≡ Some after → keys ≡ named
     → done ≡ old ++ amounts_set before.shown after.shown named
     → done ≡ old ++ option_map_or (λ s. amounts_set before.shown s.shown keys) o []
-set_so old done before after o keys named next same so =
-    so ∙ ap (λ ks. old ++ amounts_set before.shown after.shown ks) (sym same)
-    ∙ ap (λ p. old ++ option_map_or (λ s. amounts_set before.shown s.shown keys) p []) (sym next)
+set_so old done before after o keys named next same so = grind (arith, after, named)

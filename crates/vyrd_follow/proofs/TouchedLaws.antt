@@ -1,7 +1,7 @@
 -- The keys that a write can matter to, by the part that its word is in.
-use Rattle.std.proofs.Common.{◌≡◌, ◌≢◌, ℕ, ◌+◌, ◌*◌, ◌/◌, ◌^◌, ◌<◌, Bool, true, false, cond, ◌||◌}
+use Rattle.std.proofs.Common.{◌≡◌, ◌≢◌, ℕ, ◌+◌, ◌*◌, ◌/◌, ◌^◌, ◌<◌, true, false, ◌||◌}
 use Rattle.std.proofs.Common.{List}
-use Rattle.std.proofs.Common.{[], ◌∷◌, length, set, refl, ap, ◌∙◌, sym, arith}
+use Rattle.std.proofs.Common.{length, set, refl, ap, ◌∙◌, sym, arith}
 use Rattle.std.specs.Prelude.{◌==◌, slice_index}
 use Rattle.std.proofs.lemmas.List.{set-get_or}
 use Rattle.vyrd_base.specs.declared.header.Header.{Header}
@@ -24,12 +24,7 @@ use Rattle.vyrd_witness.proofs.PartLaws.{slot_turned, few_shown, chunk_passed, b
 -- a slot gives nothing to a key that isn't its value
 slot_none : (q : ℕ) (words : List ℕ) (i : ℕ) → q ≢ slice_index words (2 * i + 1)
     → given q (slot_parts words i) ≡ 0
-slot_none q words i apart = by_state (slice_index words (2 * i) == 2)
-  where
-    by_state : (b : Bool)
-        → given q (cond {A = List (ℕ × ℕ)} b ((slice_index words (2 * i + 1), 1) ∷ []) []) ≡ 0
-    by_state true = omega (arith, other_part q (slice_index words (2 * i + 1)) 1 apart)
-    by_state false = refl
+slot_none q words i apart = grind (arith, apart, given, other_part)
 
 neither : (a b : ℕ) (q : ℕ) → q ≢ a → q ≢ b → (q == a || q == b) ≡ false
 neither a b q not_a not_b = ap (λ t. t || q == b) (isnt_same q a not_a) ∙ isnt_same q b not_b

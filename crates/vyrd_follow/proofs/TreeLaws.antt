@@ -4,16 +4,16 @@ use Rattle.std.proofs.Common.{true}
 use Rattle.std.proofs.Common.{false, cond, ◌&&◌, ◌||◌, List, [], ◌∷◌, length, map, get_or}
 use Rattle.std.proofs.Common.{set, replicate, refl, ap, ◌∙◌, sym, subst, arith, get_or-set_other}
 use Rattle.std.proofs.Common.{get_or-set_same}
-use Rattle.std.specs.Prelude.{◌==◌, nat_lt, slice_index}
+use Rattle.std.specs.Prelude.{◌==◌, slice_index}
 use Rattle.vyrd_base.specs.declared.header.Header.{Header}
 use Rattle.vyrd_base.specs.declared.subject.Subject.TheVariants.{Tree}
 use Rattle.vyrd_base.specs.Amounts.{amount_of, collected, given, part_given}
 use Rattle.vyrd_base.specs.Places.{numbers_below}
-use Rattle.vyrd_base.specs.Tree.{chain_parts, node_word, count_of}
+use Rattle.vyrd_base.specs.Tree.{chain_parts, node_word}
 use Rattle.vyrd_base.specs.Views.{parts_of, view_of_words}
 use Rattle.vyrd_base.proofs.PlaceLaws.{map_alike, element_below, length_below}
 use Rattle.vyrd_base.proofs.SumLaws.{amount_of-collected, nothing_given, other_part}
-use Rattle.vyrd_base.proofs.TestLaws.{same_of, apart_of, isnt_same, neither_true, below_of}
+use Rattle.vyrd_base.proofs.TestLaws.{same_of, apart_of, isnt_same, neither_true}
 use Rattle.vyrd_view.specs.Chains.{tree_pair, entry_pair, end_pair, is_on_chain, is_broken}
 use Rattle.vyrd_view.specs.Comparing.{AgreeElsewhere}
 use Rattle.vyrd_view.specs.Laws.Sums.{given_map_push, each_bounds}
@@ -98,18 +98,7 @@ module _ (q n : ℕ) (f g : ℕ → ℕ × ℕ) (same : (m : ℕ) → m / 4 ≢ 
 node_place : (size : ℕ) (words : List ℕ) (n j : ℕ) (on : Bool) → n < size → j < 4
     → is_on_chain size words n ≡ on
     → tree_pair size words (4 * n + j) ≡ cond on (entry_pair words n j) (0, 0)
-node_place size words n j on low few is =
-    let part : (4 * n + j) / 4 ≡ n = omega (arith, few) in
-    let place : (4 * n + j) % 4 ≡ j = omega (arith, few) in
-    ap (λ (b : Bool). cond {A = ℕ × ℕ} b (end_pair (is_broken size words))
-    (cond {A = ℕ × ℕ} (is_on_chain size words ((4 * n + j) / 4))
-    (entry_pair words ((4 * n + j) / 4) ((4 * n + j) % 4)) (0, 0)))
-    (isnt_same (4 * n + j) (4 * size) (λ e. absurd (omega (arith, e, low, few))))
-    ∙ ap (λ (k : ℕ). cond {A = ℕ × ℕ} (is_on_chain size words k)
-    (entry_pair words k ((4 * n + j) % 4)) (0, 0)) part
-    ∙ ap (λ (k : ℕ). cond {A = ℕ × ℕ} (is_on_chain size words n) (entry_pair words n k) (0, 0))
-    place
-    ∙ ap (λ (b : Bool). cond {A = ℕ × ℕ} b (entry_pair words n j) (0, 0)) is
+node_place size words n j on low few is = grind (arith, few, isnt_same)
 
 -- what the words of a tree show is what its places give
 shown_places : (h : Header) (words : List ℕ) (q : ℕ) → h.subject ≡ Tree → 0 < h.size
@@ -235,29 +224,8 @@ module _ (h : Header) (w was : ℕ) (words : List ℕ) (q : ℕ) (is : h.subject
 
 -- ---- amounts are small
 
-entry_most : (words : List ℕ) (n j : ℕ) → (entry_pair words n j).1 ≤ 2 ^ 33
-entry_most words n j = by_tests (nat_lt j (count_of words n))
-    (nat_lt (node_word words n (4 + j)) (2 ^ 32)) (nat_lt (node_word words n (8 + j)) (2 ^ 32)) refl
-  where
-    by_tests : (a b c : Bool) → nat_lt (node_word words n (8 + j)) (2 ^ 32) ≡ c
-        → (cond {A = ℕ × ℕ} a (cond {A = ℕ × ℕ} (b && c)
-        (node_word words n (4 + j), 2 ^ 32 + node_word words n (8 + j)) (2 ^ 33, 1)) (0, 0)).1
-        ≤ 2 ^ 33
-    by_tests false b c e = omega arith
-    by_tests true false c e = omega arith
-    by_tests true true false e = omega arith
-    by_tests true true true e = omega (arith, below_of (node_word words n (8 + j)) (2 ^ 32) e)
-
 place_most : (size : ℕ) (words : List ℕ) (m : ℕ) → (tree_pair size words m).1 ≤ 2 ^ 33
-place_most size words m = by_tests (m == 4 * size) (is_broken size words)
-    (is_on_chain size words (m / 4))
-  where
-    by_tests : (end broken on : Bool) → (cond {A = ℕ × ℕ} end (end_pair broken)
-        (cond {A = ℕ × ℕ} on (entry_pair words (m / 4) (m % 4)) (0, 0))).1 ≤ 2 ^ 33
-    by_tests true true on = omega arith
-    by_tests true false on = omega arith
-    by_tests false broken true = entry_most words (m / 4) (m % 4)
-    by_tests false broken false = omega arith
+place_most size words m = search arith
 
 pub tree_small : (h : Header) (words : List ℕ) (q : ℕ) → h.subject ≡ Tree → 0 < h.size
     → h.size ≤ 1024 → amount_of (view_of_words h words) q < 2 ^ 63
@@ -282,26 +250,12 @@ tree_small h words q is some few =
 
 entry_none : (q : ℕ) (words : List ℕ) (n j : ℕ) → q ≢ node_word words n (4 + j) → q ≢ 2 ^ 33
     → part_given q (entry_pair words n j) ≡ 0
-entry_none q words n j other sound = by_tests (nat_lt j (count_of words n))
-    (nat_lt (node_word words n (4 + j)) (2 ^ 32) && nat_lt (node_word words n (8 + j)) (2 ^ 32))
-  where
-    by_tests : (a b : Bool) → part_given q (cond {A = ℕ × ℕ} a (cond {A = ℕ × ℕ} b
-        (node_word words n (4 + j), 2 ^ 32 + node_word words n (8 + j)) (2 ^ 33, 1)) (0, 0)) ≡ 0
-    by_tests false b = nothing_given q 0
-    by_tests true true =
-        other_part q (node_word words n (4 + j)) (2 ^ 32 + node_word words n (8 + j)) other
-    by_tests true false = other_part q (2 ^ 33) 1 sound
+entry_none q words n j other sound = grind (arith, nothing_given, other_part)
 
 -- a node gives nothing to other keys
 pub node_none : (q : ℕ) (words : List ℕ) (n : ℕ)
     → ((j : ℕ) → j < 4 → q ≢ node_word words n (4 + j)) → q ≢ 2 ^ 33 → node_given q words n ≡ 0
-node_none q words n others sound = omega (
-  arith,
-  entry_none q words n 0 (others 0 (omega arith)) sound,
-  entry_none q words n 1 (others 1 (omega arith)) sound,
-  entry_none q words n 2 (others 2 (omega arith)) sound,
-  entry_none q words n 3 (others 3 (omega arith)) sound,
-)
+node_none q words n others sound = search (entry_none, arith)
 
 -- a word of before is what it is now, or what the write has changed
 pub word_before : (words : List ℕ) (w was i q : ℕ) → w < length words → q ≢ was

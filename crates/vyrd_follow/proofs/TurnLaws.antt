@@ -17,7 +17,6 @@ use Rattle.vyrd_base.proofs.TestLaws.{same_of, is_same, apart_of, neither_true}
 use Rattle.vyrd_witness.specs.declared.effect.Effect.{Effect}
 use Rattle.vyrd_witness.specs.declared.item.Item.{Item}
 use Rattle.vyrd_witness.specs.declared.item.Item.TheVariants.{Changed, Wrote}
-use Rattle.vyrd_witness.specs.Changes.{change_by, words_after_effect}
 use Rattle.vyrd_follow.specs.Doings.{differ_at}
 use Rattle.vyrd_follow.specs.Following.{differences, or_item, write_items}
 use Rattle.vyrd_follow.specs.Turns.{turned_to, turns, turn_item, turn_items}
@@ -213,13 +212,7 @@ module _ (e : Effect) (was : ℕ) where
 two_kept : (p : ℕ → Bool) (f : ℕ → ℕ × ℕ) (low high : ℕ)
     → map f (filter p (low ∷ [])) ++ map f (filter p (high ∷ []))
     ≡ map f (filter p (low ∷ high ∷ []))
-two_kept p f low high = by_test (p low)
-  where
-    by_test : (b : Bool)
-        → map f (cond b (low ∷ []) []) ++ map f (filter p (high ∷ []))
-        ≡ map f (cond b (low ∷ filter p (high ∷ [])) (filter p (high ∷ [])))
-    by_test true = refl
-    by_test false = refl
+two_kept p f low high = grind arith
 
 module _ (from to : Amounts) (low high : ℕ) (none one all : List (ℕ × ℕ))
     (others : (q : ℕ) → q ≢ low → q ≢ high → amount_of from q ≡ amount_of to q)
@@ -265,20 +258,12 @@ view_formed h words = IsAmounts-collected (parts_of h.subject h.size words)
 pub nothing_written : (r : Rules) (words : List ℕ) (e : Effect) (was : ℕ)
     → was ≡ slice_index words e.word → was ≡ e.value → write_items r words e ≡ Wrote e was ∷ []
 nothing_written r words e was here same =
-    let words_are : words ≡ words_after_effect words e =
-    sym (set-get_or words e.word 0) ∙ ap (set words e.word) (sym here ∙ same) in
-    ap (λ ws. or_item (Wrote e (slice_index words e.word)) (map (λ key. Changed key
-    (change_by r key words e)) (differences (r.view words) (r.view ws)))) (sym words_are)
-    ∙ ap (λ ks. or_item (Wrote e (slice_index words e.word)) (map (λ key. Changed key
-    (change_by r key words e)) ks)) (no_differences_from_itself (r.view words))
-    ∙ ap (λ n. Wrote e n ∷ []) (sym here)
+    cc (set-get_or words e.word 0, no_differences_from_itself (r.view words))
 
 -- the words before it, once it is undone
 pub written_back : (words after : List ℕ) (w v was : ℕ) → after ≡ set words w v
     → was ≡ slice_index words w → words ≡ set after w was
-written_back words after w v was is here =
-    sym (set-get_or words w 0) ∙ ap (set words w) (sym here) ∙ sym (set-set words w v was)
-    ∙ ap (λ ws. set ws w was) (sym is)
+written_back words after w v was is here = cc (set-get_or words w 0, set-set words w v was)
 
 -- a word that was read
 pub word_read : (words now : List ℕ) (i was : ℕ) → words ≡ now → i < length now

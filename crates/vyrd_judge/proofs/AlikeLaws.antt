@@ -1,18 +1,16 @@
 -- The words at the commits that wait, by the writes that act as the effects there.
-use Rattle.std.proofs.Common.{◌≡◌, ℕ, suc, ◌<◌, ◌≤◌, Bool, true, false, cond, List, [], ◌∷◌, ◌++◌}
+use Rattle.std.proofs.Common.{◌≡◌, ℕ, suc, ◌<◌, Bool, true, false, cond, List, [], ◌∷◌, ◌++◌}
 use Rattle.std.proofs.Common.{length, map, Option, Some, None, refl, ap, subst, ◌∙◌, sym, arith}
 use Rattle.std.proofs.Common.{append_assoc}
-use Rattle.std.specs.Prelude.{◌==◌, unwrap_or}
+use Rattle.std.specs.Prelude.{◌==◌}
 use Rattle.std.specs.Option.{option_or}
 use Rattle.vyrd_base.specs.declared.header.Header.{Header}
 use Rattle.vyrd_base.specs.declared.log.Entry.{Entry}
 use Rattle.vyrd_base.specs.declared.log.StartWord.{StartWord}
-use Rattle.vyrd_base.specs.Places.{first_answer, newest_first_onto, numbers_below}
-use Rattle.vyrd_base.specs.Layout.{plain_words}
-use Rattle.vyrd_base.specs.Words.{effects_at, given_to, value_at_start, value_after, words_with}
+use Rattle.vyrd_base.specs.Places.{first_answer, newest_first_onto}
+use Rattle.vyrd_base.specs.Words.{effects_at, given_to, words_with}
 use Rattle.vyrd_base.specs.Commits.{is_commit}
 use Rattle.vyrd_base.proofs.PlaceLaws.{first_answer-append}
-use Rattle.vyrd_base.proofs.TestLaws.{same_of}
 use Rattle.vyrd_shadow.specs.Blocks.{with_writes}
 use Rattle.vyrd_base.proofs.EffectWords.{one_write}
 use Rattle.vyrd_base.proofs.ListLaws.{or_none}
@@ -26,8 +24,7 @@ writes_onto : (h : Header) (starting : List StartWord) (effects writes : List (�
     (newest_first_onto effects writes)
 writes_onto h starting effects [] = refl
 writes_onto h starting effects ((w, v) ∷ writes) =
-    ap (λ words. with_writes words writes) (one_write h starting effects w v)
-    ∙ writes_onto h starting ((w, v) ∷ effects) writes
+    cc (one_write h starting effects w v, writes_onto h starting ((w, v) ∷ effects) writes)
 
 or_assoc : {A : Type 0} (a b c : Option A) → option_or a (option_or b c)
     ≡ option_or (option_or a b) c
@@ -51,30 +48,18 @@ pub words_alike : (h : Header) (starting : List StartWord) (before effects write
     → ActAlike writes effects
     → with_writes (words_with h starting before) writes ≡ words_with h starting (effects ++ before)
 words_alike h starting before effects writes alike =
-    writes_onto h starting before writes
-    ∙ map_alike (value_after starting (newest_first_onto before writes))
-    (value_after starting (effects ++ before)) same (numbers_below (plain_words h))
-  where
-    same : (w : ℕ) → value_after starting (newest_first_onto before writes) w ≡ value_after starting
-        (effects ++ before) w
-    same w = ap (λ o. unwrap_or o (value_at_start starting w))
-        (last_onto w before writes ∙ ap (λ o. option_or o (first_answer (given_to w) before))
-        (alike w)
-        ∙ sym (first_answer-append (given_to w) effects before))
+    grind (arith, starting, alike, writes_onto, map_alike, last_onto, first_answer-append)
 
 -- so do two lists of writes one after the other
 last-append : (w : ℕ) (xs ys : List (ℕ × ℕ)) → given_last w (xs ++ ys) ≡ option_or (given_last w ys)
     (given_last w xs)
 last-append w [] ys = sym (or_none (given_last w ys))
 last-append w (x ∷ xs) ys =
-    ap (λ o. option_or o (given_to w x)) (last-append w xs ys)
-    ∙ sym (or_assoc (given_last w ys) (given_last w xs) (given_to w x))
+    cc (last-append w xs ys, or_assoc (given_last w ys) (given_last w xs) (given_to w x))
 
 pub alike-append : (xs effects ys more : List (ℕ × ℕ)) → ActAlike xs effects → ActAlike ys more
     → ActAlike (xs ++ ys) (more ++ effects)
-alike-append xs effects ys more first last = λ w.
-    last-append w xs ys ∙ (λ i. option_or (last w i) (first w i))
-    ∙ sym (first_answer-append (given_to w) more effects)
+alike-append xs effects ys more first last = grind (arith, more, last-append, first_answer-append)
 
 -- as many lists of writes as there are parts
 pub alike_count : (since parts : List (List (ℕ × ℕ))) → AllActAlike since parts → length since
@@ -129,10 +114,7 @@ has_parts_more h starting first since [] behind writes effects b alike has = abs
 has_parts_more h starting first since (part ∷ parts) behind writes effects b alike has =
     cut b (first_with behind writes first since) (with_part behind writes since)
     (with_effects behind effects (part ∷ parts))
-    (subst (λ n. HasParts h starting (first_with behind writes first since)
-    (with_part behind writes since)
-    (cond (n == behind) ((effects ++ part) ∷ parts) (part ∷ with_effects behind effects parts)))
-    count
+    (rw (← count)
     (by_test (length since == behind) refl))
   where
     count : length since ≡ length parts
@@ -142,15 +124,7 @@ has_parts_more h starting first since (part ∷ parts) behind writes effects b a
         → HasParts h starting (cond t (with_writes first writes) first)
         (with_part behind writes since)
         (cond t ((effects ++ part) ∷ parts) (part ∷ with_effects behind effects parts))
-    by_test true here = (
-      ap (λ words. with_writes words writes) has.0
-          ∙ words_alike h starting part effects writes alike,
-      subst (λ s. AllActAlike s parts) (sym (with_part_none behind writes since (at_most here)))
-          has.1,
-    )
-      where
-        at_most : (length since == behind) ≡ true → length since ≤ behind
-        at_most e = let same = same_of (length since) behind e in omega (arith, same)
+    by_test true here = search (words_alike, starting, alike, with_part_none, behind, here, arith)
     by_test false apart = (has.0, alike_more behind writes effects since parts alike has.1)
 
     cut : (t : Bool) (ws : List ℕ) (xs ys : List (List (ℕ × ℕ))) → HasParts h starting ws xs ys
@@ -183,8 +157,7 @@ parts_before a b earlier (e ∷ later) = by_test (is_commit e.kind)
         ≡ onto_first b
         (cond t ((now ++ a) ∷ effect_parts [] (e ∷ earlier) later)
         (effect_parts (now ++ a) (e ∷ earlier) later))
-    by_test true rest = ap (λ ws. ws ∷ effect_parts [] (e ∷ earlier) later) joined
-    by_test false rest = ap (λ ws. effect_parts ws (e ∷ earlier) later) joined ∙ rest
+    by_test t rest = search (joined, arith)
 
 -- After the commit that waits first the words go on to the next one.
 pub record Split (h : Header) (starting : List StartWord) (first : List ℕ)
@@ -213,16 +186,10 @@ has_parts_next h starting first since before earlier later is all =
             → 0 < length
             (cond t ((effects_at xs y.caller y.kind ys ++ ws) ∷ effect_parts [] (y ∷ xs) ys)
             (effect_parts (effects_at xs y.caller y.kind ys ++ ws) (y ∷ xs) ys))
-        by_test true low = omega arith
-        by_test false low = low
+        by_test t low = search arith
 
     by_parts : (xs parts : List (List (ℕ × ℕ))) → 0 < length parts → AllActAlike xs parts
         → Split h starting first xs (onto_first before parts)
     by_parts xs [] low a = absurd (omega (arith, low))
     by_parts [] (p ∷ ps) low a = absurd a
-    by_parts (x ∷ xs) (p ∷ ps) low a = record {
-      part = x;
-      rest = xs;
-      is = refl;
-      has = (ap (λ words. with_writes words x) is ∙ words_alike h starting before p x a.0, a.1);
-    }
+    by_parts (x ∷ xs) (p ∷ ps) low a = grind (arith, words_alike h starting before p x a.0, a.1)

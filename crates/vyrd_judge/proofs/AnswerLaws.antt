@@ -1,40 +1,31 @@
 -- How many answers open observers have, from entry to entry.
-use Rattle.std.proofs.Common.{◌≡◌, ℕ, zero, suc, ◌+◌, ◌-◌, ◌<◌, ◌≤◌, Bool, true, false, ◌&&◌}
-use Rattle.std.proofs.Common.{List, [], ◌∷◌, ◌++◌, Option, Some, None, slice_get, length}
+use Rattle.std.proofs.Common.{◌≡◌, ℕ, zero, suc, ◌+◌, ◌-◌, ◌<◌, ◌≤◌, Bool, true, false}
+use Rattle.std.proofs.Common.{List, [], ◌∷◌, ◌++◌, Some, None, slice_get, length}
 use Rattle.std.proofs.Common.{refl, ap, subst, ◌∙◌, sym, arith}
-use Rattle.std.specs.Prelude.{◌==◌, not, is_none, is_some, if◌then◌else◌, replicate, option_map}
-use Rattle.std.specs.Bool.{then_some}
-use Rattle.std.specs.Option.{option_map_or, option_flatten}
+use Rattle.std.specs.Prelude.{◌==◌, not, is_none, is_some, if◌then◌else◌, replicate}
 use Rattle.std.proofs.lemmas.Option.{same_Some, none-some, slice_get_within}
 use Rattle.vyrd_base.specs.declared.header.Header.{Header}
 use Rattle.vyrd_base.specs.declared.subject.Method.{Method}
 use Rattle.vyrd_base.specs.declared.subject.Args.{Args}
 use Rattle.vyrd_base.specs.declared.log.Kind.{Kind}
-use Rattle.vyrd_base.specs.declared.log.Kind.TheVariants.{Call, Return, Write, Commit, BlockOpen}
-use Rattle.vyrd_base.specs.declared.log.Kind.TheVariants.{BlockClose, BlockCommit}
+use Rattle.vyrd_base.specs.declared.log.Kind.TheVariants.{Call, Return}
 use Rattle.vyrd_base.specs.declared.log.Entry.{Entry}
-use Rattle.vyrd_base.specs.Callers.{Called, open_call, has_committed, entries_before_call}
-use Rattle.vyrd_base.specs.Callers.{call_or_return, commit_or_call, is_call}
+use Rattle.vyrd_base.specs.Callers.{open_call, has_committed, entries_before_call}
 use Rattle.vyrd_base.specs.Commits.{is_commit, commit_count, next_reply}
 use Rattle.vyrd_base.specs.Entries.{place_of}
-use Rattle.vyrd_base.specs.Shape.{broken_rule, checks_at}
+use Rattle.vyrd_base.specs.Shape.{broken_rule}
 use Rattle.vyrd_base.specs.Subjects.{must_commit}
-use Rattle.vyrd_base.proofs.BlockLaws.{entry, by_same, own_answer, open_call-quiet}
-use Rattle.vyrd_base.proofs.CommittedLaws.{committed-other, committed-quiet, committed-own}
+use Rattle.vyrd_base.proofs.BlockLaws.{entry, by_same}
 use Rattle.vyrd_base.proofs.Growing.{next_reply_stays}
 use Rattle.vyrd_base.proofs.Settled.{IsReturned}
 use Rattle.vyrd_base.proofs.ShadowLaws.{all_kept}
-use Rattle.vyrd_base.proofs.StateLaws.{open_call-other, before_call-other, before_call-quiet}
 use Rattle.vyrd_base.proofs.StateLaws.{count-quiet, count-commit, commits_before_call}
-use Rattle.vyrd_base.proofs.TestLaws.{same_number}
 use Rattle.vyrd_observers.specs.Watching.{Seen, AllSee, one_more, unwatched}
-use Rattle.vyrd_judge.specs.declared.waiting.Event.TheVariants.{Returns}
 use Rattle.vyrd_judge.specs.Answers.{is_observing, answers_of}
 use Rattle.vyrd_judge.specs.Judged.{AllReturned, AreSeenFew}
 use Rattle.vyrd_judge.specs.Keeping.{is_left_open}
-use Rattle.vyrd_judge.specs.Waiting.{waiting_of, waiting_at}
+use Rattle.vyrd_judge.specs.Waiting.{waiting_at}
 use Rattle.vyrd_judge.proofs.Reaching.{OthersStay}
-use Rattle.vyrd_judge.proofs.WaitingLaws.{uncommitted}
 
 -- so many answers, by whether there is an observer and by the commits
 abbrev pub answers_by : Bool → ℕ → ℕ → ℕ
@@ -47,24 +38,13 @@ stays : (c : ℕ) (e : Entry) (earlier : List Entry)
     → entries_before_call c (e ∷ earlier) ≡ entries_before_call c earlier
     → answers_of c (e ∷ earlier) ≡ answers_by (is_observing c earlier)
     (commit_count (e ∷ earlier)) (commit_count (entries_before_call c earlier))
-stays c e earlier opened committed before =
-    ap (λ o. answers_by (option_map_or (λ (k : Called). not (must_commit k.method)) o false
-    && not (has_committed c (e ∷ earlier))) (commit_count (e ∷ earlier))
-    (commit_count (entries_before_call c (e ∷ earlier)))) opened
-    ∙ ap (λ b. answers_by (option_map_or (λ (k : Called). not (must_commit k.method))
-    (open_call c earlier) false && not b) (commit_count (e ∷ earlier))
-    (commit_count (entries_before_call c (e ∷ earlier)))) committed
-    ∙ ap (λ es. answers_by (is_observing c earlier) (commit_count (e ∷ earlier))
-    (commit_count es)) before
+stays c e earlier opened committed before = grind (arith, opened)
 
 -- another caller's entry
 pub other_answers : (c : ℕ) (e : Entry) (earlier : List Entry) → (e.caller == c) ≡ false
     → answers_of c (e ∷ earlier) ≡ answers_by (is_observing c earlier)
     (commit_count (e ∷ earlier)) (commit_count (entries_before_call c earlier))
-other_answers c e earlier other = stays c e earlier
-    (open_call-other c e.caller e.kind earlier other)
-    (committed-other c e.caller e.kind earlier other)
-    (before_call-other c e.caller e.kind earlier other)
+other_answers c e earlier other = cc
 
 -- no fewer with more commits, and one more with one more
 more_commits : (b : Bool) (n m before : ℕ) → n ≤ m → answers_by b n before ≤ answers_by b m before
@@ -87,63 +67,26 @@ fewer e earlier = by_commit (is_commit e.kind) refl
 -- no answers of a caller that has no open execution, or one that has committed
 pub unopened_answers : (c : ℕ) (earlier : List Entry) → open_call c earlier ≡ None
     → answers_of c earlier ≡ 0
-unopened_answers c earlier none =
-    ap (λ o. answers_by (option_map_or (λ (k : Called). not (must_commit k.method)) o false
-    && not (has_committed c earlier)) (commit_count earlier)
-    (commit_count (entries_before_call c earlier))) none
+unopened_answers c earlier none = grind arith
 
 pub committed_answers : (c : ℕ) (earlier : List Entry) → has_committed c earlier ≡ true
     → answers_of c earlier ≡ 0
-committed_answers c earlier is = by_both (option_map_or
-    (λ (k : Called). not (must_commit k.method)) (open_call c earlier) false)
-    (has_committed c earlier) is
-  where
-    by_both : (a b : Bool) → b ≡ true
-        → answers_by (a && not b) (commit_count earlier)
-        (commit_count (entries_before_call c earlier)) ≡ 0
-    by_both true true e = refl
-    by_both true false e = cc
-    by_both false b e = refl
+committed_answers c earlier is = grind arith
 
 -- an execution that has just begun
 pub begun_answers : (c : ℕ) (method : Method) (args : Args) (earlier : List Entry)
     → must_commit method ≡ false → answers_of c (entry c (Call method args) ∷ earlier) ≡ 1
-begun_answers c method args earlier free =
-    ap (λ o. answers_by (option_map_or (λ (k : Called). not (must_commit k.method))
-    (option_flatten o) false && not (has_committed c es)) (commit_count es)
-    (commit_count (entries_before_call c es)))
-    (own_answer c call_or_return (Call method args) earlier)
-    ∙ ap (λ b. answers_by (not b && not (has_committed c es)) (commit_count es)
-    (commit_count (entries_before_call c es))) free
-    ∙ ap (λ b. answers_by (not b) (commit_count es) (commit_count (entries_before_call c es)))
-    (committed-own c (Call method args) earlier false refl)
-    ∙ ap (λ b. suc (commit_count es - commit_count
-    (if b && true then earlier else entries_before_call c earlier))) (same_number c)
-    ∙ (let same = count-quiet (entry c (Call method args)) earlier refl in omega (arith, same))
-  where
-    es : List Entry
-    es = entry c (Call method args) ∷ earlier
+begun_answers c method args earlier free = grind arith
 
 -- a call stands outside any execution of its caller, and a return that isn't judged behind a commit
 pub call_is_free : (h : Header) (c : ℕ) (method : Method) (args : Args) (earlier : List Entry)
     → broken_rule h earlier (entry c (Call method args)) ≡ None → open_call c earlier ≡ None
-call_is_free h c method args earlier keeps = free (open_call c earlier)
-    (all_kept (checks_at h earlier (entry c (Call method args))) keeps).1.1.1.0
-  where
-    free : (o : Option Called) → is_some o ≡ false → o ≡ None
-    free None e = refl
-    free (Some k) e = cc
+call_is_free h c method args earlier keeps = search (all_kept, is_some, arith)
 
 returned_committed : (c reply : ℕ) (earlier later : List Entry)
     → waiting_at (place_of (entry c (Return reply)) earlier later) ≡ None
     → has_committed c earlier ≡ true
-returned_committed c reply earlier later none = by_committed (has_committed c earlier) none
-  where
-    by_committed : (b : Bool)
-        → option_map (waiting_of (place_of (entry c (Return reply)) earlier later))
-        (then_some (not b) (Returns reply)) ≡ None → b ≡ true
-    by_committed true is = refl
-    by_committed false is = cc
+returned_committed c reply earlier later none = grind arith
 
 -- an entry that isn't judged takes no answers away
 pub quiet_answers : (h : Header) (e : Entry) (earlier later : List Entry) (c : ℕ)
@@ -164,45 +107,25 @@ quiet_answers h e earlier later c keeps quiet = by_same e.caller c
     nothing : {n m : ℕ} → n ≡ 0 → n ≤ m
     nothing {n} {m} is = omega (arith, is)
 
-    inside : (kind : Kind) → call_or_return kind ≡ None → commit_or_call kind ≡ None
-        → is_call kind ≡ false → is_commit kind ≡ false
-        → answers_of c earlier ≤ answers_of c (entry c kind ∷ earlier)
-    inside kind unopened uncommits uncalled isnt = at_most
-        (stays c (entry c kind) earlier (open_call-quiet c c kind earlier unopened)
-        (committed-quiet c c kind earlier uncommits) (before_call-quiet c c kind earlier uncalled))
-        (more_commits (is_observing c earlier) (commit_count earlier)
-        (commit_count (entry c kind ∷ earlier)) (commit_count (entries_before_call c earlier))
-        (fewer (entry c kind) earlier))
-
-    committing : {A : Type 0} (kind : Kind) → is_commit kind ≡ true
-        → broken_rule h earlier (entry c kind) ≡ None
-        → waiting_at (place_of (entry c kind) earlier later) ≡ None → A
-    committing kind is keeps' none =
-        absurd (apart (sym (uncommitted h (entry c kind) earlier later keeps' none) ∙ is))
-      where
-        apart : false ≡ true → ⊥
-        apart p = cc
-
     own : (kind : Kind) → broken_rule h earlier (entry c kind) ≡ None
         → waiting_at (place_of (entry c kind) earlier later) ≡ None
         → answers_of c earlier ≤ answers_of c (entry c kind ∷ earlier)
-    own (Call method args) keeps' none = nothing (unopened_answers c earlier
-        (call_is_free h c method args earlier keeps'))
-    own (Return reply) keeps' none = nothing (committed_answers c earlier
-        (returned_committed c reply earlier later none))
-    own (Write word value) keeps' none = inside (Write word value) refl refl refl refl
-    own Commit keeps' none = committing Commit refl keeps' none
-    own BlockOpen keeps' none = inside BlockOpen refl refl refl refl
-    own BlockClose keeps' none = inside BlockClose refl refl refl refl
-    own BlockCommit keeps' none = committing BlockCommit refl keeps' none
+    own kind keeps' none =
+        search (
+          nothing,
+          unopened_answers,
+          call_is_free,
+          committed_answers,
+          returned_committed,
+          arith,
+        )
 
 -- so nobody has seen too many
 pub seen_on : (h : Header) (e : Entry) (earlier later : List Entry) (watches : List Seen)
     → broken_rule h earlier e ≡ None → waiting_at (place_of e earlier later) ≡ None
     → AreSeenFew earlier watches → AreSeenFew (e ∷ earlier) watches
-seen_on h e earlier later watches keeps quiet few = λ c seen here.
-    let low = few c seen here in
-    let more = quiet_answers h e earlier later c keeps quiet in omega (arith, low, more)
+seen_on h e earlier later watches keeps quiet few =
+    λ c seen here. grind (arith, few c seen here, quiet_answers h e earlier later c keeps quiet)
 
 -- a call or a return, which the caller's own watch has the answers of
 pub seen_changed : (c : ℕ) (kind : Kind) (earlier : List Entry) (watches new : List Seen)
@@ -223,8 +146,7 @@ seen_changed c kind earlier watches new others own few = λ d seen here. by_same
 -- a caller whose watch is closed has seen nothing
 pub seen_closed : (c : ℕ) (new : List Seen) (n : ℕ) → slice_get new c ≡ Some unwatched
     → (seen : Seen) → slice_get new c ≡ Some seen → length seen.answers ≤ n
-seen_closed c new n closed seen here = subst (λ (s : Seen). length s.answers ≤ n)
-    (same_Some _ _ (sym closed ∙ here)) (omega arith)
+seen_closed c new n closed seen here = grind (arith, same_Some _ _ (sym closed ∙ here))
 
 -- a commit, after which all see the state
 pub seen_commit : (told : Method → Args → ℕ) (c : ℕ) (kind : Kind) (earlier : List Entry)
@@ -258,9 +180,7 @@ seen_commit told c kind earlier watches closed new commits others mine long see 
     no_more n m low = omega (arith, low)
 
     grows : (n m : ℕ) → n ≤ m → one_more n ≤ one_more m
-    grows zero m low = omega arith
-    grows (suc n) zero low = absurd (omega (arith, low))
-    grows (suc n) (suc m) low = omega (arith, low)
+    grows n m low = search arith
 
     there : (xs : List Seen) (i : ℕ) → i < length xs
         → (seen : Seen) × (slice_get xs i ≡ Some seen)
@@ -271,29 +191,18 @@ seen_commit told c kind earlier watches closed new commits others mine long see 
 -- nobody has seen anything before the first entry
 pub seen_nothing : (n : ℕ) → AreSeenFew [] (replicate n unwatched)
 seen_nothing zero c seen here = absurd (none-some _ here)
-seen_nothing (suc n) zero seen here = subst (λ (s : Seen). length s.answers ≤ 0)
-    (same_Some _ _ here) (omega arith)
+seen_nothing (suc n) zero seen here = grind (arith, same_Some _ _ here)
 seen_nothing (suc n) (suc c) seen here = seen_nothing n c seen here
 
 -- a commit that has returned isn't left open
 pub closed_here : (e : Entry) (later : List Entry) → IsReturned e.caller e.kind later
     → is_left_open e later ≡ false
-closed_here e later is = by_commit (is_commit e.kind) refl
-  where
-    by_commit : (b : Bool) → is_commit e.kind ≡ b → b && is_none (next_reply e.caller later) ≡ false
-    by_commit true commits = let reply = is commits in ap is_none reply.1
-    by_commit false commits = refl
+closed_here e later is = grind (arith, is_none)
 
 -- nor is it with further entries
 closed_more : (e : Entry) (later more : List Entry) → is_left_open e later ≡ false
     → is_left_open e (later ++ more) ≡ false
-closed_more e later more is = by_commit (is_commit e.kind) (next_reply e.caller later) refl is
-  where
-    by_commit : (b : Bool) (o : Option ℕ) → next_reply e.caller later ≡ o
-        → (b && is_none o) ≡ false → (b && is_none (next_reply e.caller (later ++ more))) ≡ false
-    by_commit true None reply e' = cc
-    by_commit true (Some r) reply e' = ap is_none (next_reply_stays e.caller later more r reply)
-    by_commit false o reply e' = refl
+closed_more e later more is = grind (arith, more, is_none, next_reply_stays)
 
 pub returned_more : (earlier later more : List Entry) → AllReturned earlier later
     → AllReturned earlier (later ++ more)

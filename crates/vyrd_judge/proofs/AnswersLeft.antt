@@ -1,7 +1,7 @@
 -- How many answers are kept of open observers, by what is left open in the log.
 use Rattle.std.proofs.Common.{◌≡◌, ℕ, suc, ◌+◌, ◌≤◌, true, false, List, [], ◌∷◌, length}
 use Rattle.std.proofs.Common.{Option, Some, None, slice_get, refl, ap, subst, ◌∙◌, arith}
-use Rattle.std.specs.Prelude.{◌&&◌, is_none, if◌then◌else◌}
+use Rattle.std.specs.Prelude.{◌&&◌, is_none}
 use Rattle.std.specs.List.{cons_option, sum_by}
 use Rattle.std.proofs.lemmas.List.Sums.{sum_by-cons}
 use Rattle.vyrd_base.specs.declared.header.Header.{Header}
@@ -26,13 +26,11 @@ use Rattle.vyrd_judge.proofs.WaitingLaws.{uncommitted}
 -- where a commit is left open the entries before it are those meant, and otherwise one goes on
 at_open : (e : Entry) (earlier later : List Entry) → is_left_open e later ≡ true
     → before_open_commit earlier (e ∷ later) ≡ earlier
-at_open e earlier later is =
-    ap (λ b. if b then earlier else before_open_commit (e ∷ earlier) later) is
+at_open e earlier later is = cc
 
 past : (e : Entry) (earlier later : List Entry) → is_left_open e later ≡ false
     → before_open_commit earlier (e ∷ later) ≡ before_open_commit (e ∷ earlier) later
-past e earlier later is =
-    ap (λ b. if b then earlier else before_open_commit (e ∷ earlier) later) is
+past e earlier later is = cc
 
 -- all entries before a place are passed over if their commits have returned
 passed : (earlier later : List Entry) → AllReturned earlier later

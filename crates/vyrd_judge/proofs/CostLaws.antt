@@ -4,7 +4,6 @@ use Rattle.std.proofs.Common.{Option, Some, None, ap, refl, subst, ◌∙◌, sy
 use Rattle.std.proofs.Common.{append_assoc}
 use Rattle.std.specs.Prelude.{Result, OnOk}
 use Rattle.std.specs.List.{sum_by, cons_option}
-use Rattle.std.proofs.lemmas.Result.{on_ok_weaker}
 use Rattle.std.proofs.lemmas.List.Sums.{sum_by-cons, sum_by-append}
 use Rattle.vyrd_base.specs.declared.header.Header.{Header}
 use Rattle.vyrd_base.specs.declared.log.Entry.{Entry}
@@ -54,12 +53,7 @@ waiting_replied callers keys e (w ∷ ws) =
 
 waiting_one : (callers keys : ℕ) (o : Option Waiting) → waiting_cost callers keys (cons_option o [])
     ≤ waiting_price callers keys
-waiting_one callers keys None = omega arith
-waiting_one callers keys (Some x) = omega (
-  arith,
-  sum_by-cons (λ
-      (x : Waiting). waiting_price callers keys) x [],
-)
+waiting_one callers keys o = grind arith
 
 -- at most one more entry waits
 waiting_more : (callers keys : ℕ) (e : Entry) (o : Option Waiting) (old new : List Waiting)
@@ -88,8 +82,7 @@ pub judged_paid : (price : Shows → ℕ → ℕ) (keys : Charter → ℕ) (k m 
     → after + debt price keys (with_first next n) log
     ≤ before + debt price keys (with_first (Some x) m) log
 judged_paid price keys k m n x next starting log before judged after same going charter shape shadow
-    shows paid left waiting = subst (λ was. after + debt price keys (with_first next n) log
-    ≤ before + debt price keys (with_first (Some x) was) log) same (omega (
+    shows paid left waiting = rw (← same) (omega (
       arith,
       paid,
       left,
@@ -119,9 +112,7 @@ pub broken_paid : (price : Shows → ℕ → ℕ) (keys : Charter → ℕ) (k m 
     → IsFaultless k starting log
     → after + 0 ≤ before + debt price keys m log + entry_cost price keys m e
 broken_paid price keys k m e before after held same shape_paid few starting log f =
-    let paid = shape_paid (newest_first log) f.taken_in.shape (short few f.taken_in) in
-    subst (λ was. after + 0 ≤ before + debt price keys was log + entry_cost price keys was e) same
-    (omega (arith, paid))
+    grind (arith, shape_paid (newest_first log) f.taken_in.shape (short few f.taken_in))
 
 -- one more entry that keeps the rules, by what each part does
 pub taken_paid : (price : Shows → ℕ → ℕ) (keys : Charter → ℕ) (k m n : FollowerKept)
@@ -167,8 +158,7 @@ taken_paid price keys k m n first e queue_header before shaped worded queued_up 
     + (words_entry callers + entry_price (price k.views.shows) e.kind)) callers_is
     (words starting (newest_first log) t.words (keeps_at shadow_is)
     (t.commits ∙ sym (commits_same log))) in
-    subst (λ was. queued_up + debt price keys (with_first first n) (log ++ e ∷ [])
-    ≤ before + debt price keys was log + entry_cost price keys was e) same (omega (
+    rw (← same) (omega (
       arith,
       shape_paid (newest_first log) t.shape (short few t),
       words_paid,
@@ -193,17 +183,13 @@ taken_paid price keys k m n first e queue_header before shaped worded queued_up 
     t = f.taken_in
 
     keeps : Keeps (rules_by k.charter).header (newest_first log) e
-    keeps = record {
-      rules = ap (λ h. broken_rule h (newest_first log) e) (sym shape_is)
-          ∙ (shape (newest_first log) t.shape).0;
-    }
+    keeps = grind (arith, (shape (newest_first log) t.shape).0)
 
     keeps_at : {h : Header} → h ≡ (rules_by k.charter).header → Keeps h (newest_first log) e
-    keeps_at {h} is = subst (λ g. Keeps g (newest_first log) e) (sym is) keeps
+    keeps_at {h} is = rw is keeps
 
     queue : HasQueued queue_header k.waiting k.taken k.callers (newest_first log)
-    queue = subst (λ h. HasQueued h k.waiting k.taken k.callers (newest_first log))
-        (sym queue_is) t.queued
+    queue = grind (arith, t.queued)
 
     reversed : k.entries ≡ length log → k.entries ≡ length (newest_first log)
     reversed is = omega (arith, is, length-newest_first_onto [] log)
@@ -217,23 +203,13 @@ some_owes price keys j log is = ap (λ o. debt_after price keys o j.kept log) is
 pub stands_paid : (price : Shows → ℕ → ℕ) (keys : Charter → ℕ) (j : JudgeView) {v : Verdict}
     (before cost : ℕ) (log more : List Entry) → j.so_far ≡ Some v
     → before + judge_debt price keys j more ≤ before + judge_debt price keys j log + cost
-stands_paid price keys j before cost log more is =
-    plain (judge_debt price keys j more) (judge_debt price keys j log)
-    (some_owes price keys j more is)
-  where
-    plain : (a b : ℕ) → a ≡ 0 → before + a ≤ before + b + cost
-    plain a b none = omega (arith, none)
+stands_paid price keys j before cost log more is = grind (arith, more, some_owes)
 
 -- before the first of some entries
 pub first_paid : (price : Shows → ℕ → ℕ) (keys : Charter → ℕ) (before : ℕ) (j : JudgeView)
     {log same : List Entry} → same ≡ log
     → before + judge_debt price keys j same ≤ before + judge_debt price keys j log + 0
-first_paid price keys before j {log} {same} is =
-    plain (judge_debt price keys j same) (judge_debt price keys j log)
-    (ap (judge_debt price keys j) is)
-  where
-    plain : (a b : ℕ) → a ≡ b → before + a ≤ before + b + 0
-    plain a b is = omega (arith, is)
+first_paid price keys before j e4 = grind arith
 
 -- what entries cost goes by the charter and by the name of what the words show
 log_same : (price : Shows → ℕ → ℕ) (keys : Charter → ℕ) (k n : FollowerKept) (es : List Entry)
@@ -248,8 +224,7 @@ log_same price keys k n es charter shows =
 -- the cost of one entry, as that of a list
 pub one_cost : (price : Shows → ℕ → ℕ) (keys : Charter → ℕ) (k : FollowerKept) (e : Entry) (a b : ℕ)
     → a ≤ b + entry_cost price keys k e → a ≤ b + log_cost price keys k (e ∷ [])
-one_cost price keys k e a b paid =
-    omega (arith, paid, sum_by-cons (entry_cost price keys k) e [])
+one_cost price keys k e a b paid = search (paid, arith)
 
 -- one entry of a history, whose event was a step before it
 pub event_paid : (price : Shows → ℕ → ℕ) (keys : Charter → ℕ) (k : FollowerKept)
@@ -257,22 +232,20 @@ pub event_paid : (price : Shows → ℕ → ℕ) (keys : Charter → ℕ) (k : F
     (r : Result T E) (a x b y c : ℕ) → b ≡ c + 1
     → OnOk r (a + x ≤ b + y + entry_cost price keys k e)
     → OnOk r (a + x ≤ c + y + log_cost price keys k (e ∷ []) + 1)
-event_paid price keys k e r a x b y c is paid = on_ok_weaker r (λ cost.
-    omega (arith, cost, is, sum_by-cons (entry_cost price keys k) e [])) paid
+event_paid price keys k e r a x b y c is paid = search (paid, arith)
 
 -- some more of some entries
 pub more_paid : (price : Shows → ℕ → ℕ) (keys : Charter → ℕ) (k n : FollowerKept) (a b c : ℕ)
     (before more upto : List Entry) → n.charter ≡ k.charter → n.views.shows ≡ k.views.shows
     → upto ≡ before ++ more → a ≤ b + log_cost price keys n more
     → b ≤ c + log_cost price keys k before → a ≤ c + log_cost price keys k upto
-more_paid price keys k n a b c before more upto charter shows is one paid = omega (
-  arith,
-  one,
-  paid,
-  log_same price keys k n more charter shows,
-  ap (log_cost price keys k) is,
-  sum_by-append (entry_cost price keys k) before more,
-)
+more_paid price keys k n a b c before more upto charter shows is one paid =
+    grind (
+      arith,
+      log_same price keys k n more charter shows,
+      sum_by-append (entry_cost price keys
+          k) before more,
+    )
 
 -- one more of some entries, by what the judge says of the log with it
 pub entry_paid : (price : Shows → ℕ → ℕ) (keys : Charter → ℕ) (k : FollowerKept) (n m : JudgeView)
@@ -284,9 +257,8 @@ pub entry_paid : (price : Shows → ℕ → ℕ) (keys : Charter → ℕ) (k : F
     → after + judge_debt price keys m (log ++ upto) ≤ start + log_cost price keys k upto
 entry_paid price keys k n m after between start log before upto e charter shows is one paid =
     more_paid price keys k n.kept _ _ _ before (e ∷ []) upto charter shows is
-    (one_cost price keys n.kept e _ _ (subst (λ xs. after + judge_debt price keys m xs
-    ≤ between + judge_debt price keys n (log ++ before) + entry_cost price keys n.kept e)
-    (append_assoc log before (e ∷ []) ∙ ap (λ xs. log ++ xs) (sym is)) one)) paid
+    (one_cost price keys n.kept e _ _ (rw (← append_assoc log before (e ∷ []) ∙ ap (λ xs. log ++ xs)
+    (sym is)) one)) paid
 
 -- a verdict comes to stand with one of some entries
 pub verdict_paid : (price : Shows → ℕ → ℕ) (keys : Charter → ℕ) (k : FollowerKept) (j : JudgeView)
@@ -308,14 +280,13 @@ pub more_events : (price : Shows → ℕ → ℕ) (keys : Charter → ℕ) (k n 
     (before more upto : List Entry) → n.charter ≡ k.charter → n.views.shows ≡ k.views.shows
     → upto ≡ before ++ more → a ≤ b + log_cost price keys n more + 1
     → b ≤ c + log_cost price keys k before + i → a ≤ c + log_cost price keys k upto + (i + 1)
-more_events price keys k n a b c i before more upto charter shows is one paid = omega (
-  arith,
-  one,
-  paid,
-  log_same price keys k n more charter shows,
-  ap (log_cost price keys k) is,
-  sum_by-append (entry_cost price keys k) before more,
-)
+more_events price keys k n a b c i before more upto charter shows is one paid =
+    grind (
+      arith,
+      log_same price keys k n more charter shows,
+      sum_by-append (entry_cost price keys
+          k) before more,
+    )
 
 pub first_events : (price : Shows → ℕ → ℕ) (keys : Charter → ℕ) (before : ℕ) (j : JudgeView)
     (log : List Entry) {none : List Entry} → none ≡ []
@@ -333,12 +304,7 @@ first_events price keys before j log {none} is =
 pub stands_events : (price : Shows → ℕ → ℕ) (keys : Charter → ℕ) (j : JudgeView) {v : Verdict}
     (before cost n : ℕ) (log more : List Entry) → j.so_far ≡ Some v
     → before + judge_debt price keys j more ≤ before + judge_debt price keys j log + cost + n
-stands_events price keys j before cost n log more is =
-    plain (judge_debt price keys j more) (judge_debt price keys j log)
-    (some_owes price keys j more is)
-  where
-    plain : (a b : ℕ) → a ≡ 0 → before + a ≤ before + b + cost + n
-    plain a b none = omega (arith, none)
+stands_events price keys j before cost n log more is = grind (arith, more, some_owes)
 
 pub last_events : (a c i n : ℕ) → i ≤ n → a ≤ c + i → a ≤ c + n
 last_events a c i n low paid = omega (arith, low, paid)
@@ -365,15 +331,5 @@ pub owed_first : (price : Shows → ℕ → ℕ) (keys : Charter → ℕ) {k : F
     → shadow_owed k.shadow ≡ 0
     → answer_count k.watches + 2 * k.answers ≡ 0 → k.waiting ≡ [] → k.owes ≡ owes
     → debt price keys k [] ≡ start_cost (price k.views.shows) starting + 2 * owes
-owed_first price keys {k} owes t shape pending rebuilt watches waiting same =
-    omega (
-      arith,
-      shape,
-      pending,
-      rebuilt,
-      owed_none (callers_of k),
-      price_none (price k.views.shows) (callers_of k),
-      watches,
-      ap (waiting_cost (callers_of k) (keys k.charter)) waiting,
-      same,
-    )
+owed_first price keys owes owes' t shape pending rebuilt watches waiting =
+    grind (arith, watches, owed_none, price_none)

@@ -97,5 +97,4 @@ end_next h e earlier later kept is ends = λ c inner. by_same e.caller c
 pub end_more : (earlier later more : List Entry) → AllEnd earlier later
     → AllEnd earlier (later ++ more)
 end_more earlier later more ends = λ c inner.
-    list_any-append (λ e. e.caller == c && ends_block e.kind) later more
-    ∙ ap (λ b. b || is_ended c more) (ends c inner)
+    cc (list_any-append (λ e. e.caller == c && ends_block e.kind) later more, ends c inner)

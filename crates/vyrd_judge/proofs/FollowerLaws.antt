@@ -2,11 +2,11 @@
 use Rattle.std.proofs.Common.{◌≡◌, ℕ, zero, suc, ◌+◌, ◌*◌, ◌<◌, ◌≤◌, ◌^◌, Bool, true, false, cond}
 use Rattle.std.proofs.Common.{◌&&◌, List, [], ◌∷◌, ◌++◌, map, length, Option, Some, None, refl, ap}
 use Rattle.std.proofs.Common.{subst, ◌∙◌, sym, arith}
-use Rattle.std.specs.Prelude.{count_by, not, option_map, replicate, Result, Ok, Err}
+use Rattle.std.specs.Prelude.{count_by, not, replicate, Result, Ok, Err}
 use Rattle.std.specs.Result.{MatchResult, is_err}
 use Rattle.std.specs.List.{cons_option}
 use Rattle.std.proofs.lemmas.List.{length_push, length-replicate}
-use Rattle.std.proofs.lemmas.Option.{same_Some, none-some}
+use Rattle.std.proofs.lemmas.Option.{none-some}
 use Rattle.std.proofs.lemmas.List.Sums.{sum_by-cons}
 use Rattle.std.proofs.Math.Logic.{∥∥₁_elim, ∥∥₁_map}
 use Rattle.std.proofs.Math.Bool.{Bool-set}
@@ -28,7 +28,7 @@ use Rattle.vyrd_base.specs.Rules.{Rules, rules_by}
 use Rattle.vyrd_base.specs.States.{State}
 use Rattle.vyrd_base.specs.Starts.{words_at_start, state_at_start}
 use Rattle.vyrd_base.specs.Commits.{commits, is_commit, commit_count, states_of}
-use Rattle.vyrd_base.specs.Verdicts.{is_return, observer_returns, first_fault, start_verdict}
+use Rattle.vyrd_base.specs.Verdicts.{is_return, observer_returns, first_fault}
 use Rattle.vyrd_base.specs.Verdicts.{verdict_so_far, verdict_at, verdict, accepted, is_call_open}
 use Rattle.vyrd_base.proofs.PlaceLaws.{length-newest_first_onto, newest_first-push}
 use Rattle.vyrd_base.proofs.Lasting.{commit_count-cons}
@@ -39,14 +39,13 @@ use Rattle.vyrd_judge.specs.declared.waiting.Waiting.{Waiting}
 use Rattle.vyrd_words.specs.HasWords.{HasWords, HasTaken, Keeps, MayFollow}
 use Rattle.vyrd_base.specs.Entries.{place_of}
 use Rattle.vyrd_observers.specs.Watching.{Seen, answer_count, unwatched}
-use Rattle.vyrd_judge.specs.declared.waiting.Event.{Event}
 use Rattle.vyrd_words.specs.Cuts.{first_with}
-use Rattle.vyrd_words.specs.Effects.{parts_behind, effect_parts, with_effects, cut_if, AllFew}
+use Rattle.vyrd_words.specs.Effects.{parts_behind, effect_parts, with_effects, cut_if}
 use Rattle.vyrd_words.specs.Effects.{AreFew}
 use Rattle.vyrd_words.proofs.FewLaws.{few_more}
 use Rattle.vyrd_base.specs.FirstVersion.{old_effects_at}
 use Rattle.vyrd_judge.proofs.PartLaws.{parts_more}
-use Rattle.vyrd_judge.specs.Waiting.{replied, event_of, waiting_of, waiting_at}
+use Rattle.vyrd_judge.specs.Waiting.{replied, waiting_at}
 use Rattle.vyrd_observers.specs.Watching.{AreCurrent}
 use Rattle.vyrd_judge.specs.Queued.{HasQueued, HasTakenUp, MayQueue, AwaitsReturn}
 use Rattle.vyrd_judge.specs.Judged.{Judged, MayJudge, AreSeenFew}
@@ -107,20 +106,13 @@ awaits_faultless {k} {starting} {log} t awaits = by_first k.waiting t.judged awa
     by_first : (ws : List Waiting) → Judged (rules_by k.charter) starting log k.state k.made
         k.watches ws k.views.first k.views.since → AwaitsReturn ws
         → first_fault (rules_by k.charter) starting log ≡ None
-    by_first [] j a = judged_all (rules_by k.charter) starting log k.state k.made k.watches
-        k.views.first k.views.since j
+    by_first [] j a = search (judged_all, starting, arith)
     by_first (x ∷ xs) j a = judged_waits a.2 j
 
 -- all that can be judged is
 pub caught_up : {k : FollowerKept} {starting : List StartWord} {log : List Entry}
     → IsCatchingUp None k starting log → IsFaultless k starting log
-caught_up going =
-    let awaits = going.awaits refl in
-    record {
-      taken_in = going.taken_in;
-      faultless = awaits_faultless going.taken_in awaits;
-      awaits = awaits;
-    }
+caught_up going = grind (arith, awaits_faultless)
 
 -- an entry was handed out: it waits first, few are judged, and its position is small
 pub may_judge : {k : FollowerKept} (x : Waiting) → MayCatchUp (Some x) k
@@ -136,12 +128,7 @@ few_taken {k} x may = below_of _ _ (∥∥₁_elim may (Bool-set _ _) (λ s.
 
 position_is : (p : Place Entry) (x : Waiting) → waiting_at p ≡ Some x → x.position
     ≡ length p.earlier
-position_is p x is = by_event (event_of p p.here.kind) is
-  where
-    by_event : (o : Option Event) → option_map (waiting_of p) o ≡ Some x
-        → x.position ≡ length p.earlier
-    by_event None e = cc
-    by_event (Some event) e = cc
+position_is p x is = grind arith
 
 pub few_position : {k : FollowerKept} (x : Waiting) → MayCatchUp (Some x) k → k.started ≤ 2 ^ 32
     → k.started + x.position + 2 < 2 ^ 64
@@ -175,33 +162,26 @@ pub taken_on : (k n : FollowerKept) (starting : List StartWord) (log : List Entr
 taken_on k n starting log xs t judged queued waiting header started shape shadow inner views_header
     known entries commits_same observers watched answers writes = record {
       started = started ∙ t.started;
-      begun = ap (λ g. start_verdict (rules_by g) starting) header ∙ t.begun;
-      shape = subst (λ s. ShapeFollows s (newest_first log)) (sym shape) t.shape;
-      shape_header = ap (λ s. s.header) shape ∙ t.shape_header
-          ∙ sym (ap (λ g. (rules_by g).header) header);
-      words = subst (λ xs'. HasWords n.shadow xs' starting (newest_first log)) (sym inner)
-          (subst (λ s. HasWords s k.inner starting (newest_first log)) (sym shadow) t.words);
-      shadow_header = ap (λ s. s.header) shadow ∙ t.shadow_header
-          ∙ sym (ap (λ g. (rules_by g).header) header);
-      views_header = views_header ∙ t.views_header ∙ sym (ap (λ g. (rules_by g).header) header);
-      queued = subst (λ g. HasQueued (rules_by g).header n.waiting n.taken n.callers
-          (newest_first log))
-          (sym header)
-          (subst (λ q. HasQueued (rules_by k.charter).header q n.taken n.callers (newest_first log))
-          (sym waiting) queued);
+      begun = cc (t.begun);
+      shape = rw shape t.shape;
+      shape_header = cc (t.shape_header);
+      words = rw inner
+          (rw shadow t.words);
+      shadow_header = cc (t.shadow_header);
+      views_header = views_header ∙ t.views_header ∙ sym (cc);
+      queued = rw header
+          (rw waiting queued);
       judged = subst
           (λ g. Judged (rules_by g) starting log n.state n.made n.watches n.waiting n.views.first
           n.views.since) (sym header)
-          (subst (λ q. Judged (rules_by k.charter) starting log n.state n.made n.watches q
-          n.views.first
-          n.views.since) (sym waiting) judged);
-      kept = ap (λ g. first_break (rules_by g).header log) header ∙ t.kept;
-      specified = known.0 ∙ ap (λ g. (rules_by g).shown n.state) (sym header);
+          (rw waiting judged);
+      kept = cc (t.kept);
+      specified = cc (known.0);
       sound = known.1;
       entries = entries ∙ t.entries;
       commits = commits_same ∙ t.commits;
       observers = observers ∙ t.observers;
-      watched = watched ∙ sym (ap (λ g. (rules_by g).header.callers) header);
+      watched = watched ∙ sym (cc);
       few_answers = answers;
       few_writes = writes;
     }
@@ -222,8 +202,7 @@ observers_more : (earlier xs : List Entry) (e : Entry) → count_by observer_ret
     (places_after earlier (xs ++ e ∷ []))
     ≡ count_by observer_returns (places_after earlier xs)
     + cond (is_return e.kind && not (has_committed e.caller (newest_first_onto earlier xs))) 1 0
-observers_more earlier [] e = sum_by-cons (λ p. cond (observer_returns p) 1 0)
-    (place_of e earlier []) [] ∙ omega arith
+observers_more earlier [] e = cc
 observers_more earlier (x ∷ xs) e =
     let one : ℕ = cond (is_return x.kind && not (has_committed x.caller earlier)) 1 0 in
     let rest = observers_more (x ∷ earlier) xs e in
@@ -257,34 +236,25 @@ pub taken_more : (k n : FollowerKept) (starting : List StartWord) (log : List En
 taken_more k n starting log e t keeps shape shape_header words shadow_header views_header queued
     header started state made watches entries commits_more observers known answers = record {
       started = started ∙ t.started;
-      begun = ap (λ g. start_verdict (rules_by g) starting) header ∙ t.begun;
+      begun = cc (t.begun);
       shape = subst (ShapeFollows n.shape) (sym (newest_first-push log e)) shape;
-      shape_header = shape_header ∙ t.shape_header ∙ sym (ap (λ g. (rules_by g).header) header);
+      shape_header = shape_header ∙ t.shape_header ∙ sym (cc);
       words = subst (HasWords n.shadow n.inner starting) (sym (newest_first-push log e))
           words.words;
-      shadow_header = shadow_header ∙ t.shadow_header ∙ sym (ap (λ g. (rules_by g).header) header);
+      shadow_header = shadow_header ∙ t.shadow_header ∙ sym (cc);
       views_header = views_header ∙ shadow_header ∙ t.shadow_header
-          ∙ sym (ap (λ g. (rules_by g).header) header);
-      queued = subst (λ g. HasQueued (rules_by g).header n.waiting n.taken n.callers
-          (newest_first (log ++ e ∷ []))) (sym header)
+          ∙ sym (cc);
+      queued = rw header
           (subst (HasQueued (rules_by k.charter).header n.waiting n.taken n.callers)
           (sym (newest_first-push log e)) queued.queued);
       judged = subst
           (λ g. Judged (rules_by g) starting (log ++ e ∷ []) n.state n.made n.watches n.waiting
           n.views.first n.views.since) (sym header)
-          (subst (λ s. Judged (rules_by k.charter) starting (log ++ e ∷ []) s n.made n.watches
-          n.waiting
-          n.views.first n.views.since) (sym state)
-          (subst (λ m. Judged (rules_by k.charter) starting (log ++ e ∷ []) k.state m n.watches
-          n.waiting n.views.first n.views.since) (sym made)
-          (subst (λ ws. Judged (rules_by k.charter) starting (log ++ e ∷ []) k.state k.made ws
-          n.waiting
-          n.views.first n.views.since) (sym watches)
-          (subst (λ q. Judged (rules_by k.charter) starting (log ++ e ∷ []) k.state k.made k.watches
-          q
-          n.views.first n.views.since) (sym queued.waiting)
-          (subst (λ f. Judged (rules_by k.charter) starting (log ++ e ∷ []) k.state k.made k.watches
-          queue f n.views.since) (sym words.first)
+          (rw state
+          (rw made
+          (rw watches
+          (rw queued.waiting
+          (rw words.first
           (subst (Judged (rules_by k.charter) starting (log ++ e ∷ []) k.state k.made k.watches
           queue
           (first_with (parts_behind (newest_first log) e.caller e.kind) words.writes k.views.first
@@ -293,23 +263,16 @@ taken_more k n starting log e t keeps shape shape_header words shadow_header vie
           k.views.first k.views.since words.writes
           (well_formed-first_break (rules_by k.charter).header log t.kept) keeps.rules words.alike
           t.judged)))))));
-      kept = ap (λ g. first_break (rules_by g).header (log ++ e ∷ [])) header
-          ∙ kept-push (rules_by k.charter).header log e t.kept keeps.rules;
+      kept = cc (kept-push (rules_by k.charter).header log e t.kept keeps.rules);
       specified = known.0 ∙ t.specified ∙ (λ i. (rules_by (sym header i)).shown (sym state i));
       sound = known.1;
-      entries = entries ∙ ap (λ m. m + 1) t.entries ∙ sym (length_push log e);
-      commits = commits_more ∙ ap (λ m. m + cond (is_commit e.kind) 1 0) t.commits
-          ∙ sym (count_more (λ x. is_commit x.kind) log e);
-      observers = observers
-          ∙ ap (λ m. m + cond (is_return e.kind && not (has_committed e.caller (newest_first log)))
-          1 0) t.observers
-          ∙ sym (observers_more [] log e);
-      watched = ap length watches ∙ t.watched ∙ sym (ap (λ g. (rules_by g).header.callers) header);
+      entries = cc (t.entries, length_push log e);
+      commits = cc (t.commits, count_more (λ x. is_commit x.kind) log e);
+      observers = cc (t.observers, observers_more [] log e);
+      watched = ap length watches ∙ t.watched ∙ sym (cc);
       few_answers = omega (arith, t.few_answers, answers, ap answer_count watches);
       few_writes = subst (AreFew n.views.begun n.views.since) (sym parts)
-          (subst (λ s. AreFew n.views.begun s
-          (cut_if (is_commit e.kind) (with_effects behind now (effect_parts [] [] log))))
-          (sym words.since)
+          (rw words.since
           (few_more behind words.writes now (is_commit e.kind) k.views.begun n.views.begun
           k.views.since
           (effect_parts [] [] log) words.few words.begun t.few_writes));
@@ -330,9 +293,7 @@ taken_more k n starting log e t keeps shape shape_header words shadow_header vie
 
     parts : effect_parts [] [] (log ++ e ∷ []) ≡ cut_if (is_commit e.kind)
         (with_effects behind now (effect_parts [] [] log))
-    parts = parts_more (rules_by k.charter).header [] [] log e
-        (well_formed-first_break (rules_by k.charter).header log t.kept) keeps.rules
-        (λ c inner. absurd (apart inner))
+    parts = search (parts_more, well_formed-first_break, apart, arith)
 
 -- an entry that breaks a rule
 pub broken_so_far : {k : FollowerKept} {starting : List StartWord} {log : List Entry} (e : Entry)
@@ -404,8 +365,7 @@ count_few f (x ∷ xs) =
     omega (arith, whole, one, count_few f xs)
   where
     at_most : (b : Bool) → cond b 1 0 ≤ 1
-    at_most true = omega arith
-    at_most false = omega arith
+    at_most b = search arith
 
 length-places : (earlier xs : List Entry) → length (places_after earlier xs) ≡ length xs
 length-places earlier [] = refl
@@ -463,8 +423,7 @@ low_caller_of {k} e somewhere keeps = below_of _ _ (∥∥₁_elim somewhere (Bo
 -- nobody has an open observer, so all are current
 none_current : (told : Method → Args → ℕ) (n : ℕ) → AreCurrent told (replicate n unwatched)
 none_current told zero c seen here is_open = absurd (none-some _ here)
-none_current told (suc n) zero seen here is_open =
-    absurd (apart (ap (λ (s : Seen). s.is_open) (same_Some _ _ here) ∙ is_open))
+none_current told (suc n) zero seen here is_open = search (apart, here, is_open, arith)
   where
     apart : false ≡ true → ⊥
     apart p = cc
@@ -487,28 +446,25 @@ first_taken_in k r starting header started begins shape shape_header words shado
     views_header queued made closed waiting first since entries commits_none observers known answers
     none = record {
       started = started;
-      begun = ap (λ g. start_verdict g starting) header ∙ sound_start r starting k.state begins;
+      begun = cc (sound_start r starting k.state begins);
       shape = shape;
-      shape_header = shape_header ∙ sym (ap (λ g. g.header) header);
+      shape_header = shape_header ∙ sym (cc);
       words = words;
-      shadow_header = shadow_header ∙ sym (ap (λ g. g.header) header);
-      views_header = views_header ∙ sym (ap (λ g. g.header) header);
-      queued = subst (λ g. HasQueued g.header k.waiting k.taken k.callers []) (sym header) queued;
+      shadow_header = shadow_header ∙ sym (cc);
+      views_header = views_header ∙ sym (cc);
+      queued = rw header queued;
       judged = subst
           (λ g. Judged g starting [] k.state k.made k.watches k.waiting k.views.first k.views.since)
           (sym header)
-          (subst (λ m. Judged r starting [] k.state m k.watches k.waiting k.views.first
-          k.views.since)
-          (sym made)
-          (subst (λ q. Judged r starting [] k.state 0 k.watches q k.views.first k.views.since)
-          (sym waiting)
+          (rw made
+          (rw waiting
           (subst (Judged r starting [] k.state 0 k.watches [] k.views.first) (sym since)
           (judged_nothing r starting k.state k.watches k.views.first begins first
           (subst (AreCurrent (r.answer k.state)) (sym closed)
           (none_current (r.answer k.state) r.header.callers))
           (subst (AreSeenFew []) (sym closed) (seen_nothing r.header.callers))
-          (subst (λ g. ShowsFew g starting k.state) header (start_shows k.charter starting k.state
-          (ap (λ g. state_at_start g starting) header ∙ begins)))))));
+          (rw (← header) (start_shows k.charter starting k.state
+          (cc)))))));
       kept = nothing_broken (rules_by k.charter).header;
       specified = known.0;
       sound = known.1;
@@ -516,7 +472,7 @@ first_taken_in k r starting header started begins shape shape_header words shado
       commits = commits_none;
       observers = observers;
       watched = ap length closed ∙ length-replicate r.header.callers unwatched
-          ∙ sym (ap (λ g. g.header.callers) header);
+          ∙ sym (cc);
       few_answers = answers;
       few_writes = record {
         judged = [];
@@ -524,7 +480,7 @@ first_taken_in k r starting header started begins shape shape_header words shado
         further = [];
         whole = refl;
         first_few = omega (arith, none);
-        since_few = subst (λ s. AllFew s []) (sym since) tt;
+        since_few = rw since tt;
       };
     }
 
@@ -569,13 +525,11 @@ taken_all k n first e queue_header commits_here observes shape_is shadow_is queu
           (words starting (newest_first log) t.words (keeps_at shadow_is)
           (t.commits ∙ sym (commits_same log))) shadow_header
           (views_header ∙ t.views_header ∙ sym t.shadow_header ∙ sym shadow_header)
-          (subst (λ h. HasTakenUp h k.waiting (cons_option first n.waiting) n.taken n.callers e
-          (newest_first log)) queue_is
+          (rw (← queue_is)
           (queued (newest_first log) queue (keeps_at queue_is) (reversed log t.entries)))
           header started state made watches entries
-          (commits_more ∙ ap (λ b. k.commits + cond b 1 0) commits_is)
-          (observers ∙ ap (λ b. k.observers + cond b 1 0)
-          (observes_is (newest_first log) queue (keeps_at queue_is))) known answers;
+          (cc)
+          (cc (observes_is (newest_first log) queue (keeps_at queue_is))) known answers;
       awaits = awaits f.awaits;
     }
   where
@@ -583,17 +537,13 @@ taken_all k n first e queue_header commits_here observes shape_is shadow_is queu
     t = f.taken_in
 
     keeps : Keeps (rules_by k.charter).header (newest_first log) e
-    keeps = record {
-      rules = ap (λ h. broken_rule h (newest_first log) e) (sym shape_is)
-          ∙ (shape (newest_first log) t.shape).0;
-    }
+    keeps = grind (arith, (shape (newest_first log) t.shape).0)
 
     keeps_at : {h : Header} → h ≡ (rules_by k.charter).header → Keeps h (newest_first log) e
-    keeps_at {h} is = subst (λ g. Keeps g (newest_first log) e) (sym is) keeps
+    keeps_at {h} is = rw is keeps
 
     queue : HasQueued queue_header k.waiting k.taken k.callers (newest_first log)
-    queue = subst (λ h. HasQueued h k.waiting k.taken k.callers (newest_first log))
-        (sym queue_is) t.queued
+    queue = grind (arith, t.queued)
 
     reversed : (es : List Entry) → k.entries ≡ length es → k.entries ≡ length (newest_first es)
     reversed es is = omega (arith, is, length-newest_first_onto [] es)
@@ -614,10 +564,7 @@ pub keeps_by : {k : FollowerKept} {n : ShapeKept} (e : Entry) (h : Header) → k
     → (broken_rule k.shape.header earlier e ≡ None) × ShapeFollows n (e ∷ earlier))
     → (starting : List StartWord) (log : List Entry) → IsFaultless k starting log
     → Keeps h (newest_first log) e
-keeps_by {k} {n} e h shape_is is shape starting log f = record {
-  rules = ap (λ g. broken_rule g (newest_first log) e) (is ∙ sym shape_is)
-      ∙ (shape (newest_first log) f.taken_in.shape).0;
-}
+keeps_by e0 e1 e h starting log shape = grind (arith, starting)
 
 -- the answer with one more entry
 pub answer_with : {k : FollowerKept} {starting : List StartWord} {log : List Entry}

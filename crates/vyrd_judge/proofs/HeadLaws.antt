@@ -1,5 +1,5 @@
 -- What the entry that waits first leads to, by its event.
-use Rattle.std.proofs.Common.{◌≡◌, ℕ, ◌+◌, ◌<◌, ◌≤◌, Bool, true, false, cond, List, [], ◌∷◌, ◌++◌}
+use Rattle.std.proofs.Common.{◌≡◌, ℕ, ◌+◌, ◌<◌, ◌≤◌, true, false, cond, List, [], ◌∷◌, ◌++◌}
 use Rattle.std.proofs.Common.{length, Option, Some, None, slice_get, refl, ap, subst, ◌∙◌, sym}
 use Rattle.std.proofs.Common.{arith, append-nil}
 use Rattle.std.specs.Prelude.{option_map}
@@ -61,8 +61,7 @@ onward_as : {r : Rules} {starting : List StartWord} {log : List Entry} {d e : En
     {earlier later : List Entry} {state : State} {watches : List Seen}
     → d ≡ e → Onward r starting log d earlier later state watches
     → Onward r starting log e earlier later state watches
-onward_as {r} {starting} {log} {d} {e} {earlier} {later} {state} {watches} same on =
-    subst (λ x. Onward r starting log x earlier later state watches) same on
+onward_as {r} {starting} {log} {d} {e} {earlier} {later} {state} {watches} same on = grind arith
 
 named : (e : Entry) (kind : Kind) → e.kind ≡ kind → entry e.caller kind ≡ e
 named e kind is = ap (entry e.caller) (sym is)
@@ -70,10 +69,7 @@ named e kind is = ap (entry e.caller) (sym is)
 -- an entry that isn't a commit needs no return
 no_return : (c : ℕ) (kind : Kind) (later : List Entry) → is_commit kind ≡ false
     → IsReturned c kind later
-no_return c kind later isnt commits = absurd (apart isnt commits)
-  where
-    apart : {b : Bool} → b ≡ false → b ≡ true → ⊥
-    apart p q = cc
+no_return c kind later isnt = grind (arith, isnt)
 
 -- an execution begins that may return without a commit
 pub head_begins : {r : Rules} {starting : List StartWord} {log : List Entry} {state : State}
@@ -138,10 +134,7 @@ pub begin_fits : {r : Rules} {starting : List StartWord} {log : List Entry} {sta
     {first : List ℕ} {since : List (List (ℕ × ℕ))} {method : Method} {args : Args}
     (at : AtHead r starting log state made watches x xs first since)
     → IsBegin at.here at.earlier x method args → has_method r.header method args ≡ true
-begin_fits {r} {method = method} {args = args} at is = call_kept r.header at.here.caller method args
-    at.earlier
-    (subst (λ e. broken_rule r.header at.earlier e ≡ None)
-    (sym (named at.here (Call method args) is.kind)) at.keeps)
+begin_fits e0 e1 = grind (arith, call_kept, named)
 
 -- the caller is one of the header's
 pub head_caller : {r : Rules} {starting : List StartWord} {log : List Entry} {state : State}
@@ -149,8 +142,7 @@ pub head_caller : {r : Rules} {starting : List StartWord} {log : List Entry} {st
     {first : List ℕ} {since : List (List (ℕ × ℕ))}
     (at : AtHead r starting log state made watches x xs first since) → x.caller ≡ at.here.caller
     → x.caller < r.header.callers
-head_caller {r} at same = subst (λ c. c < r.header.callers) (sym same)
-    (caller_kept r.header at.earlier at.here at.keeps)
+head_caller {r} at same = grind (arith, caller_kept r.header at.earlier at.here at.keeps)
 
 -- what was called in an execution that returns without a commit
 returning : {r : Rules} {starting : List StartWord} {log : List Entry} {state : State} {made : ℕ}
@@ -160,16 +152,7 @@ returning : {r : Rules} {starting : List StartWord} {log : List Entry} {state : 
     → IsReturn at.here at.earlier x reply
     → (called : Called) × (open_call at.here.caller at.earlier ≡ Some called)
     × (must_commit called.method ≡ false)
-returning {r} {reply = reply} at is =
-    let keeps : broken_rule r.header at.earlier (entry at.here.caller (Return reply)) ≡ None =
-    subst (λ e. broken_rule r.header at.earlier e ≡ None)
-    (sym (named at.here (Return reply) is.kind)) at.keeps in
-    let called = return_kept r.header at.here.caller reply at.earlier keeps in (
-      called.0,
-      called.1,
-      return_free r.header at.here.caller reply at.earlier called.0 keeps
-          called.1 is.none,
-    )
+returning e0 e1 = search (named, return_kept, return_free, arith)
 
 -- the watch of an execution that returns without a commit, however the log goes on
 watch_of : {r : Rules} {starting : List StartWord} {log : List Entry} {state : State} {made : ℕ}
@@ -184,9 +167,7 @@ watch_of {r} {starting} {log} {watches = watches} {x} seen at is here more =
     let call = returning at is in
     let kept = (at.judged.reached more).watched at.here.caller call.0
     (caller_kept r.header at.earlier at.here at.keeps) call.1 call.2 is.none in
-    subst (λ s. IsWatched r (states_along r starting (log ++ more)) at.here.caller at.earlier call.0
-    s)
-    (same_Some _ _ (sym kept.1 ∙ ap (slice_get watches) (sym is.caller) ∙ here)) kept.2
+    rw (← same_Some _ _ (sym kept.1 ∙ ap (slice_get watches) (sym is.caller) ∙ here)) kept.2
 
 return_fault : {r : Rules} {starting : List StartWord} {log : List Entry} {state : State} {made : ℕ}
     {watches : List Seen} {x : Waiting}
@@ -202,8 +183,7 @@ return_fault {r} {starting} {log} {state} {watches = watches} {reply = reply} se
     observer_at r starting (states_along r starting (log ++ more)) at.here.caller reply at.earlier
     (at.later ++ more) state watches call.0 seen call.1 is.none
     (watch_of seen at is here more)
-    (subst (λ e. Reached r (states_along r starting (log ++ more)) at.earlier (e ∷ at.later ++ more)
-    state watches) (sym (named at.here (Return reply) is.kind))
+    (rw (named at.here (Return reply) is.kind)
     (at.judged.reached more))
 
 pub head_answered : {r : Rules} {starting : List StartWord} {log : List Entry} {state : State}
@@ -220,20 +200,18 @@ head_answered {r} {starting} {log} {state} {made} {watches} new {x} {xs} {first}
     (no_return at.here.caller at.here.kind at.later (ap is_commit is.kind))
     (parts_on r.header starting first since at.here at.earlier at.later (ap is_commit is.kind)
     at.judged.parts) (omega arith) current
-    (subst (λ e. AreSeenFew (e ∷ at.earlier) new) (named at.here (Return reply) is.kind)
+    (rw (← named at.here (Return reply) is.kind)
     (seen_changed at.here.caller (Return reply) at.earlier watches new
-    (subst (λ c. OthersStay c watches new) is.caller others)
+    (rw (← is.caller) others)
     (seen_closed at.here.caller new _ (ap (slice_get new) (sym is.caller) ∙ closed))
     at.judged.seen_few))
     at.judged.shows
     (onward_as (named at.here (Return reply) is.kind) (record {
-      fault = λ more. return_fault seen at is here more
-          ∙ ap (λ b. cond b None (Some (Observer reply))) answered;
+      fault = λ more. cc (return_fault seen at is here more);
       reached = λ more. reached_return r (states_along r starting (log ++ more)) at.here.caller
           reply at.earlier (at.later ++ more) state watches new
-          (subst (λ c. OthersStay c watches new) is.caller others)
-          (subst (λ e. Reached r (states_along r starting (log ++ more)) at.earlier
-          (e ∷ at.later ++ more) state watches) (sym (named at.here (Return reply) is.kind))
+          (rw (← is.caller) others)
+          (rw (named at.here (Return reply) is.kind)
           (at.judged.reached more));
     }))
 
@@ -249,13 +227,7 @@ fault_now : {r : Rules} {starting : List StartWord} {log : List Entry} {state : 
 fault_now {r} {starting} {log} {state} {made} {watches} {x} {xs} {first} {since} why e at same
     position fault =
     judged_fault r starting log state made watches x xs first since why at
-    (ap (λ d. fault_at r starting (states_along r starting log) (place_of d at.earlier at.later))
-    (sym same)
-    ∙ ap (λ es. fault_at r starting (states_along r starting log) (place_of e at.earlier es))
-    (sym (append-nil at.later))
-    ∙ ap (λ es. fault_at r starting (states_along r starting es)
-    (place_of e at.earlier (at.later ++ []))) (sym (append-nil log))
-    ∙ fault [])
+    (cc (append-nil at.later, append-nil log, fault []))
     ∙ ap (λ n. Some (Violation (line_of starting n) why)) (sym position)
 
 pub head_unanswered : {r : Rules} {starting : List StartWord} {log : List Entry} {state : State}
@@ -268,8 +240,7 @@ pub head_unanswered : {r : Rules} {starting : List StartWord} {log : List Entry}
 head_unanswered {reply = reply} seen at is here unanswered =
     fault_now (Observer reply) (entry at.here.caller (Return reply)) at
     (named at.here (Return reply) is.kind) is.position
-    (λ more. return_fault seen at is here more ∙ ap (λ b. cond b None (Some (Observer reply)))
-    unanswered)
+    (λ more. cc (return_fault seen at is here more))
 
 -- a commit stands in a mutator's execution
 commit_runs : (h : Header) (c : ℕ) (earlier : List Entry) (kind : Kind) → Committing kind

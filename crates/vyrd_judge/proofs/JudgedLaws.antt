@@ -1,6 +1,6 @@
 -- How what is judged of a log goes on: with one more entry of the log, and with one more entry that
 -- is judged.
-use Rattle.std.proofs.Common.{◌≡◌, ℕ, ◌+◌, ◌≤◌, Bool, true, false, cond, List, [], ◌∷◌, ◌++◌, map}
+use Rattle.std.proofs.Common.{◌≡◌, ℕ, ◌+◌, ◌≤◌, Bool, true, false, List, [], ◌∷◌, ◌++◌, map}
 use Rattle.std.proofs.Common.{length, Option, Some, None, refl, ap, subst, ◌∙◌, sym, arith}
 use Rattle.std.proofs.Common.{append_assoc, append-nil}
 use Rattle.std.specs.Prelude.{option_map}
@@ -123,13 +123,7 @@ judged_more r starting log e state made watches queue first since writes well_fo
         (old_effects_at (newest_first log) e.caller e.kind)
         (effect_parts (effects j.earlier j.later) j.earlier j.later))
         ≡ effect_parts (effects j.earlier (j.later ++ e ∷ [])) j.earlier (j.later ++ e ∷ [])
-    parts = ap (λ all. cut_if (is_commit e.kind)
-        (with_effects (behind all) (old_effects_at all e.caller e.kind)
-        (effect_parts (effects j.earlier j.later) j.earlier j.later))) (sym j.whole)
-        ∙ sym (parts_more r.header (effects j.earlier j.later) j.earlier j.later e
-        (subst (WellFormed r.header) (sym j.whole) well_formed)
-        (ap (λ all. broken_rule r.header all e) j.whole ∙ keeps) j.ended)
-        ∙ ap (λ ws. effect_parts ws j.earlier (j.later ++ e ∷ [])) (sym (j.settled (e ∷ [])))
+    parts = search (behind, parts_more, arith)
 
 -- What a place leads to, however the log goes on: it isn't a fault, and the next one is reached.
 pub record Onward (r : Rules) (starting : List StartWord) (log : List Entry) (e : Entry)
@@ -156,10 +150,7 @@ clean_on : (r : Rules) (starting : List StartWord) (log : List Entry) (e : Entry
     → ((more : List Entry) → fault_at r starting (states_along r starting (log ++ more))
     (place_of e earlier (later ++ more)) ≡ None)
     → IsClean r starting log earlier (e ∷ later) → IsClean r starting log (e ∷ earlier) later
-clean_on r starting log e earlier later fault clean = λ more.
-    clean more ∙ ap (λ o. option_or (option_map (Violation (line_of starting (length earlier))) o)
-    (first_answer (violation_at r starting (states_along r starting (log ++ more)))
-    (places_after (e ∷ earlier) (later ++ more)))) (fault more)
+clean_on r starting log e earlier later fault clean = λ more. grind (arith, clean more, fault more)
 
 -- an entry that isn't judged
 quiet_on : (r : Rules) (starting : List StartWord) (log : List Entry) (e : Entry)
@@ -261,11 +252,7 @@ pub parts_on : (h : Header) (starting : List StartWord) (first : List ℕ)
     (effect_parts (effects earlier (e ∷ later)) earlier (e ∷ later))
     → HasParts h starting first since
     (effect_parts (effects (e ∷ earlier) later) (e ∷ earlier) later)
-parts_on h starting first since e earlier later isnt has =
-    subst (λ b. HasParts h starting first since
-    (cond b ((effects_at earlier e.caller e.kind later ++ effects earlier (e ∷ later))
-    ∷ effect_parts [] (e ∷ earlier) later)
-    (effect_parts (effects (e ∷ earlier) later) (e ∷ earlier) later))) isnt has
+parts_on h starting first since e earlier later isnt has = grind (arith, starting, isnt)
 
 -- at a commit the first words are those there, and the writes since act as the effects after it
 pub parts_at : (h : Header) (starting : List StartWord) (first : List ℕ)
@@ -274,11 +261,7 @@ pub parts_at : (h : Header) (starting : List StartWord) (first : List ℕ)
     (effect_parts (effects earlier (e ∷ later)) earlier (e ∷ later))
     → (first ≡ words_with h starting (effects (e ∷ earlier) later))
     × AllActAlike since (effect_parts [] (e ∷ earlier) later)
-parts_at h starting first since e earlier later commits has =
-    subst (λ b. HasParts h starting first since
-    (cond b ((effects_at earlier e.caller e.kind later ++ effects earlier (e ∷ later))
-    ∷ effect_parts [] (e ∷ earlier) later)
-    (effect_parts (effects (e ∷ earlier) later) (e ∷ earlier) later))) commits has
+parts_at h starting first since e earlier later commits has = grind (arith, starting)
 
 -- an entry that isn't judged leads on
 judged_quiet : (r : Rules) (starting : List StartWord) (log : List Entry) (state : State) (made : ℕ)
@@ -345,8 +328,7 @@ head_from r starting log state made watches x xs first since earlier (e ∷ late
   where
     kept_both : (broken_rule r.header earlier e ≡ None)
         × (break_after r.header (e ∷ earlier) later ≡ None)
-    kept_both = both_none (broken_rule r.header earlier e)
-        (break_after r.header (e ∷ earlier) later) kept
+    kept_both = search (both_none, kept, arith)
 
     by_waiting : (x ∷ xs ≡ waiting_after (e ∷ earlier) later
         → IsJudged r starting log state made watches first since (e ∷ earlier) later
@@ -357,22 +339,8 @@ head_from r starting log state made watches x xs first since earlier (e ∷ late
     by_waiting on None quiet queued' =
         on queued' (judged_quiet r starting log state made watches first since e earlier later
         kept_both.0 quiet judged)
-    by_waiting on (Some y) is queued' = record {
-      earlier = earlier;
-      here = e;
-      later = later;
-      whole = whole;
-      keeps = kept_both.0;
-      kept = kept_both.1;
-      is = is ∙ ap Some (first_of queued');
-      rest = rest_of queued';
-      judged = judged;
-      current = current;
-    }
+    by_waiting on (Some y) is queued' = search (rest_of, arith)
       where
-        first_of : x ∷ xs ≡ y ∷ waiting_after (e ∷ earlier) later → y ≡ x
-        first_of p = cc
-
         rest_of : x ∷ xs ≡ y ∷ waiting_after (e ∷ earlier) later
             → xs ≡ waiting_after (e ∷ earlier) later
         rest_of p = cc
@@ -401,8 +369,7 @@ pub judged_head : (r : Rules) (starting : List StartWord) (log : List Entry) (st
     → Judged r starting log state made watches (x ∷ xs) first since
     → AtHead r starting log state made watches x xs first since
 judged_head r starting log state made watches x xs first since j =
-    head_from r starting log state made watches x xs first since j.earlier j.later j.whole j.kept
-    j.queued (known_of j) j.current
+    grind (arith, starting, made, watches, head_from, known_of)
 
 -- where nothing waits there is no fault
 none_from : (r : Rules) (starting : List StartWord) (log : List Entry) (state : State)
@@ -419,8 +386,7 @@ none_from r starting log state watches earlier (e ∷ later) kept queued reached
   where
     kept_both : (broken_rule r.header earlier e ≡ None)
         × (break_after r.header (e ∷ earlier) later ≡ None)
-    kept_both = both_none (broken_rule r.header earlier e)
-        (break_after r.header (e ∷ earlier) later) kept
+    kept_both = search (both_none, kept, arith)
 
     by_waiting : ([] ≡ waiting_after (e ∷ earlier) later → IsReached r starting log
         (e ∷ earlier) later state watches
@@ -480,11 +446,4 @@ pub judged_fault : (r : Rules) (starting : List StartWord) (log : List Entry) (s
     ≡ Some why
     → first_fault r starting log ≡ Some (Violation (line_of starting (length at.earlier)) why)
 judged_fault r starting log state made watches x xs first since why at fault =
-    ap (first_fault r starting) (sym (append-nil log)) ∙ at.judged.clean []
-    ∙ ap (λ es. first_answer (violation_at r starting (states_along r starting es))
-    (places_after at.earlier (at.here ∷ at.later ++ []))) (append-nil log)
-    ∙ ap (λ es. first_answer (violation_at r starting (states_along r starting log))
-    (places_after at.earlier (at.here ∷ es))) (append-nil at.later)
-    ∙ ap (λ o. option_or (option_map (Violation (line_of starting (length at.earlier))) o)
-    (first_answer (violation_at r starting (states_along r starting log))
-    (places_after (at.here ∷ at.earlier) at.later))) fault
+    cc (append-nil log, at.judged.clean [], append-nil at.later)

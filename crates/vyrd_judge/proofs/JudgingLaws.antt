@@ -1,6 +1,6 @@
 -- The entry that waits first is judged by its event.
 use Rattle.std.proofs.Common.{◌≡◌, ℕ, ◌<◌, ◌^◌, true, false, List, [], ◌∷◌, length, set, get_or}
-use Rattle.std.proofs.Common.{Option, Some, None, slice_get, ap, subst, ◌∙◌, sym, arith}
+use Rattle.std.proofs.Common.{Option, Some, None, slice_get, ap, ◌∙◌, sym, arith}
 use Rattle.std.specs.Prelude.{◌||◌, Result, Ok, Err, IfOk}
 use Rattle.std.proofs.Math.Logic.{∥∥₁_elim}
 use Rattle.std.proofs.Math.Bool.{Bool-set}
@@ -17,7 +17,6 @@ use Rattle.vyrd_base.specs.States.{State}
 use Rattle.vyrd_base.specs.Verdicts.{line_of, first_fault}
 use Rattle.vyrd_base.proofs.BlockLaws.{by_same}
 use Rattle.vyrd_base.proofs.TestLaws.{below_of, is_below, same_number, apart_of}
-use Rattle.vyrd_shadow.specs.Blocks.{with_writes}
 use Rattle.vyrd_judge.specs.declared.outcome.Outcome.{Outcome}
 use Rattle.vyrd_judge.specs.declared.outcome.Outcome.TheVariants.{Goes, Faults}
 use Rattle.vyrd_judge.specs.declared.waiting.Event.TheVariants.{Begins, Commits, Returns}
@@ -51,19 +50,7 @@ begins_at {r} {starting} {log} {state} {made} {watches} {x} {xs} {first} {since}
   where
     by_event : (at : AtHead r starting log state made watches x xs first since)
         → Waits at.here at.earlier at.later x → IsBegin at.here at.earlier x method args
-    by_event at (begins m a e is) =
-        let same_method : m ≡ method = cc in
-        let same_args : a ≡ args = cc in
-        subst (λ k. IsBegin at.here at.earlier x k args) same_method
-        (subst (IsBegin at.here at.earlier x m) same_args is)
-    by_event at (commits m a o e is) = absurd (apart (sym event ∙ e))
-      where
-        apart : Begins method args ≡ Commits m a o → ⊥
-        apart p = cc
-    by_event at (returns val e is) = absurd (apart (sym event ∙ e))
-      where
-        apart : Begins method args ≡ Returns val → ⊥
-        apart p = cc
+    by_event at e1 = search (begins, arith)
 
 pub commits_at : {r : Rules} {starting : List StartWord} {log : List Entry} {state : State}
     {made : ℕ} {watches : List Seen} {x : Waiting} {xs : List Waiting}
@@ -80,21 +67,7 @@ commits_at {r} {starting} {log} {state} {made} {watches} {x} {xs} {first} {since
     by_event : (at : AtHead r starting log state made watches x xs first since)
         → Waits at.here at.earlier at.later x
         → IsCommit at.here at.earlier at.later x method args o
-    by_event at (commits m a p e is) =
-        let same_method : m ≡ method = cc in
-        let same_args : a ≡ args = cc in
-        let same_reply : p ≡ o = cc in
-        subst (λ k. IsCommit at.here at.earlier at.later x k args o) same_method
-        (subst (λ k. IsCommit at.here at.earlier at.later x m k o) same_args
-        (subst (IsCommit at.here at.earlier at.later x m a) same_reply is))
-    by_event at (begins m a e is) = absurd (apart (sym event ∙ e))
-      where
-        apart : Commits method args o ≡ Begins m a → ⊥
-        apart p = cc
-    by_event at (returns val e is) = absurd (apart (sym event ∙ e))
-      where
-        apart : Commits method args o ≡ Returns val → ⊥
-        apart p = cc
+    by_event at e1 = search (begins, arith)
 
 pub returns_at : {r : Rules} {starting : List StartWord} {log : List Entry} {state : State}
     {made : ℕ} {watches : List Seen} {x : Waiting} {xs : List Waiting}
@@ -108,16 +81,7 @@ returns_at {r} {starting} {log} {state} {made} {watches} {x} {xs} {first} {since
   where
     by_event : (at : AtHead r starting log state made watches x xs first since)
         → Waits at.here at.earlier at.later x → IsReturn at.here at.earlier x reply
-    by_event at (returns val e is) = let same : val ≡ reply = cc in
-        subst (IsReturn at.here at.earlier x) same is
-    by_event at (begins m a e is) = absurd (apart (sym event ∙ e))
-      where
-        apart : Returns reply ≡ Begins m a → ⊥
-        apart p = cc
-    by_event at (commits m a o e is) = absurd (apart (sym event ∙ e))
-      where
-        apart : Returns reply ≡ Commits m a o → ⊥
-        apart p = cc
+    by_event at e1 = search (begins, arith)
 
 -- what may be judged: its caller, what was called, and how many steps were made
 pub begins_caller : {r : Rules} {state : State} {made : ℕ} {watches : List Seen} {x : Waiting}
@@ -199,8 +163,7 @@ current_set : (r : Rules) (state : State) (c : ℕ) (watches : List Seen) (seen 
 current_set r state c watches seen low all own = λ d other here is_open. by_same c d
     (λ same. let it : seen ≡ other = same_Some _ _ (sym (slice_get-set_same watches c seen low)
     ∙ ap (slice_get (set watches c seen)) same ∙ here) in
-    ap (λ s. has_answer s.answers (r.answer state s.method s.args)) (sym it)
-    ∙ own (ap (λ s. s.is_open) it ∙ is_open))
+    cc (own (ap (λ s. s.is_open) it ∙ is_open)))
     (λ apart. all d other (sym (slice_get-set_other watches c d seen (apart_of c d apart)) ∙ here)
     is_open)
 
@@ -334,9 +297,8 @@ judged_commits {E} {r} {starting} {log} {state} {made} {watches} {x} {xs} {first
         → (o : Outcome) → Leads at is o → HeadGives r starting log after more new x xs next_first
         next_since o
     by_outcome at is Goes right =
-        subst (λ ws. Judged r starting log after more new xs ws next_since) (sym right.words)
-        (subst (λ ps. Judged r starting log after more new xs
-        (with_writes first (split_here at is).part) ps) (sym right.since)
+        rw right.words
+        (rw right.since
         (head_right (set watches x.caller unwatched) new after more at is rules right.next
         right.same right.count (others_stay x.caller watches unwatched)
         (slice_get-set_same watches x.caller unwatched

@@ -1,19 +1,16 @@
 -- What waits to be judged stands behind the commit of an execution that hasn't returned.
 use Rattle.std.proofs.Common.{◌≡◌, ℕ, suc, ◌≤◌, Bool, true, false, List, [], ◌∷◌, ◌++◌, length}
-use Rattle.std.proofs.Common.{Option, Some, None, refl, ap, ◌∙◌, sym, subst, arith}
+use Rattle.std.proofs.Common.{Option, Some, None, refl, ap, sym, subst, arith}
 use Rattle.std.specs.Prelude.{◌&&◌, is_none, if◌then◌else◌}
 use Rattle.std.specs.List.{cons_option}
 use Rattle.std.proofs.lemmas.List.{append-nil}
 use Rattle.vyrd_base.specs.declared.subject.Method.{Method}
 use Rattle.vyrd_base.specs.declared.subject.Args.{Args}
-use Rattle.vyrd_base.specs.declared.log.Kind.{Kind}
 use Rattle.vyrd_base.specs.declared.log.Entry.{Entry}
 use Rattle.vyrd_base.specs.declared.log.StartWord.{StartWord}
 use Rattle.vyrd_base.specs.Entries.{place_of}
-use Rattle.vyrd_base.specs.Commits.{is_commit, next_reply}
 use Rattle.vyrd_base.specs.Places.{newest_first_onto, newest_first}
 use Rattle.vyrd_base.specs.Rules.{rules_by}
-use Rattle.vyrd_base.proofs.CommitLaws.{Commits as Committing, alone, with_block}
 use Rattle.vyrd_judge.specs.declared.waiting.Event.TheVariants.{Commits}
 use Rattle.vyrd_judge.specs.declared.waiting.Waiting.{Waiting}
 use Rattle.vyrd_judge.specs.Following.{JudgeView, HasFollowed, FollowsBy, IsFaultless}
@@ -35,19 +32,13 @@ most_open (e ∷ later) = elim (is_left_open e later) as (λ b.
 -- an entry before them makes them no fewer
 one_before : (e : Entry) (later : List Entry)
     → from_open_commit later ≤ from_open_commit (e ∷ later)
-one_before e later = elim (is_left_open e later) as (λ b. from_open_commit later
-    ≤ (if b then suc (length later) else from_open_commit later)) [
-      | true ↦ let rest = most_open later in omega (arith, rest)
-      | false ↦ omega arith
-    ]
+one_before e later = grind (arith, most_open)
 
 -- nor do all entries before a place
 all_before : (earlier later : List Entry)
     → from_open_commit later ≤ from_open_commit (newest_first_onto later earlier)
 all_before [] later = omega arith
-all_before (e ∷ earlier) later =
-    let one = one_before e later in
-    let rest = all_before earlier (e ∷ later) in omega (arith, one, rest)
+all_before (e ∷ earlier) later = grind (arith, one_before e later, all_before earlier (e ∷ later))
 
 -- turned twice
 turned : {A : Type 0} (base earlier xs : List A)
@@ -59,9 +50,8 @@ turned base earlier (x ∷ xs) = turned base (x ∷ earlier) xs
 pub log_parts : (earlier later log : List Entry)
     → newest_first_onto earlier later ≡ newest_first log
     → log ≡ newest_first_onto later earlier
-log_parts earlier later log whole = sym (append-nil log) ∙ sym (turned [] [] log)
-    ∙ ap newest_first (sym whole) ∙ turned [] earlier later
-    ∙ ap (λ es. newest_first_onto es earlier) (append-nil later)
+log_parts earlier later log whole =
+    cc (append-nil log, turned [] [] log, turned [] earlier later, append-nil later)
 
 -- what waits are no more entries than there are
 few_wait : (earlier later : List Entry) → length (waiting_after earlier later) ≤ length later
@@ -71,8 +61,7 @@ few_wait earlier (e ∷ later) = one_more (waiting_at (place_of e earlier later)
   where
     one_more : (o : Option Waiting) (n : ℕ) (ws : List Waiting) → length ws ≤ n
         → length (cons_option o ws) ≤ suc n
-    one_more None n ws few = omega (arith, few)
-    one_more (Some x) n ws few = omega (arith, few)
+    one_more o n ws few = search (few, arith)
 
 -- a commit that waits for its return is left open
 pub left_open : (e : Entry) (earlier later : List Entry) (x : Waiting) (method : Method)
@@ -81,29 +70,13 @@ pub left_open : (e : Entry) (earlier later : List Entry) (x : Waiting) (method :
     → is_left_open e later ≡ true
 left_open e earlier later x method args is event = by_waits (waits e earlier later x is)
   where
-    committing : Committing e.kind → is_commit e.kind ≡ true
-    committing c = by_kind e.kind c
-      where
-        by_kind : (kind : Kind) → Committing kind → is_commit kind ≡ true
-        by_kind _ alone = refl
-        by_kind _ with_block = refl
-
     both : (a : Bool) (o : Option ℕ) → a ≡ true → o ≡ None → a && is_none o ≡ true
-    both a o p q = ap (λ b. b && is_none o) p ∙ ap is_none q
-
-    unreturned : {m : Method} {a : Args} {o : Option ℕ} → x.event ≡ Commits m a o → o ≡ None
-    unreturned named = by_event (sym named ∙ event)
-      where
-        by_event : {m n : Method} {a b : Args} {o p : Option ℕ} → Commits m a o ≡ Commits n b p
-            → o ≡ p
-        by_event is = cc
+    both a o p q = cc
 
     by_waits : Waits e earlier later x → is_left_open e later ≡ true
     by_waits (begins m a named fact) = cc
     by_waits (returns reply named fact) = cc
-    by_waits (commits m a o named fact) =
-        both (is_commit e.kind) (next_reply e.caller later) (committing fact.commits)
-        (fact.replies ∙ unreturned named)
+    by_waits (commits m a o named fact) = search (both, named, arith)
 
 -- what waits from a place on stands behind a commit that is left open
 waits_behind : (earlier later : List Entry) → AwaitsReturn (waiting_after earlier later)
@@ -118,15 +91,7 @@ waits_behind earlier (e ∷ later) awaits =
         → AwaitsReturn (cons_option o (waiting_after (e ∷ earlier) later))
         → length (cons_option o (waiting_after (e ∷ earlier) later))
         ≤ from_open_commit (e ∷ later)
-    one_more None is behind rest =
-        let low = behind rest in
-        let more = one_before e later in omega (arith, low, more)
-    one_more (Some x) is behind first =
-        let open_here = left_open e earlier later x first.0 first.1 is first.2 in
-        let few = few_wait (e ∷ earlier) later in
-        subst (λ b. suc (length (waiting_after (e ∷ earlier) later))
-        ≤ (if b then suc (length later) else from_open_commit later)) (sym open_here)
-        (omega (arith, few))
+    one_more o is behind rest = search (behind, one_before, left_open, few_wait, arith)
 
 -- what a judge keeps waiting
 pub waits_behind_open : (j : JudgeView) (starting : List StartWord) (log : List Entry)

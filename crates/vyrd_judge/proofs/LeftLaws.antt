@@ -1,22 +1,21 @@
 -- The writes that are kept for the commits that wait are at most the effects behind the last commit
 -- that is judged.
-use Rattle.std.proofs.Common.{◌≡◌, ℕ, zero, suc, ◌+◌, ◌*◌, ◌<◌, ◌≤◌, Bool, true, false, cond, ◌&&◌}
+use Rattle.std.proofs.Common.{◌≡◌, ℕ, zero, suc, ◌+◌, ◌*◌, ◌<◌, ◌≤◌, Bool, true, false, cond}
 use Rattle.std.proofs.Common.{List, [], ◌∷◌, ◌++◌, length, Option, Some, None, refl, ap, subst}
 use Rattle.std.proofs.Common.{◌∙◌, sym, arith, length-append}
-use Rattle.std.specs.Prelude.{is_none, is_some, unwrap_or, slice_index_or}
+use Rattle.std.specs.Prelude.{is_some}
 use Rattle.std.specs.List.{sum_by, cons_option}
 use Rattle.std.proofs.lemmas.List.Sums.{sum_by-cons}
 use Rattle.vyrd_base.specs.declared.header.Header.{Header}
 use Rattle.vyrd_base.specs.declared.log.Entry.{Entry}
 use Rattle.vyrd_base.specs.declared.log.StartWord.{StartWord}
-use Rattle.vyrd_base.specs.Callers.{has_block}
-use Rattle.vyrd_base.specs.Commits.{is_commit, next_reply, commit_count}
+use Rattle.vyrd_base.specs.Commits.{is_commit, commit_count}
 use Rattle.vyrd_base.specs.Entries.{place_of}
 use Rattle.vyrd_base.specs.Places.{newest_first, newest_first_onto, numbers_from}
 use Rattle.vyrd_base.specs.Rules.{rules_by}
 use Rattle.vyrd_base.specs.Shape.{broken_rule}
 use Rattle.vyrd_base.specs.Layout.{plain_words}
-use Rattle.vyrd_base.specs.Words.{block_writes, effects, effects_at, value_after, words_after}
+use Rattle.vyrd_base.specs.Words.{effects, effects_at, value_after, words_after}
 use Rattle.vyrd_base.proofs.Fronts.{break_after}
 use Rattle.vyrd_base.proofs.Lasting.{commit_count-cons}
 use Rattle.vyrd_base.proofs.ListLaws.{both_none}
@@ -30,7 +29,7 @@ use Rattle.vyrd_words.specs.HasWords.{HasWords}
 use Rattle.vyrd_words.proofs.CutLaws.{cons_first}
 use Rattle.vyrd_words.proofs.FewLaws.{few_count, first_few, length-words_of}
 use Rattle.vyrd_judge.specs.declared.waiting.Waiting.{Waiting}
-use Rattle.vyrd_judge.specs.Following.{JudgeView, HasFollowed, FollowsBy, IsFaultless}
+use Rattle.vyrd_judge.specs.Following.{JudgeView, HasFollowed, IsFaultless}
 use Rattle.vyrd_judge.specs.Judged.{Judged}
 use Rattle.vyrd_judge.specs.Keeping.{effects_in, next_has_returned, effects_left}
 use Rattle.vyrd_judge.specs.Keeping.{count_all, writes_kept, blocks_keep}
@@ -62,8 +61,7 @@ sum_parts before earlier (e ∷ later) =
         → count_all (cond b ((now ++ before) ∷ effect_parts [] (e ∷ earlier) later)
         (effect_parts (now ++ before) (e ∷ earlier) later))
         ≡ length before + (length now + effects_in (e ∷ earlier) later)
-    by_test true alone joined = omega (arith, alone, length-append now before)
-    by_test false alone joined = omega (arith, joined, length-append now before)
+    by_test b alone joined = search (alone, joined, length-append, arith)
 
 -- how many parts there are
 length-parts : (before : List (ℕ × ℕ)) (earlier later : List Entry)
@@ -82,8 +80,7 @@ length-parts before earlier (e ∷ later) =
         → length (cond b ((now ++ before) ∷ effect_parts [] (e ∷ earlier) later)
         (effect_parts (now ++ before) (e ∷ earlier) later))
         ≡ suc (cond b 1 0 + commit_count later)
-    by_test true alone joined = omega (arith, alone)
-    by_test false alone joined = omega (arith, joined)
+    by_test b alone joined = search (alone, joined, arith)
 
 rest_of : {A : Type 0} {x y : A} {xs ys : List A} → x ∷ xs ≡ y ∷ ys → xs ≡ ys
 rest_of e = cc
@@ -92,8 +89,7 @@ rest_of e = cc
 first_long : (before : List (ℕ × ℕ)) (earlier later : List Entry) (part : List (ℕ × ℕ))
     (parts : List (List (ℕ × ℕ))) → effect_parts before earlier later ≡ part ∷ parts
     → length before ≤ length part
-first_long before earlier [] part parts is =
-    let same = ap length (cons_first is) in omega (arith, same)
+first_long before earlier [] part parts is = grind (arith, cons_first is)
 first_long before earlier (e ∷ later) part parts is =
     by_test (is_commit e.kind) (first_long (now ++ before) (e ∷ earlier) later part parts) is
   where
@@ -106,10 +102,7 @@ first_long before earlier (e ∷ later) part parts is =
         → cond b ((now ++ before) ∷ effect_parts [] (e ∷ earlier) later)
         (effect_parts (now ++ before) (e ∷ earlier) later) ≡ part ∷ parts
         → length before ≤ length part
-    by_test true rest same =
-        let long = ap length (cons_first same) in omega (arith, long, length-append now before)
-    by_test false rest same =
-        let long = rest same in omega (arith, long, length-append now before)
+    by_test b rest same = search (cons_first, length-append, arith)
 
 -- the effects before a place, if the first part there is among the last
 abbrev extra : List (List (ℕ × ℕ)) → List (ℕ × ℕ) → ℕ
@@ -149,8 +142,7 @@ IsBound n earlier later = (before : List (ℕ × ℕ)) (judged left : List (List
 all_left : (earlier later : List Entry) → next_has_returned later ≡ false
     → effects_left earlier later ≡ effects_in earlier later
 all_left earlier [] none = refl
-all_left earlier (e ∷ later) none = ap (λ b. cond b (effects_left (e ∷ earlier) later)
-    (effects_in earlier (e ∷ later))) none
+all_left earlier (e ∷ later) none = cc
 
 bound_here : (n : ℕ) (earlier later : List Entry) → next_has_returned later ≡ false
     → IsBound n earlier later
@@ -165,17 +157,7 @@ record HasMore (n : ℕ) (later : List Entry) : Type 0 where
   more : next_has_returned later ≡ true → n < commit_count later
 
 has_more : (n : ℕ) (e : Entry) (later : List Entry) → HasMore n later → HasMore n (e ∷ later)
-has_more n e later has = record {
-  some = let one = commit_count-cons e later in omega (arith, has.some, one);
-  more = λ returns. by_test (is_commit e.kind) returns (commit_count-cons e later);
-}
-  where
-    by_test : (b : Bool)
-        → cond b (is_some (next_reply e.caller later)) (next_has_returned later) ≡ true
-        → commit_count (e ∷ later) ≡ cond b 1 0 + commit_count later
-        → n < commit_count (e ∷ later)
-    by_test true returns count = omega (arith, has.some, count)
-    by_test false returns count = let low = has.more returns in omega (arith, low, count)
+has_more n e later has = grind (arith, has.some, commit_count-cons e later)
 
 -- one entry before
 bound_before : (n : ℕ) (e : Entry) (earlier later : List Entry) → HasMore n (e ∷ later)
@@ -198,19 +180,17 @@ bound_before n e earlier later has bound = by_next (next_has_returned (e ∷ lat
             → cond b ((now ++ before) ∷ effect_parts [] (e ∷ earlier) later)
             (effect_parts (now ++ before) (e ∷ earlier) later) ≡ part ∷ (judged ++ left)
             → count_all left ≤ 0 + effects_left (e ∷ earlier) later
-        by_test true same =
-            let last = bound [] judged left (rest_of same) long in
-            omega (arith, last, no_extra judged)
+        by_test true same = grind (arith, bound [] judged left (rest_of same) long, no_extra judged)
         by_test false same = bound (now ++ before) (part ∷ judged) left same long
 
     by_next : (b : Bool) → next_has_returned (e ∷ later) ≡ b → IsBound n earlier (e ∷ later)
     by_next false none = bound_here n earlier (e ∷ later) none
-    by_next true returns = λ before judged left is long.
-        let last = by_judged before judged left (has.more returns) is long in
-        let same : effects_left earlier (e ∷ later) ≡ effects_left (e ∷ earlier) later =
-        ap (λ b. cond b (effects_left (e ∷ earlier) later)
-        (effects_in earlier (e ∷ later))) returns in
-        omega (arith, last, same)
+    by_next true returns =
+        λ before judged left is long. grind (
+          arith,
+          by_judged before judged left (has.more returns)
+              is long,
+        )
 
 -- all entries before
 bound_all : (n : ℕ) (earlier later : List Entry) → HasMore n later → IsBound n earlier later
@@ -230,21 +210,11 @@ next_open h earlier (e ∷ later) kept awaits =
     both : (broken_rule h earlier e ≡ None) × (break_after h (e ∷ earlier) later ≡ None)
     both = both_none (broken_rule h earlier e) (break_after h (e ∷ earlier) later) kept
 
-    unreturned : (a : Bool) (o : Option ℕ) → a && is_none o ≡ true
-        → cond a (is_some o) (next_has_returned later) ≡ false
-    unreturned false o is = cc
-    unreturned true None is = refl
-    unreturned true (Some reply) is = cc
-
     by_waiting : (o : Option Waiting) → waiting_at (place_of e earlier later) ≡ o
         → (AwaitsReturn (waiting_after (e ∷ earlier) later) → next_has_returned later ≡ false)
         → AwaitsReturn (cons_option o (waiting_after (e ∷ earlier) later))
         → next_has_returned (e ∷ later) ≡ false
-    by_waiting None is rest going =
-        ap (λ b. cond b (is_some (next_reply e.caller later)) (next_has_returned later))
-        (uncommitted h e earlier later both.0 is) ∙ rest going
-    by_waiting (Some x) is rest first = unreturned (is_commit e.kind) (next_reply e.caller later)
-        (left_open e earlier later x first.0 first.1 is first.2)
+    by_waiting o is rest going = search (uncommitted, left_open, arith)
 
 -- no more writes than effects in all
 few_in_all : (since parts : List (List (ℕ × ℕ))) → AllFew since parts
@@ -252,8 +222,7 @@ few_in_all : (since parts : List (List (ℕ × ℕ))) → AllFew since parts
 few_in_all [] [] all = omega arith
 few_in_all [] (part ∷ parts) all = absurd all
 few_in_all (writes ∷ since) [] all = absurd all
-few_in_all (writes ∷ since) (part ∷ parts) all =
-    let rest = few_in_all since parts all.1 in omega (arith, all.0, rest)
+few_in_all (writes ∷ since) (part ∷ parts) all = grind (arith, all.0, few_in_all since parts all.1)
 
 -- as many lists of writes as commits
 since_count : (h : Header) (starting : List StartWord) (first : List ℕ)
@@ -265,8 +234,7 @@ since_count h starting first since (part ∷ parts) has = ap suc (alike_count si
 -- a judge without a verdict
 faultless : (j : JudgeView) (starting : List StartWord) (log : List Entry)
     → HasFollowed j starting log → j.so_far ≡ None → IsFaultless j.kept starting log
-faultless j starting log followed undecided =
-    subst (FollowsBy j.kept starting log) undecided followed.follows
+faultless j starting log followed undecided = grind (arith, followed.follows)
 
 -- the writes that it keeps for the commits that wait
 writes_few : (j : JudgeView) (starting : List StartWord) (log : List Entry)
@@ -317,23 +285,8 @@ writes_few j starting log followed undecided =
 block_few : (shadow : ShadowKept) (inner : List ℕ) (starting : List StartWord)
     (earlier : List Entry) (c : ℕ) → HasWords shadow inner starting earlier
     → c < shadow.header.callers → length (kept_writes shadow c) ≤ kept_back earlier c
-block_few shadow inner starting earlier c has low = by_block (has_block c earlier) refl
-  where
-    closed : (o : Option (List (ℕ × ℕ))) → is_some o ≡ false → length (unwrap_or o []) ≡ 0
-    closed None is = refl
-    closed (Some ws) is = cc
-
-    by_block : (b : Bool) → has_block c earlier ≡ b
-        → length (kept_writes shadow c) ≤ cond b (length (block_writes c earlier)) 0
-    by_block true inside =
-        let same = ap length (has.followed.order c low inside) in
-        let long = length-words_of (kept_writes shadow c) in
-        let few = first_few (block_writes c earlier) in
-        omega (arith, same, long, few)
-    by_block false outside =
-        let none = closed (slice_index_or shadow.blocks c None)
-        (has.followed.blocks c low ∙ outside) in
-        omega (arith, none)
+block_few shadow inner starting earlier c has low =
+    grind (arith, starting, is_some, length-words_of, first_few)
 
 blocks_from : (shadow : ShadowKept) (inner : List ℕ) (starting : List StartWord)
     (earlier : List Entry) → HasWords shadow inner starting earlier

@@ -1,6 +1,6 @@
 -- What the online judge answers, by what it keeps.
-use Rattle.std.proofs.Common.{◌≡◌, ◌≤◌, ◌+◌, List, [], ◌∷◌, ◌++◌, length, Option, Some, None}
-use Rattle.std.proofs.Common.{Result, Ok, Err, refl, ap, subst, ◌∙◌, sym, arith, append_assoc}
+use Rattle.std.proofs.Common.{◌≡◌, ◌≤◌, ◌+◌, List, [], ◌++◌, length, Option, Some, None}
+use Rattle.std.proofs.Common.{Result, Ok, Err, refl, ap, subst, sym, arith, append_assoc}
 use Rattle.std.specs.Prelude.{OnErr}
 use Rattle.vyrd_base.specs.Rules.{rules_by}
 use Rattle.vyrd_base.specs.declared.log.Entry.{Entry}
@@ -34,10 +34,8 @@ stands_on {j} {starting} {log} {v} more is f =
 pub followed_on : {j : JudgeView} {starting : List StartWord} {log : List Entry} {v : Verdict}
     (more : List Entry) → j.so_far ≡ Some v → HasFollowed j starting log
     → HasFollowed j starting (log ++ more)
-followed_on {j} {starting} {log} {v} more is f = record {
-  follows = subst (FollowsBy j.kept starting (log ++ more)) (sym is)
-      (verdict_lasts (rules_by j.kept.charter) starting log more v (standing is f));
-}
+followed_on {j} {starting} {log} {v} more is f =
+    grind (arith, verdict_lasts (rules_by j.kept.charter) starting log more v (standing is f))
 
 pub stands_whole : {j : JudgeView} {starting : List StartWord} {log : List Entry} {v : Verdict}
     → j.so_far ≡ Some v → HasFollowed j starting log
@@ -50,24 +48,15 @@ stands_whole {j} {starting} {log} {v} is f =
 pub none_stands : {j : JudgeView} {starting : List StartWord} {log : List Entry}
     → j.so_far ≡ None → HasFollowed j starting log
     → verdict_so_far (rules_by j.kept.charter) starting log ≡ None
-none_stands {j} {starting} {log} is f =
-    let all = faultless_of is f in
-    so_far_kept (rules_by j.kept.charter) starting log all.taken_in.begun all.taken_in.kept
-    ∙ all.faultless
+none_stands {j} {starting} {log} is f = search (faultless_of, so_far_kept, starting, arith)
 
 -- before the first entry
 pub faultless_first : {k : FollowerKept} {starting : List StartWord}
     → HasTakenIn k starting [] → IsFaultless k starting []
-faultless_first {k} {starting} t = record {
-  taken_in = t;
-  faultless = no_first_fault (rules_by k.charter) starting;
-  awaits = let few : k.taken + length k.waiting ≤ 0 = t.queued.count in nothing k.waiting
-      (omega (arith, few));
-}
+faultless_first {k} {starting} t = search (no_first_fault, starting, nothing, arith)
   where
     nothing : (ws : List Waiting) → length ws ≤ 0 → AwaitsReturn ws
-    nothing [] none = tt
-    nothing (x ∷ xs) none = absurd (omega (arith, none))
+    nothing ws none = search arith
 
 -- what stands is known
 pub so_far_is_known : {j : JudgeView} {starting : List StartWord} {log : List Entry}
@@ -76,8 +65,7 @@ so_far_is_known {j} {starting} {log} f = known j.so_far refl
   where
     known : (o : Option Verdict) → j.so_far ≡ o
         → j.so_far ≡ verdict_so_far (rules_by j.kept.charter) starting log
-    known None is = is ∙ sym (none_stands is f)
-    known (Some v) is = is ∙ sym (standing is f)
+    known o is = search (none_stands, standing, arith)
 
 -- a verdict that stands after some entries stands with those after them
 pub decided : {j : JudgeView} {starting : List StartWord} {whole : List Entry} {v : Verdict}
@@ -85,8 +73,7 @@ pub decided : {j : JudgeView} {starting : List StartWord} {whole : List Entry} {
     → part ++ rest ≡ whole → j.so_far ≡ Some v → HasFollowed j starting (log ++ part)
     → HasFollowed j starting (log ++ whole)
 decided {j} {starting} log part rest same is f =
-    subst (HasFollowed j starting) (append_assoc log part rest ∙ ap (λ es. log ++ es) same)
-    (followed_on rest is f)
+    grind (arith, append_assoc log part rest, followed_on rest is f)
 
 -- what holds anyway holds on an error
 pub on_error : {A E : Type 0} {P : Type 0} (r : Result A E) → P → OnErr r P

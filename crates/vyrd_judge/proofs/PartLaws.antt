@@ -1,6 +1,6 @@
 -- The effects of a log in parts, as it grows by one entry.
-use Rattle.std.proofs.Common.{◌≡◌, ℕ, suc, ◌+◌, ◌-◌, ◌<◌, ◌≤◌, Bool, true, false, cond, ◌&&◌, ◌||◌}
-use Rattle.std.proofs.Common.{List, [], ◌∷◌, ◌++◌, length, None, refl, ap, subst, ◌∙◌, sym, arith}
+use Rattle.std.proofs.Common.{◌≡◌, ℕ, suc, ◌+◌, ◌-◌, ◌<◌, ◌≤◌, Bool, true, false, cond}
+use Rattle.std.proofs.Common.{List, [], ◌∷◌, ◌++◌, length, None, refl, ap, ◌∙◌, sym, arith}
 use Rattle.std.proofs.Common.{append-nil}
 use Rattle.std.specs.Prelude.{◌==◌, unwrap_or}
 use Rattle.std.specs.Option.{option_or}
@@ -21,7 +21,7 @@ use Rattle.vyrd_base.proofs.BlockLaws.{entry}
 use Rattle.vyrd_base.proofs.ShadowLaws.{all_kept}
 use Rattle.vyrd_base.proofs.EffectLaws.{SameEffects, same_after, ends_committed_block, MoreAt}
 use Rattle.vyrd_base.proofs.EffectLaws.{at_commit, own, other, MoreAtCommit, more_after, never}
-use Rattle.vyrd_base.proofs.EffectLaws.{committed_since_open, own_inner, other_inner}
+use Rattle.vyrd_base.proofs.EffectLaws.{committed_since_open, own_inner}
 use Rattle.vyrd_base.proofs.EffectLaws.{inner_is_committed}
 use Rattle.vyrd_base.proofs.Lasting.{commit_count-cons}
 use Rattle.vyrd_base.proofs.TestLaws.{is_same, isnt_same, lower_isnt, flipped, first_true}
@@ -44,18 +44,12 @@ pub parts_alone : (before : List (ℕ × ℕ)) (earlier later : List Entry)
     → effect_parts before earlier later ≡ parts_in before earlier later []
 parts_alone before earlier [] = refl
 parts_alone before earlier (e ∷ later) =
-    let here : effects_at earlier e.caller e.kind later ≡ effects_at earlier e.caller e.kind
-    (later ++ []) =
-    ap (effects_at earlier e.caller e.kind) (sym (append-nil later)) in
-    let rest = parts_alone [] (e ∷ earlier) later in
-    let joined = parts_alone (effects_at earlier e.caller e.kind later ++ before)
-    (e ∷ earlier) later in
-    ap (λ ps. cond (is_commit e.kind) ((effects_at earlier e.caller e.kind later ++ before) ∷ ps)
-    (effect_parts (effects_at earlier e.caller e.kind later ++ before) (e ∷ earlier) later)) rest
-    ∙ ap (λ ps. cond (is_commit e.kind) ((effects_at earlier e.caller e.kind later ++ before)
-    ∷ parts_in [] (e ∷ earlier) later []) ps) joined
-    ∙ ap (λ ws. cond (is_commit e.kind) ((ws ++ before) ∷ parts_in [] (e ∷ earlier) later [])
-    (parts_in (ws ++ before) (e ∷ earlier) later [])) here
+    cc (
+      parts_alone [] (e ∷ earlier) later,
+      parts_alone (effects_at earlier e.caller e.kind later ++
+          before) (e ∷ earlier) later,
+      append-nil later,
+    )
 
 -- how many parts there are
 pub parts_count : (before : List (ℕ × ℕ)) (earlier later tail : List Entry)
@@ -78,22 +72,13 @@ parts_count before earlier (e ∷ later) tail =
         → length (parts_in now (e ∷ earlier) later tail) + commit_count (e ∷ earlier) ≡ all
         → length (cond b (now ∷ parts_in [] (e ∷ earlier) later tail)
         (parts_in now (e ∷ earlier) later tail)) + commit_count earlier ≡ all
-    by_test true is apart joined =
-        let one : commit_count (e ∷ earlier) ≡ 1 + commit_count earlier =
-        commit_count-cons e earlier ∙ ap (λ b. cond b 1 0 + commit_count earlier) is in
-        omega (arith, apart, one)
-    by_test false is apart joined =
-        let none : commit_count (e ∷ earlier) ≡ 0 + commit_count earlier =
-        commit_count-cons e earlier ∙ ap (λ b. cond b 1 0 + commit_count earlier) is in
-        omega (arith, joined, none)
+    by_test true is apart joined = grind (arith, commit_count-cons e earlier)
+    by_test false is apart joined = cc (commit_count-cons e earlier)
 
 -- some part is always there
 pub some_parts : (before : List (ℕ × ℕ)) (earlier later tail : List Entry)
     → 0 < length (parts_in before earlier later tail)
-some_parts before earlier later tail =
-    let count = parts_count before earlier later tail in
-    let fewer = grown earlier later in
-    omega (arith, count, fewer)
+some_parts before earlier later tail = search (parts_count, tail, grown, arith)
   where
     grown : (xs ys : List Entry) → commit_count xs ≤ commit_count (newest_first_onto xs ys)
     grown xs [] = omega arith
@@ -105,11 +90,7 @@ pub parts_push : (before : List (ℕ × ℕ)) (earlier later : List Entry) (e : 
     ≡ cut_if (is_commit e.kind)
     (with_effects 0 (effects_at (newest_first_onto earlier later) e.caller e.kind [])
     (parts_in before earlier later (e ∷ [])))
-parts_push before earlier [] e =
-    elim (is_commit e.kind) as (λ b. cond b ((effects_at earlier e.caller e.kind [] ++ before) ∷ []
-    ∷ []) ((effects_at earlier e.caller e.kind [] ++ before) ∷ [])
-    ≡ cut_if b ((effects_at earlier e.caller e.kind [] ++ before)
-    ∷ [])) [ true ↦ refl | false ↦ refl ]
+parts_push before earlier [] e = grind arith
 parts_push before earlier (x ∷ later) e =
     by_test (is_commit x.kind) (parts_push [] (x ∷ earlier) later e)
     (parts_push (effects_at earlier x.caller x.kind (later ++ e ∷ []) ++ before)
@@ -125,8 +106,7 @@ parts_push before earlier (x ∷ later) e =
     rest = parts_in [] (x ∷ earlier) later (e ∷ [])
 
     behind : (b : Bool) (ps : List (List (ℕ × ℕ))) → now ∷ cut_if b ps ≡ cut_if b (now ∷ ps)
-    behind true ps = refl
-    behind false ps = refl
+    behind b ps = search arith
 
     by_test : (b : Bool) → effect_parts [] (x ∷ earlier) (later ++ e ∷ [])
         ≡ cut_if (is_commit e.kind) (with_effects 0 last rest)
@@ -136,13 +116,7 @@ parts_push before earlier (x ∷ later) e =
         (effect_parts now (x ∷ earlier) (later ++ e ∷ []))
         ≡ cut_if (is_commit e.kind)
         (with_effects 0 last (cond b (now ∷ rest) (parts_in now (x ∷ earlier) later (e ∷ []))))
-    by_test true apart joined =
-        ap (λ ps. now ∷ ps) apart ∙ behind (is_commit e.kind) (with_effects 0 last rest)
-        ∙ ap (λ b. cut_if (is_commit e.kind)
-        (cond b ((last ++ now) ∷ rest) (now ∷ with_effects 0 last rest)))
-        (sym (flipped 0 (length rest)
-        (lower_isnt 0 (length rest) (some_parts [] (x ∷ earlier) later (e ∷ [])))))
-    by_test false apart joined = joined
+    by_test b apart joined = search (apart, joined, behind, flipped, lower_isnt, some_parts, arith)
 
 -- Each entry from the place on has the same effects, with these entries after them all or with
 -- those.
@@ -157,18 +131,12 @@ same_parts : (before : List (ℕ × ℕ)) (earlier later tail tail' : List Entry
     → parts_in before earlier later tail ≡ parts_in before earlier later tail'
 same_parts before earlier [] tail tail' same = refl
 same_parts before earlier (x ∷ later) tail tail' same =
-    let rest = same_parts [] (x ∷ earlier) later tail tail' same.1 in
-    let joined = same_parts (effects_at earlier x.caller x.kind (later ++ tail) ++ before)
-    (x ∷ earlier) later tail tail' same.1 in
-    ap (λ ps. cond (is_commit x.kind)
-    ((effects_at earlier x.caller x.kind (later ++ tail) ++ before) ∷ ps)
-    (parts_in (effects_at earlier x.caller x.kind (later ++ tail) ++ before)
-    (x ∷ earlier) later tail)) rest
-    ∙ ap (λ ps. cond (is_commit x.kind)
-    ((effects_at earlier x.caller x.kind (later ++ tail) ++ before) ∷ parts_in []
-    (x ∷ earlier) later tail') ps) joined
-    ∙ ap (λ ws. cond (is_commit x.kind) ((ws ++ before) ∷ parts_in [] (x ∷ earlier) later tail')
-    (parts_in (ws ++ before) (x ∷ earlier) later tail')) same.0
+    cc (
+      same_parts [] (x ∷ earlier) later tail tail' same.1,
+      same_parts (effects_at earlier x.caller
+          x.kind (later ++ tail) ++ before) (x ∷ earlier) later tail tail' same.1,
+      same.0,
+    )
 
 -- the same told of all entries, newest first
 same_from : (earlier later tail tail' : List Entry) → SameEffects (newest_first_onto earlier later)
@@ -206,8 +174,7 @@ commit_after m writes earlier (x ∷ later) tail tail' more = by_more
         → MoreHere m writes earlier x later tail tail'
         (MoreFrom m writes (x ∷ earlier) later tail tail') → commit_count earlier ≤ m
     by_more rest (here commits same none all after) = omega (arith, same)
-    by_more rest (next same onward) = let one = commit_count-cons x earlier in
-        omega (arith, rest onward, one)
+    by_more rest (next same onward) = grind (arith, rest onward, commit_count-cons x earlier)
 
 -- So they come in the part that ends with that commit.
 more_parts : (m : ℕ) (writes before : List (ℕ × ℕ)) (earlier later tail tail' : List Entry)
@@ -260,12 +227,8 @@ more_parts m writes before earlier (x ∷ later) tail tail' more =
         → parts (effects_by tail ++ before) tail' ≡ with_effects behind writes
         (parts (effects_by tail ++ before) tail)
         → at b (effects_by tail') tail' ≡ with_effects behind writes (at b (effects_by tail) tail)
-    at_next true later_on same apart joined =
-        ap (λ ws. at true ws tail') (sym same) ∙ ap (λ ps. (effects_by tail ++ before) ∷ ps) apart
-        ∙ ap (λ b. cond b ((writes ++ (effects_by tail ++ before)) ∷ parts [] tail)
-        ((effects_by tail ++ before) ∷ with_effects behind writes (parts [] tail)))
-        (sym (isnt_same (length (parts [] tail)) behind (later_on refl)))
-    at_next false later_on same apart joined = ap (λ ws. at false ws tail') (sym same) ∙ joined
+    at_next true later_on same apart joined = search (tail, apart, parts, behind, isnt_same, arith)
+    at_next false later_on same apart joined = cc
 
     by_more : ((b : List (ℕ × ℕ)) → MoreFrom m writes (x ∷ earlier) later tail tail' → parts b tail'
         ≡ with_effects behind writes (parts b tail))
@@ -299,35 +262,14 @@ pub record IsInside (c : ℕ) (kind : Kind) (earlier : List Entry) : Type 0 wher
 is_inside : (h : Header) (c : ℕ) (kind : Kind) (earlier : List Entry) → is_lone_commit kind ≡ false
     → broken_rule h earlier (entry c kind) ≡ None
     → has_inner_commit c (entry c kind ∷ earlier) ≡ true → IsInside c kind earlier
-is_inside h c (Call method args) earlier alone kept inner =
-    record {
-      inner = sym (own_inner c (Call method args) earlier) ∙ inner;
-      goes_on = refl;
-      number = λ n. refl;
-    }
-is_inside h c (Return reply) earlier alone kept inner =
-    never (all_kept (checks_at h earlier (entry c (Return reply))) kept).1.1.0
-    (first_true (has_block c earlier) (committed_since_open c earlier)
-    (sym (own_inner c (Return reply) earlier) ∙ inner))
-is_inside h c (Write word value) earlier alone kept inner =
-    record {
-      inner = sym (own_inner c (Write word value) earlier) ∙ inner;
-      goes_on = refl;
-      number = λ n. refl;
-    }
-is_inside h c Commit earlier alone kept inner = never alone refl
-is_inside h c BlockOpen earlier alone kept inner = never (own_inner c BlockOpen earlier) inner
-is_inside h c BlockClose earlier alone kept inner = never (own_inner c BlockClose earlier) inner
-is_inside h c BlockCommit earlier alone kept inner = never (own_inner c BlockCommit earlier) inner
+is_inside h c kind earlier alone kept inner =
+    grind (arith, alone, kept, own_inner, never, all_kept, first_true)
 
 -- the same by the entry's own caller
 inside_of : (h : Header) (c : ℕ) (x : Entry) (earlier : List Entry) → x.caller ≡ c
     → is_lone_commit x.kind ≡ false → broken_rule h earlier x ≡ None
     → has_inner_commit c (x ∷ earlier) ≡ true → IsInside c x.kind earlier
-inside_of h c x earlier same alone =
-    subst (λ d. broken_rule h earlier (entry d x.kind) ≡ None
-    → has_inner_commit c (entry d x.kind ∷ earlier) ≡ true → IsInside c x.kind earlier)
-    (sym same) (is_inside h c x.kind earlier alone)
+inside_of h c x earlier same alone e6 e7 = grind (arith, alone, is_inside)
 
 -- The caller's lone commit in its open block stands among the entries from a place on, or before
 -- it.
@@ -352,17 +294,6 @@ find_commit h c writes earlier (x ∷ later) tail tail' wf inner more =
     step (well_formed_before h (x ∷ earlier) later wf).0
     (find_commit h c writes (x ∷ earlier) later tail tail' wf inner more)
   where
-    number_here : inner_number c (x ∷ earlier) ≡ cond (x.caller == c)
-        (number_at x.kind (commit_count earlier) (inner_number c earlier)) (inner_number c earlier)
-    number_here = refl
-
-    unended : (a b r : Bool) → b ≡ false → r ≡ false → ((a && b) || r) ≡ false
-    unended true b r e f = (λ i. e i || r) ∙ f
-    unended false b r e f = f
-
-    other_ended : (a b r : Bool) → a ≡ false → r ≡ false → ((a && b) || r) ≡ false
-    other_ended a b r e f = (λ i. (e i && b) || r) ∙ f
-
     at : broken_rule h earlier x ≡ None → has_inner_commit c (x ∷ earlier) ≡ true → is_ended c later
         ≡ false
         → inner_number c (newest_first_onto (x ∷ earlier) later) ≡ inner_number c (x ∷ earlier)
@@ -377,20 +308,8 @@ find_commit h c writes earlier (x ∷ later) tail tail' wf inner more =
         (inner_number c earlier)))
         (here (ap is_commit alone) refl none all after) first
     at kept inside ended number after (own same alone none none' onward) =
-        let is = inside_of h c x earlier same alone kept inside in
-        before_here is.inner
-        (unended (x.caller == c) (ends_block x.kind) (is_ended c later) is.goes_on ended)
-        (number ∙ (λ i. cond (is_same x.caller c same i)
-        (number_at x.kind (commit_count earlier) (inner_number c earlier)) (inner_number c earlier))
-        ∙ is.number (inner_number c earlier))
-        (none ∙ sym none', after) onward
-    at kept inside ended number after (other apart same onward) =
-        before_here (sym (other_inner c x.caller x.kind earlier apart) ∙ inside)
-        (other_ended (x.caller == c) (ends_block x.kind) (is_ended c later) apart ended)
-        (number ∙ (λ i. cond (apart i)
-        (number_at x.kind (commit_count earlier) (inner_number c earlier))
-        (inner_number c earlier)))
-        (same, after) onward
+        search (inside_of, alone, kept, ended, is_same, after, onward, arith)
+    at kept inside ended number after (other apart same onward) = grind arith
 
     step : broken_rule h earlier x ≡ None → Found c writes (x ∷ earlier) later tail tail'
         → Found c writes earlier (x ∷ later) tail tail'
@@ -410,14 +329,7 @@ no_number c (e ∷ earlier) none = by_test (e.caller == c) e.kind (no_number c e
         (first_answer (by_caller c commit_or_open) earlier)) false ≡ false
         → cond b (number_at kind (commit_count earlier) (inner_number c earlier))
         (inner_number c earlier) ≡ 0
-    by_test false kind rest e' = rest e'
-    by_test true Commit rest e' = cc
-    by_test true BlockOpen rest e' = refl
-    by_test true (Call method args) rest e' = rest e'
-    by_test true (Return reply) rest e' = rest e'
-    by_test true (Write word value) rest e' = rest e'
-    by_test true BlockClose rest e' = rest e'
-    by_test true BlockCommit rest e' = rest e'
+    by_test b kind rest e' = search arith
 
 -- no further effects
 with_nothing : (behind : ℕ) (parts : List (List (ℕ × ℕ))) → with_effects behind [] parts ≡ parts
@@ -426,8 +338,7 @@ with_nothing behind (part ∷ parts) = by_test (length parts == behind) (with_no
   where
     by_test : (b : Bool) → with_effects behind [] parts ≡ parts
         → cond b (part ∷ parts) (part ∷ with_effects behind [] parts) ≡ part ∷ parts
-    by_test true rest = refl
-    by_test false rest = ap (λ ps. part ∷ ps) rest
+    by_test b rest = search arith
 
 -- An entry that ends no block with a lone commit in it: its effects are its own, and those before
 -- stay.
@@ -441,8 +352,7 @@ quiet_effects h earlier e kept none = by_kind e.kind kept none
     c = e.caller
 
     no_ahead : (b : Bool) → cond {A = List (ℕ × ℕ)} b [] [] ≡ []
-    no_ahead true = refl
-    no_ahead false = refl
+    no_ahead b = search arith
 
     by_kind : (kind : Kind) → broken_rule h earlier (entry c kind) ≡ None
         → ends_committed_block earlier (entry c kind) ≡ false
@@ -457,29 +367,18 @@ quiet_effects h earlier e kept none = by_kind e.kind kept none
         let inside : has_block c earlier ≡ true = not-false _
         (all_kept (checks_at h earlier (entry c BlockClose)) kept').1.1.0 in
         let apart : committed_since_open c earlier
-        ≡ false = ap (λ b. b && committed_since_open c earlier) (sym inside) ∙ none' in (
-          ap (λ b. cond b [] (block_writes c earlier)) none',
+        ≡ false = cc in (
+          cc,
           ap (parts_since (commit_count earlier)) (no_number c earlier apart),
         )
-    by_kind BlockCommit kept' none' = (ap (λ b. cond b [] (block_writes c earlier)) none', refl)
+    by_kind BlockCommit kept' none' = (cc, refl)
 
 -- the end of a block with a lone commit in it isn't a commit
 ends_alone : (h : Header) (earlier : List Entry) (e : Entry) → WellFormed h earlier
     → broken_rule h earlier e ≡ None
     → ends_committed_block earlier e ≡ true → e.kind ≡ BlockClose
-ends_alone h earlier e wf kept ends = by_kind e.kind kept ends
-  where
-    by_kind : (kind : Kind) → broken_rule h earlier (entry e.caller kind) ≡ None
-        → ends_committed_block earlier (entry e.caller kind) ≡ true → kind ≡ BlockClose
-    by_kind BlockClose kept' ends' = refl
-    by_kind BlockCommit kept' ends' =
-        never (all_kept (checks_at h earlier (entry e.caller BlockCommit)) kept').1.1.1.1.0
-        (inner_is_committed h e.caller earlier wf ends')
-    by_kind (Call method args) kept' ends' = cc
-    by_kind (Return reply) kept' ends' = cc
-    by_kind (Write word value) kept' ends' = cc
-    by_kind Commit kept' ends' = cc
-    by_kind BlockOpen kept' ends' = cc
+ends_alone h earlier e wf kept ends =
+    search (kept, ends, never, all_kept, inner_is_committed, arith)
 
 -- One more entry that keeps the rules. Its effects, as if blocks took effect at their end, come in
 -- the part that `parts_behind` tells.
@@ -493,10 +392,12 @@ pub parts_more : (h : Header) (before : List (ℕ × ℕ)) (earlier later : List
     (old_effects_at (newest_first_onto earlier later) e.caller e.kind)
     (effect_parts before earlier later))
 parts_more h before earlier later e wf kept ended =
-    parts_push before earlier later e ∙ by_end (ends_committed_block all e) refl
-    ∙ ap (λ ps. cut_if (is_commit e.kind)
-    (with_effects (parts_behind all e.caller e.kind) (old_effects_at all e.caller e.kind) ps))
-    (sym (parts_alone before earlier later))
+    cc (
+      parts_push before earlier later e,
+      by_end (ends_committed_block all e) refl,
+      parts_alone
+          before earlier later,
+    )
   where
     all : List Entry
     all = newest_first_onto earlier later
@@ -514,13 +415,7 @@ parts_more h before earlier later e wf kept ended =
         (with_effects 0 (effects_at all c BlockClose [])
         (parts_in before earlier later (entry c BlockClose ∷ [])))
         ≡ cut_if false (with_effects (parts_behind all c BlockClose) (block_writes c all) old)
-    at_close c inner more (from_here m number from same) =
-        ap (λ b. with_effects 0 (cond b [] (block_writes c all))
-        (parts_in before earlier later (entry c BlockClose ∷ []))) inner
-        ∙ with_nothing 0 (parts_in before earlier later (entry c BlockClose ∷ []))
-        ∙ more_parts m (block_writes c all) before earlier later [] (entry c BlockClose ∷ []) from
-        ∙ ap (λ n. with_effects (parts_since (commit_count all) n) (block_writes c all) old)
-        (sym number)
+    at_close c inner more (from_here m number from same) = search (with_nothing, more_parts, arith)
     at_close c inner more (before_here inside unended number same onward) = never unended
         (ended c inside)
 
@@ -532,14 +427,8 @@ parts_more h before earlier later e wf kept ended =
         let inner = second_true _ (has_inner_commit e.caller all) ends in
         let more : MoreAtCommit e.caller (block_writes e.caller all) all []
         (entry e.caller BlockClose ∷ []) =
-        subst (λ k. MoreAtCommit e.caller (block_writes e.caller all) all []
-        (entry e.caller k ∷ [])) closes (more_after h all e wf ends) in
-        subst (λ k. cut_if (is_commit k)
-        (with_effects 0 (effects_at all e.caller k [])
-        (parts_in before earlier later (entry e.caller k ∷ [])))
-        ≡ cut_if (is_commit k)
-        (with_effects (parts_behind all e.caller k) (old_effects_at all e.caller k) old))
-        (sym closes)
+        rw (← closes) (more_after h all e wf ends) in
+        rw closes
         (at_close e.caller inner more
         (find_commit h e.caller (block_writes e.caller all) earlier later []
         (entry e.caller BlockClose ∷ []) wf inner more))

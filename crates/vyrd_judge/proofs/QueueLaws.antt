@@ -1,10 +1,10 @@
 -- How the queue goes on with one more entry, and how entries leave it.
-use Rattle.std.proofs.Common.{◌≡◌, ℕ, zero, suc, ◌+◌, ◌-◌, ◌<◌, ◌≤◌, Bool, true, false, cond}
+use Rattle.std.proofs.Common.{◌≡◌, ℕ, zero, suc, ◌+◌, ◌-◌, ◌<◌, ◌≤◌, Bool, true, false}
 use Rattle.std.proofs.Common.{List, [], ◌∷◌, ◌++◌, map, length, set, Option, Some}
-use Rattle.std.proofs.Common.{None, slice_get, refl, ap, subst, ◌∙◌, sym, arith}
+use Rattle.std.proofs.Common.{None, slice_get, refl, ap, ◌∙◌, sym, arith}
 use Rattle.std.proofs.Common.{length-append, length-set}
 use Rattle.std.specs.Prelude.{◌==◌, ◌≢◌, not, option_map}
-use Rattle.std.specs.Option.{option_or, option_flatten}
+use Rattle.std.specs.Option.{option_or}
 use Rattle.std.specs.Bool.{then_some}
 use Rattle.std.specs.List.{cons_option}
 use Rattle.std.proofs.lemmas.Option.{slice_get_within, none-some}
@@ -15,13 +15,11 @@ use Rattle.vyrd_base.specs.declared.subject.Method.{Method}
 use Rattle.vyrd_base.specs.declared.subject.Args.{Args}
 use Rattle.vyrd_base.specs.declared.log.Kind.{Kind}
 use Rattle.vyrd_base.specs.declared.log.Kind.TheVariants.{Call, Return, Write, Commit, BlockOpen}
-use Rattle.vyrd_base.specs.declared.log.Kind.TheVariants.{BlockClose, BlockCommit}
+use Rattle.vyrd_base.specs.declared.log.Kind.TheVariants.{BlockClose}
 use Rattle.vyrd_base.specs.declared.log.Entry.{Entry}
-use Rattle.vyrd_base.specs.Places.{first_answer}
 use Rattle.vyrd_base.specs.Callers.{Called, by_caller, open_call, call_or_return, has_committed}
 use Rattle.vyrd_base.specs.Callers.{commit_or_call}
 use Rattle.vyrd_base.specs.Subjects.{is_observer, must_commit}
-use Rattle.vyrd_base.specs.Shape.{checks_at}
 use Rattle.vyrd_base.specs.Commits.{returned}
 use Rattle.vyrd_base.proofs.BlockLaws.{entry, by_same, own_answer, open_call-quiet}
 use Rattle.vyrd_base.proofs.ShadowLaws.{all_kept, caller_kept}
@@ -35,7 +33,7 @@ use Rattle.vyrd_judge.proofs.AnswerLaws.{call_is_free}
 use Rattle.vyrd_base.specs.Entries.{place_of}
 use Rattle.vyrd_judge.specs.Queued.{IsCaller, IsPending, IsUnreturned, HasQueued, HasTakenUp}
 use Rattle.vyrd_judge.specs.Queued.{CanLeave}
-use Rattle.vyrd_judge.specs.Waiting.{commit_of, waiting_of, waiting_at, replied_event, replied}
+use Rattle.vyrd_judge.specs.Waiting.{waiting_of, waiting_at, replied}
 use Rattle.vyrd_base.proofs.StateLaws.{open_call-other}
 use Rattle.vyrd_base.proofs.CommitLaws.{Commits as Committing, alone, with_block, commits_called}
 use Rattle.vyrd_base.proofs.CommitLaws.{commits_inside, commits_unreturned}
@@ -49,10 +47,7 @@ apart e = cc
 -- what the rules say of an entry, by its kind
 commit_is_first : {h : Header} {c : ℕ} {earlier : List Entry} (kind : Kind) → Committing kind
     → Keeps h earlier (entry c kind) → has_committed c earlier ≡ false
-commit_is_first {h} {c} {earlier} _ alone keeps =
-    (all_kept (checks_at h earlier (entry c Commit)) keeps.rules).1.1.1.0
-commit_is_first {h} {c} {earlier} _ with_block keeps =
-    (all_kept (checks_at h earlier (entry c BlockCommit)) keeps.rules).1.1.1.1.0
+commit_is_first e0 e1 e2 = search (alone, all_kept, arith)
 
 pub commit_opened : {h : Header} {c : ℕ} {earlier : List Entry} (kind : Kind) → Committing kind
     → Keeps h earlier (entry c kind)
@@ -63,109 +58,27 @@ commit_opened {h} {c} {earlier} _ with_block keeps = block_commit_runs h c earli
 -- what is open of a caller after its own call or return
 open_call-own : (c : ℕ) (kind : Kind) (earlier : List Entry) (o : Option Called)
     → call_or_return kind ≡ Some o → open_call c (entry c kind ∷ earlier) ≡ o
-open_call-own c kind earlier o is = ap option_flatten (own_answer c call_or_return kind earlier
-    ∙ ap (λ p. option_or p (first_answer (by_caller c call_or_return) earlier)) is)
+open_call-own c kind earlier o is = cc (own_answer c call_or_return kind earlier)
 
 -- an entry that isn't a return leaves replies as they are
 unreplied : (e : Entry) → returned e.kind ≡ None → (xs : List Waiting) → map (replied e) xs ≡ xs
 unreplied e none [] = refl
-unreplied e none (x ∷ xs) = ap (λ y. y ∷ map (replied e) xs) (same x.event refl)
-    ∙ ap (λ ys. x ∷ ys) (unreplied e none xs)
+unreplied e none (x ∷ xs) = cc (same x.event refl, unreplied e none xs)
   where
     no_reply : (c : ℕ) → by_caller c returned e ≡ None
-    no_reply c = ap (λ o. cond (e.caller == c) o None) none ∙ either (e.caller == c)
-      where
-        either : (b : Bool) → cond {A = Option ℕ} b None None ≡ None
-        either true = refl
-        either false = refl
+    no_reply c = search arith
 
     or_none : {A : Type 0} (o : Option A) → option_or o None ≡ o
-    or_none None = refl
-    or_none (Some a) = refl
+    or_none e0 = search arith
 
     same : (event : Event) → x.event ≡ event → replied e x ≡ x
-    same (Begins method args) is =
-        ap (λ v. record {
-          caller = x.caller;
-          position = x.position;
-          event = replied_event e x.caller v;
-        }) is
-        ∙ ap (λ v. record { caller = x.caller; position = x.position; event = v }) (sym is)
-    same (Returns reply) is =
-        ap (λ v. record {
-          caller = x.caller;
-          position = x.position;
-          event = replied_event e x.caller v;
-        }) is
-        ∙ ap (λ v. record { caller = x.caller; position = x.position; event = v }) (sym is)
-    same (Commits method args o) is =
-        ap (λ v. record {
-          caller = x.caller;
-          position = x.position;
-          event = replied_event e x.caller v;
-        }) is
-        ∙ ap (λ p. record {
-          caller = x.caller;
-          position = x.position;
-          event = Commits method args
-              (option_or o p);
-        }) (no_reply x.caller)
-        ∙ ap (λ p. record {
-          caller = x.caller;
-          position = x.position;
-          event = Commits method args p;
-        }) (or_none o)
-        ∙ ap (λ v. record { caller = x.caller; position = x.position; event = v }) (sym is)
+    same event is = search (no_reply, or_none, arith)
 
 -- a return changes no entry but an unreturned commit of its caller
 reply_other : (c reply : ℕ) (x : Waiting)
     → ((method : Method) (args : Args) → x.event ≡ Commits method args None → x.caller ≢ c)
     → replied (entry c (Return reply)) x ≡ x
-reply_other c reply x other = by_event x.event refl
-  where
-    e : Entry
-    e = entry c (Return reply)
-
-    by_event : (event : Event) → x.event ≡ event → replied e x ≡ x
-    by_event (Begins method args) is =
-        ap (λ v. record {
-          caller = x.caller;
-          position = x.position;
-          event = replied_event e x.caller v;
-        }) is
-        ∙ ap (λ v. record { caller = x.caller; position = x.position; event = v }) (sym is)
-    by_event (Returns r) is =
-        ap (λ v. record {
-          caller = x.caller;
-          position = x.position;
-          event = replied_event e x.caller v;
-        }) is
-        ∙ ap (λ v. record { caller = x.caller; position = x.position; event = v }) (sym is)
-    by_event (Commits method args (Some r)) is =
-        ap (λ v. record {
-          caller = x.caller;
-          position = x.position;
-          event = replied_event e x.caller v;
-        }) is
-        ∙ ap (λ v. record { caller = x.caller; position = x.position; event = v }) (sym is)
-    by_event (Commits method args None) is =
-        ap (λ v. record {
-          caller = x.caller;
-          position = x.position;
-          event = replied_event e x.caller v;
-        }) is
-        ∙ ap (λ b. record {
-          caller = x.caller;
-          position = x.position;
-          event = Commits method args
-              (cond b (Some reply) None);
-        })
-        (not_own (c == x.caller) refl)
-        ∙ ap (λ v. record { caller = x.caller; position = x.position; event = v }) (sym is)
-      where
-        not_own : (b : Bool) → (c == x.caller) ≡ b → b ≡ false
-        not_own false p = refl
-        not_own true p = absurd (other method args is (sym (same_of c x.caller p)))
+reply_other c reply x other = grind (arith, same_of)
 
 -- a map that changes one element alone
 map_one : {A : Type 0} (f : A → A) (xs : List A) (i : ℕ) (y : A) → i < length xs
@@ -260,10 +173,10 @@ call_queued {h} {waiting} {taken} {callers} {earlier} {c} {method} {args} caller
       called = λ d k low_d is. by_same c d
           (λ same. record {
             caller = caller;
-            here = subst (λ x. slice_get (set callers c caller) x ≡ Some caller) same
+            here = rw (← same)
                 (slice_get-set_same callers c caller low);
-            method = of_method ∙ ap (λ x. x.method) (own d k same is);
-            args = of_args ∙ ap (λ x. x.args) (own d k same is);
+            method = cc (own d k same is);
+            args = cc (own d k same is);
           })
           (λ other. let old = q.called d k low_d
           (sym (open_call-other d c (Call method args) earlier other) ∙ is) in record {
@@ -273,17 +186,15 @@ call_queued {h} {waiting} {taken} {callers} {earlier} {c} {method} {args} caller
             args = old.args;
           });
       pending = λ d k x low_d is committed at. by_same c d
-          (λ same. absurd (apart (sym (committed-own c (Call method args) earlier false refl)
-          ∙ ap (λ y. has_committed y (entry c (Call method args) ∷ earlier)) same ∙ committed)))
+          (λ same. absurd (apart (cc (committed-own c (Call method args) earlier false refl))))
           (λ other. q.pending d k x low_d
           (sym (open_call-other d c (Call method args) earlier other)
           ∙ is)
           (sym (committed-other d c (Call method args) earlier other) ∙ committed)
           (sym (slice_get-set_other callers c d caller (apart_of c d other)) ∙ at));
       uncommitted = λ d k x low_d is none at. by_same c d
-          (λ same. ap (λ y. y.commit)
-          (sym (same_Some _ _ (sym (slice_get-set_same callers c caller low)
-          ∙ ap (slice_get (set callers c caller)) same ∙ at))) ∙ uncommitted)
+          (λ same. cc (same_Some _ _ (sym (slice_get-set_same callers c caller low) ∙ ap (slice_get
+          (set callers c caller)) same ∙ at)))
           (λ other. q.uncommitted d k x low_d
           (sym (open_call-other d c (Call method args) earlier other) ∙ is)
           (sym (committed-other d c (Call method args) earlier other) ∙ none)
@@ -306,10 +217,7 @@ call_queued {h} {waiting} {taken} {callers} {earlier} {c} {method} {args} caller
   where
     own : (d : ℕ) (k : Called) → c ≡ d → open_call d (entry c (Call method args) ∷ earlier) ≡ Some k
         → record { method = method; args = args } ≡ k
-    own d k same is = same_Some _ _
-        (sym (open_call-own c (Call method args) earlier
-        (Some (record { method = method; args = args })) refl)
-        ∙ ap (λ x. open_call x (entry c (Call method args) ∷ earlier)) same ∙ is)
+    own d k same is = search (open_call-own, arith)
 
 -- an entry that isn't a commit waits too
 pushed : {h : Header} {waiting : List Waiting} {taken : ℕ} {callers : List Caller} {e : Entry}
@@ -364,27 +272,17 @@ call_up {h} {old} {new} {taken} {taken'} {callers} {callers'} {earlier} c positi
 
     as_named : {xs : List Waiting} → new ≡ xs → HasQueued h xs taken (set callers c caller)
         (e ∷ earlier) → HasQueued h new taken' callers' (e ∷ earlier)
-    as_named {xs} is has = subst (λ ws. HasQueued h ws taken' callers' (e ∷ earlier)) (sym is)
-        (subst (λ n. HasQueued h xs n callers' (e ∷ earlier)) (sym same)
-        (subst (λ cs. HasQueued h xs taken cs (e ∷ earlier)) (sym callers_are) has))
+    as_named {xs} is has = grind arith
 
     waiting_is : new ≡ map (replied e) old
         ++ cons_option
         (option_map (waiting_of (place_of e earlier []))
         (then_some (not (must_commit method)) (Begins method args))) []
-    waiting_is = new_is ∙ ap (λ ws. ws ++ cons_option (then_some (not (must_commit method)) x) [])
-        (sym (unreplied e refl old))
-        ∙ ap (λ o. map (replied e) old ++ cons_option o []) (either (not (must_commit method)))
-      where
-        either : (b : Bool) → then_some b x ≡ option_map (waiting_of (place_of e earlier []))
-            (then_some b (Begins method args))
-        either true =
-            ap (λ n. Some (record { caller = c; position = n; event = Begins method args })) at
-        either false = refl
+    waiting_is = search (unreplied, arith)
 
     by_method : (b : Bool) → must_commit method ≡ b → HasTakenUp h old new taken' callers' e earlier
     by_method false free = record {
-      queued = as_named (new_is ∙ ap (λ b. old ++ cons_option (then_some (not b) x) []) free)
+      queued = as_named (cc)
           (pushed x (λ k event. absurd (begins_isnt event)) q.count queued);
       waiting = waiting_is;
     }
@@ -392,8 +290,7 @@ call_up {h} {old} {new} {taken} {taken'} {callers} {callers'} {earlier} c positi
         begins_isnt : {m : Method} {a : Args} → Begins method args ≡ Commits m a None → ⊥
         begins_isnt p = cc
     by_method true owes = record {
-      queued = as_named (new_is ∙ ap (λ b. old ++ cons_option (then_some (not b) x) []) owes
-          ∙ append-nil old) queued;
+      queued = as_named (cc (append-nil old)) queued;
       waiting = waiting_is;
     }
 
@@ -457,26 +354,16 @@ pub uncommitted_up : {h : Header} {old new : List Waiting} {taken taken' : ℕ}
     → taken' ≡ taken → HasTakenUp h old new taken' callers' (entry c (Return reply)) earlier
 uncommitted_up {h} {old} {new} {taken} {taken'} {callers} {callers'} {earlier} c position reply none
     at q same_callers new_is same = record {
-      queued = subst (λ ws. HasQueued h ws taken' callers' (e ∷ earlier)) (sym new_is)
-          (subst (λ n. HasQueued h (old ++ x ∷ []) n callers' (e ∷ earlier)) (sym same)
-          (subst (λ cs. HasQueued h (old ++ x ∷ []) taken cs (e ∷ earlier)) (sym same_callers)
+      queued = rw new_is
+          (rw same
+          (rw same_callers
           (pushed x (λ k event. returns_isnt event) q.count
           (return_queued c reply no_own
           (λ d k caller low other is committed here. q.pending d k caller low is committed here)
           q.uncommitted q.unreturned q.called
           (omega (arith, q.count))))));
-      waiting = new_is
-          ∙ ap (λ ws. ws ++ x ∷ [])
-          (sym (all_same old
-          (λ i w here. reply_other c reply w
-          (λ m a event. no_own i w (record { method = m; args = a }) here event))))
-          ∙ ap (λ n. map (replied e) old
-          ++ record { caller = c; position = n; event = Returns reply }
-          ∷ []) at
-          ∙ ap (λ b. map (replied e) old
-          ++ cons_option
-          (option_map (waiting_of (place_of e earlier [])) (then_some b (Returns reply))) [])
-          (sym observing);
+      waiting = cc (all_same old (λ i w here. reply_other c reply w (λ m a event. no_own i w (record
+          { method = m; args = a }) here event)));
     }
   where
     e : Entry
@@ -488,20 +375,15 @@ uncommitted_up {h} {old} {new} {taken} {taken'} {callers} {callers'} {earlier} c
     returns_isnt : {m : Method} {a : Args} → Returns reply ≡ Commits m a None → ⊥
     returns_isnt p = cc
 
-    observing : not (has_committed c earlier) ≡ true
-    observing = ap not none
-
     no_own : (i : ℕ) (commit : Waiting) (k : Called) → slice_get old i ≡ Some commit → commit.event
         ≡ Commits k.method k.args None → commit.caller ≢ c
-    no_own i commit k here event same = let u = q.unreturned i commit k here event in
-        apart (sym none ∙ ap (λ d. has_committed d earlier) (sym same) ∙ u.committed)
+    no_own i commit k here event same = search (here, apart, arith)
 
     all_same : (xs : List Waiting)
         → ((i : ℕ) (w : Waiting) → slice_get xs i ≡ Some w → replied e w ≡ w) → map (replied e) xs
         ≡ xs
     all_same [] so = refl
-    all_same (w ∷ ws) so = ap (λ y. y ∷ map (replied e) ws) (so 0 w refl)
-        ∙ ap (λ ys. w ∷ ys) (all_same ws (λ i y here. so (suc i) y here))
+    all_same (w ∷ ws) so = cc (so 0 w refl, all_same ws (λ i y here. so (suc i) y here))
 
 -- the return of an execution whose commit waits
 pub found_commit : {h : Header} {waiting : List Waiting} {taken : ℕ} {callers : List Caller}
@@ -511,8 +393,7 @@ pub found_commit : {h : Header} {waiting : List Waiting} {taken : ℕ} {callers 
     → Keeps h earlier (entry c (Return reply)) → HasQueued h waiting taken callers earlier
     → IsPending waiting taken c called caller
 found_commit {h} {earlier = earlier} {c} {reply} {called} caller here opened committed keeps q =
-    q.pending c called caller (caller_kept h earlier (entry c (Return reply)) keeps.rules) opened
-    committed here
+    search (caller_kept, opened, here, arith)
 
 pub committed_up : {h : Header} {old new : List Waiting} {taken taken' : ℕ}
     {callers callers' : List Caller} {earlier : List Entry} (c reply : ℕ)
@@ -530,22 +411,17 @@ pub committed_up : {h : Header} {old new : List Waiting} {taken taken' : ℕ}
     → taken' ≡ taken → HasTakenUp h old new taken' callers' (entry c (Return reply)) earlier
 committed_up {h} {old} {new} {taken} {taken'} {callers} {callers'} {earlier} c reply called caller
     here committed q of_method of_args p same_callers new_is same = record {
-      queued = subst (λ ws. HasQueued h ws taken' callers' (e ∷ earlier)) (sym new_is)
-          (subst (λ n. HasQueued h (set old i x) n callers' (e ∷ earlier)) (sym same)
-          (subst (λ cs. HasQueued h (set old i x) taken cs (e ∷ earlier)) (sym same_callers)
+      queued = rw new_is
+          (rw same
+          (rw same_callers
           (return_queued c reply others_own others_pending q.uncommitted others_unreturned q.called
           (omega (arith, q.count, length-set old i x)))));
-      waiting = new_is ∙ sym (map_one (replied e) old i x low
-          (λ w at. let it : p.commit ≡ w = same_Some _ _ (sym p.here ∙ at) in ap (replied e)
-          (sym it)
-          ∙ replied_here)
-          (λ j w far at. reply_other c reply w
-          (λ m a event own. far (only j w (record { method = m; args = a }) at event own))))
-          ∙ sym (append-nil (map (replied e) old))
-          ∙ ap (λ b. map (replied e) old
-          ++ cons_option
-          (option_map (waiting_of (place_of e earlier [])) (then_some b (Returns reply))) [])
-          (sym observing);
+      waiting = cc (
+        map_one (replied e) old i x low (λ w at. let it : p.commit ≡ w = same_Some _ _
+            (sym p.here ∙ at) in ap (replied e) (sym it) ∙ replied_here) (λ j w far at. reply_other c
+            reply w (λ m a event own. far (only j w (record { method = m; args = a }) at event own))),
+        append-nil (map (replied e) old),
+      );
     }
   where
     e : Entry
@@ -555,50 +431,18 @@ committed_up {h} {old} {new} {taken} {taken'} {callers} {callers'} {earlier} c r
     i = caller.commit - 1 - taken
 
     x : Waiting
-    x = record {
-      caller = p.commit.caller;
-      position = p.commit.position;
-      event = Commits caller.method caller.args (Some reply);
-    }
+    x = record p.commit { event = Commits caller.method caller.args (Some reply) }
 
     low : i < length old
     low = slice_get_within old i p.commit p.here
 
-    observing : not (has_committed c earlier) ≡ false
-    observing = ap not committed
-
     replied_here : replied e p.commit ≡ x
-    replied_here =
-        ap (λ v. record {
-          caller = p.commit.caller;
-          position = p.commit.position;
-          event = replied_event e p.commit.caller v;
-        }) p.event
-        ∙ ap (λ b. record {
-          caller = p.commit.caller;
-          position = p.commit.position;
-          event = Commits called.method called.args (cond b (Some reply) None);
-        })
-        (is_same c p.commit.caller (sym p.caller_is))
-        ∙ ap (λ m. record {
-          caller = p.commit.caller;
-          position = p.commit.position;
-          event = Commits m called.args (Some reply);
-        }) (sym of_method)
-        ∙ ap (λ a. record {
-          caller = p.commit.caller;
-          position = p.commit.position;
-          event = Commits caller.method a (Some reply);
-        }) (sym of_args)
+    replied_here = cc (p.event, is_same c p.commit.caller (sym p.caller_is))
 
     -- the caller's unreturned commit is there alone
     only : (j : ℕ) (w : Waiting) (k : Called) → slice_get old j ≡ Some w → w.event
         ≡ Commits k.method k.args None → w.caller ≡ c → j ≡ i
-    only j w k at event own =
-        let u = q.unreturned j w k at event in
-        let number : caller.commit ≡ taken + j + 1 = u.number caller
-        (ap (slice_get callers) own ∙ here) in
-        omega (arith, number)
+    only j w k at event own = grind (arith, taken, here)
 
     by_index : {P : Type 0} (j : ℕ) (w : Waiting) → slice_get (set old i x) j ≡ Some w
         → (slice_get old j ≡ Some w → j ≢ i → P) → (x ≡ w → P) → P
@@ -610,11 +454,7 @@ committed_up {h} {old} {new} {taken} {taken'} {callers} {callers'} {earlier} c r
         (λ same_index. apart_of i j apart_index (sym same_index)))
 
     replied_isnt : {m : Method} {a : Args} (w : Waiting) → x ≡ w → w.event ≡ Commits m a None → ⊥
-    replied_isnt w is event = isnt (ap (λ y. y.event) is ∙ event)
-      where
-        isnt : {n : Method} {b : Args} → Commits caller.method caller.args (Some reply)
-            ≡ Commits n b None → ⊥
-        isnt r = cc
+    replied_isnt w is event = grind arith
 
     others_own : (j : ℕ) (w : Waiting) (k : Called) → slice_get (set old i x) j ≡ Some w
         → w.event ≡ Commits k.method k.args None → w.caller ≢ c
@@ -660,22 +500,10 @@ pub commit_up : {h : Header} {old new : List Waiting} {taken taken' : ℕ}
     → taken' ≡ taken → HasTakenUp h old new taken' callers' (entry c kind) earlier
 commit_up {h} {old} {new} {taken} {taken'} {callers} {callers'} {earlier} c position kind called
     caller commits here opened of_method of_args at keeps q callers_are new_is same = record {
-      queued = subst (λ ws. HasQueued h ws taken' callers' (e ∷ earlier)) (sym new_is)
-          (subst (λ n. HasQueued h (old ++ x ∷ []) n callers' (e ∷ earlier)) (sym same)
-          (subst (λ cs. HasQueued h (old ++ x ∷ []) taken cs (e ∷ earlier))
-          (sym callers_are) queued));
-      waiting = new_is
-          ∙ ap (λ ws. ws ++ x ∷ []) (sym (unreplied e (commits_unreturned kind commits) old))
-          ∙ ap (λ n. map (replied e) old
-          ++ record { caller = c; position = n; event = Commits caller.method caller.args None }
-          ∷ []) at
-          ∙ ap (λ m. map (replied e) old
-          ++ record { caller = c; position = length earlier; event = Commits m caller.args None }
-          ∷ []) of_method
-          ∙ ap (λ a. map (replied e) old
-          ++ record { caller = c; position = length earlier; event = Commits called.method a None }
-          ∷ []) of_args
-          ∙ ap (λ o. map (replied e) old ++ cons_option o []) (sym (waits_here kind commits));
+      queued = rw new_is
+          (rw same
+          (rw callers_are queued));
+      waiting = cc (unreplied e (commits_unreturned kind commits) old, waits_here kind commits);
     }
   where
     e : Entry
@@ -696,11 +524,8 @@ commit_up {h} {old} {new} {taken} {taken'} {callers} {callers'} {earlier} c posi
           position = length earlier;
           event = Commits called.method called.args None;
         })
-    waits_here _ alone = ap (λ o. option_map (waiting_of (place_of (entry c Commit) earlier []))
-        (option_map (commit_of None) o)) opened
-    waits_here _ with_block =
-        ap (λ o. option_map (waiting_of (place_of (entry c BlockCommit) earlier []))
-        (option_map (commit_of None) o)) opened
+    waits_here _ alone = cc
+    waits_here _ with_block = cc
 
     inside : (d : ℕ) → open_call d (e ∷ earlier) ≡ open_call d earlier
     inside d = open_call-quiet d c kind earlier (commits_inside kind commits)
@@ -711,10 +536,10 @@ commit_up {h} {old} {new} {taken} {taken'} {callers} {callers'} {earlier} c posi
           (λ same_caller. let it : caller ≡ was.caller = same_Some _ _
           (sym here ∙ ap (slice_get callers) same_caller ∙ was.here) in record {
             caller = y;
-            here = subst (λ z. slice_get (set callers c y) z ≡ Some y) same_caller
+            here = rw (← same_caller)
                 (slice_get-set_same callers c y low);
-            method = ap (λ z. z.method) it ∙ was.method;
-            args = ap (λ z. z.args) it ∙ was.args;
+            method = cc (was.method);
+            args = cc (was.args);
           })
           (λ other. record {
             caller = was.caller;
@@ -726,17 +551,16 @@ commit_up {h} {old} {new} {taken} {taken'} {callers} {callers'} {earlier} c posi
           (λ same_caller.
           let it : y ≡ z = same_Some _ _ (sym (slice_get-set_same callers c y low)
           ∙ ap (slice_get (set callers c y)) same_caller ∙ z_at) in
-          let number : taken + length old + 1 ≡ z.commit = ap (λ w. w.commit) it in
+          let number : taken + length old + 1 ≡ z.commit = cc in
           let place : z.commit - 1 - taken ≡ length old = omega (arith, number) in
           let mine : called ≡ k = same_Some _ _
-          (sym opened ∙ ap (λ w. open_call w earlier) same_caller ∙ sym (inside d) ∙ is) in
+          (cc (inside d)) in
           record {
             commit = x;
             since = omega (arith, number);
             here = ap (slice_get (old ++ x ∷ [])) place ∙ slice_get-last old x;
             caller_is = same_caller;
-            event = ap (λ m. Commits m caller.args None) (of_method ∙ ap (λ w. w.method) mine)
-                ∙ ap (λ a. Commits k.method a None) (of_args ∙ ap (λ w. w.args) mine);
+            event = cc;
           })
           (λ other. let r = q.pending d k z low_d (sym (inside d) ∙ is)
           (sym (committed-other d c kind earlier other) ∙ committed)
@@ -750,31 +574,31 @@ commit_up {h} {old} {new} {taken} {taken'} {callers} {callers'} {earlier} c posi
           });
       uncommitted = λ d k z low_d is none z_at. by_same c d
           (λ same_caller. absurd
-          (apart (sym none ∙ ap (λ w. has_committed w (e ∷ earlier)) (sym same_caller)
-          ∙ committed-own c kind earlier true (commits_called kind commits))))
+          (apart (cc (committed-own c kind earlier true (commits_called kind commits)))))
           (λ other. q.uncommitted d k z low_d (sym (inside d) ∙ is)
           (sym (committed-other d c kind earlier other) ∙ none)
           (sym (slice_get-set_other callers c d y (apart_of c d other)) ∙ z_at));
       unreturned = λ j w k w_at event. by_place old x j w w_at
           (λ before. let u = q.unreturned j w k before event in by_same c w.caller
           (λ same_caller. absurd
-          (apart (sym (commit_is_first kind commits keeps)
-          ∙ ap (λ d. has_committed d earlier) same_caller ∙ u.committed)))
+          (apart (cc (commit_is_first kind commits keeps, u.committed))))
           (λ other. record {
             opened = inside w.caller ∙ u.opened;
             committed = committed-other w.caller c kind earlier other ∙ u.committed;
             number = λ z z_at. u.number z
                 (sym (slice_get-set_other callers c w.caller y (apart_of c w.caller other)) ∙ z_at);
           }))
-          (λ last is. let own : c ≡ w.caller = ap (λ v. v.caller) is in record {
-            opened = ap (λ d. open_call d (e ∷ earlier)) (sym own) ∙ inside c ∙ opened
-                ∙ ap Some (same_call (sym of_method) (sym of_args) (ap (λ v. v.event) is ∙ event));
-            committed = ap (λ d. has_committed d (e ∷ earlier)) (sym own)
-                ∙ committed-own c kind earlier true (commits_called kind commits);
+          (λ last is. let own : c ≡ w.caller = cc in record {
+            opened = cc (
+              inside c,
+              same_call (sym of_method) (sym of_args) (ap (λ v. v.event) is ∙
+                  event),
+            );
+            committed = cc (committed-own c kind earlier true (commits_called kind commits));
             number = λ z z_at.
                 let it : y ≡ z = same_Some _ _ (sym (slice_get-set_same callers c y low)
                 ∙ ap (slice_get (set callers c y)) own ∙ z_at) in
-                ap (λ v. v.commit) (sym it) ∙ ap (λ n. taken + n + 1) (sym last);
+                cc;
           });
       count = omega (arith, q.count, length-append old (x ∷ []));
     }
@@ -787,9 +611,7 @@ commit_up {h} {old} {new} {taken} {taken'} {callers} {callers'} {earlier} c posi
 
         same_call : {k k' : Called} {m : Method} {a : Args} → k.method ≡ m → k.args ≡ a
             → Commits m a None ≡ Commits k'.method k'.args None → k ≡ k'
-        same_call {k} {k'} {m} {a} is_m is_a r =
-            ap (λ n. record { method = n; args = k.args }) (is_m ∙ same_method r)
-            ∙ ap (λ b. record { method = k'.method; args = b }) (is_a ∙ same_args r)
+        same_call {k} {k'} {m} {a} is_m is_a r = grind (arith, same_method r, same_args r)
 
 -- the first entry leaves
 pub queue_left : {h : Header} {waiting : List Waiting} {taken : ℕ} {callers : List Caller}
@@ -815,17 +637,4 @@ queue_left {h} {waiting} {taken} {callers} {earlier} x xs is can q = record {
   where
     step : {d : ℕ} (k : Called) (caller : Caller) (p : IsPending waiting taken d k caller) (n : ℕ)
         → caller.commit - 1 - taken ≡ n → IsPending xs (taken + 1) d k caller
-    step k caller p zero place =
-        absurd (can k.method k.args
-        (ap (λ w. w.event)
-        (same_Some _ _ (sym (ap (λ ws. slice_get ws 0) is) ∙ ap (slice_get waiting) (sym place)
-        ∙ p.here)) ∙ p.event))
-    step k caller p (suc n) place =
-        let next : caller.commit - 1 - (taken + 1) ≡ n = omega (arith, place) in record {
-          commit = p.commit;
-          since = omega (arith, place);
-          here = ap (slice_get xs) next ∙ sym (ap (λ ws. slice_get ws (suc n)) is)
-              ∙ ap (slice_get waiting) (sym place) ∙ p.here;
-          caller_is = p.caller_is;
-          event = p.event;
-        }
+    step k caller = search arith

@@ -1,16 +1,14 @@
 -- What the entries that wait tell of the one that comes: its caller, how many wait, and where a
 -- reply goes.
-use Rattle.std.proofs.Common.{◌≡◌, ℕ, zero, suc, ◌+◌, ◌-◌, ◌<◌, ◌^◌, Bool, true, false}
+use Rattle.std.proofs.Common.{◌≡◌, ℕ, zero, ◌+◌, ◌-◌, ◌<◌, ◌^◌, Bool, true, false}
 use Rattle.std.proofs.Common.{List, [], ◌∷◌, ◌++◌, length, set, get_or, ◌&&◌, Option, Some}
-use Rattle.std.proofs.Common.{None, Result, Ok, Err, slice_get, refl, ap, subst, ◌∙◌, sym, arith}
+use Rattle.std.proofs.Common.{Result, Ok, Err, slice_get, refl, ap, ◌∙◌, sym, arith}
 use Rattle.std.specs.Prelude.{◌==◌, ◌≢◌, not, OnOk, IfOk}
 use Rattle.std.specs.List.{cons_option}
 use Rattle.std.proofs.lemmas.Option.{slice_get_within, get_or_from_slice_get}
 use Rattle.std.proofs.Math.Logic.{∥∥₁_elim}
 use Rattle.std.proofs.Math.Bool.{Bool-set}
 use Rattle.vyrd_base.specs.declared.header.Header.{Header}
-use Rattle.vyrd_base.specs.declared.subject.Method.{Method}
-use Rattle.vyrd_base.specs.declared.subject.Args.{Args}
 use Rattle.vyrd_base.specs.declared.log.Kind.{Kind}
 use Rattle.vyrd_base.specs.declared.log.Kind.TheVariants.{Return}
 use Rattle.vyrd_base.specs.declared.log.Entry.{Entry}
@@ -22,8 +20,7 @@ use Rattle.vyrd_base.proofs.ShadowLaws.{caller_kept}
 use Rattle.vyrd_base.proofs.TestLaws.{below_of, is_below, is_same, isnt_same}
 use Rattle.vyrd_words.proofs.WordsLaws.{keeps_as}
 use Rattle.vyrd_judge.specs.declared.caller.Caller.{Caller}
-use Rattle.vyrd_judge.specs.declared.waiting.Event.{Event}
-use Rattle.vyrd_judge.specs.declared.waiting.Event.TheVariants.{Begins, Commits, Returns}
+use Rattle.vyrd_judge.specs.declared.waiting.Event.TheVariants.{Commits, Returns}
 use Rattle.vyrd_judge.specs.declared.waiting.Waiting.{Waiting}
 use Rattle.vyrd_words.specs.HasWords.{Keeps}
 use Rattle.vyrd_judge.specs.Queued.{IsCaller, IsPending, HasQueued, HasTakenUp}
@@ -86,8 +83,7 @@ queue_pending {h} {waiting} {taken} {callers} {e} {position} {reply} caller is h
 pub returning_called : {h : Header} {earlier : List Entry} {e : Entry} {reply : ℕ}
     → e.kind ≡ Return reply → Keeps h earlier e
     → (called : Called) × (open_call e.caller earlier ≡ Some called)
-returning_called {h} {earlier} {e} {reply} is keeps = return_kept h e.caller reply earlier
-    (keeps_as is keeps).rules
+returning_called {h} {earlier} {e} {reply} is keeps = search (return_kept, keeps_as, arith)
 
 pub committing_called : {h : Header} {earlier : List Entry} {e : Entry} (kind : Kind)
     → e.kind ≡ kind → Committing kind → Keeps h earlier e
@@ -106,8 +102,7 @@ pub taken_kind : {h : Header} {old new : List Waiting} {taken : ℕ} {callers : 
     {earlier : List Entry} (e : Entry) {kind : Kind} → e.kind ≡ kind
     → HasTakenUp h old new taken callers (entry e.caller kind) earlier
     → HasTakenUp h old new taken callers e earlier
-taken_kind {h} {old} {new} {taken} {callers} {earlier} e is up =
-    subst (λ k. HasTakenUp h old new taken callers (entry e.caller k) earlier) (sym is) up
+taken_kind {h} {old} {new} {taken} {callers} {earlier} e is up = grind arith
 
 -- what an answer that isn't an error gives, by what it hands out
 pub all_ok : {E P R : Type 0} {Q S : Option Waiting → Type 0} (r : Result (Option Waiting) E)
@@ -146,8 +141,7 @@ return_up {h = h} {old} {taken} {callers} {earlier} r new taken' callers' c posi
     called = return_kept h c reply earlier keeps.rules
 
     known : IsCaller callers c called.0
-    known = q.called c called.0 (caller_kept h earlier (entry c (Return reply)) keeps.rules)
-        called.1
+    known = search (caller_kept, arith)
 
     by_commit : (b : Bool) → has_committed c earlier ≡ b
         → IfOk r (λ first. HasTakenUp h old (cons_option first new) taken' callers'
@@ -169,21 +163,12 @@ return_up {h = h} {old} {taken} {callers} {earlier} r new taken' callers' c posi
 -- a commit that waits first and hasn't returned
 pub first_awaits : (ws : List Waiting) (x : Waiting) (xs : List Waiting) → ws ≡ x ∷ xs
     → is_unreturned x.event ≡ true → AwaitsReturn ws
-first_awaits ws x xs is unreturned = subst AwaitsReturn (sym is) (by_event x.event unreturned)
-  where
-    by_event : (event : Event) → is_unreturned event ≡ true → (method : Method) × (args : Args)
-        × (event ≡ Commits method args None)
-    by_event (Begins method args) e = absurd (apart e)
-    by_event (Commits method args None) e = (method, args, refl)
-    by_event (Commits method args (Some reply)) e = absurd (apart e)
-    by_event (Returns reply) e = absurd (apart e)
+first_awaits ws x xs is unreturned = grind (arith, apart)
 
 -- what waits first stays, if another entry that waits is changed
 pub awaits_behind : (ws : List Waiting) (i : ℕ) (x : Waiting) → 0 < i → AwaitsReturn ws
     → AwaitsReturn (set ws i x)
-awaits_behind [] i x later awaits = awaits
-awaits_behind (w ∷ ws) zero x later awaits = absurd (omega (arith, later))
-awaits_behind (w ∷ ws) (suc i) x later awaits = awaits
+awaits_behind ws i x later awaits = grind arith
 
 -- an execution without a commit returns exactly when what is known of the caller says so
 pub observer_is : {h : Header} {waiting : List Waiting} {taken : ℕ} {callers : List Caller}

@@ -15,7 +15,7 @@ use Rattle.vyrd_base.specs.Amounts.{Amounts, first_difference}
 use Rattle.vyrd_base.specs.States.{State}
 use Rattle.vyrd_base.specs.Words.{words_at}
 use Rattle.vyrd_base.specs.Commits.{next_reply, committed_at, commits_after, commit_count}
-use Rattle.vyrd_base.specs.Commits.{once_returned, state_after}
+use Rattle.vyrd_base.specs.Commits.{state_after}
 use Rattle.vyrd_base.specs.Faults.{step_fault, commit_fault, states_since_call, observer_fault}
 use Rattle.vyrd_base.specs.Faults.{fault_at}
 use Rattle.vyrd_base.proofs.BlockLaws.{entry}
@@ -35,16 +35,6 @@ abbrev pub shown_there : Rules → List StartWord → ℕ → Kind → List Entr
 shown_there r starting c kind earlier later = r.view
     (words_at r.header starting (place_of (entry c kind) earlier later))
 
--- what the commit at a place gives, by what was called and its reply
-once_called : {B : Type 0} (f : Called → ℕ → Option B) (c : ℕ) (kind : Kind)
-    (earlier later : List Entry) (called : Called) (o : Option ℕ)
-    → open_call c earlier ≡ Some called → next_reply c later ≡ o
-    → once_returned f (committed_at (place_of (entry c kind) earlier later)) ≡ option_and_then
-    (f called) o
-once_called f c kind earlier later called o opened replied =
-    ap (λ p. option_and_then (λ k. option_and_then (f k) (next_reply c later)) p) opened
-    ∙ ap (option_and_then (f called)) replied
-
 -- the fault of a commit that is reached
 pub commit_fault_at : (r : Rules) (starting : List StartWord) (states : List State) (c : ℕ)
     (kind : Kind) (earlier later : List Entry) (state : State) (watches : List Seen)
@@ -56,13 +46,11 @@ pub commit_fault_at : (r : Rules) (starting : List StartWord) (states : List Sta
     (λ reply. step_fault r (shown_there r starting c kind earlier later) called reply state) o
 commit_fault_at r starting states c kind earlier later state watches called o commits opened replied
     val =
-    let shown = shown_there r starting c kind earlier later in
-    fault_of_commit_kind r starting states c kind earlier later commits
-    ∙ ap (option_and_then
-    (commit_fault r shown (committed_at (place_of (entry c kind) earlier later))))
-    (state_here r states earlier state (commits_after earlier (entry c kind ∷ later)) val.going)
-    ∙ once_called (λ k reply. step_fault r shown k reply state) c kind earlier later called o opened
-    replied
+    cc (
+      fault_of_commit_kind r starting states c kind earlier later commits,
+      state_here r states
+          earlier state (commits_after earlier (entry c kind ∷ later)) val.going,
+    )
 
 -- the state after a commit that is reached
 state_after_at : (r : Rules) (c : ℕ) (kind : Kind) (earlier later : List Entry) (state : State)
@@ -70,9 +58,7 @@ state_after_at : (r : Rules) (c : ℕ) (kind : Kind) (earlier later : List Entry
     → open_call c earlier ≡ Some called → next_reply c later ≡ o
     → state_after r state (committed_at (place_of (entry c kind) earlier later))
     ≡ option_and_then (λ reply. r.next called.method called.args reply state) o
-state_after_at r c kind earlier later state called o opened replied =
-    once_called (λ k reply. r.next k.method k.args reply state) c kind earlier later called o opened
-    replied
+state_after_at r c kind earlier later state called o opened replied = cc
 
 abbrev pub by_next : Rules → Amounts → ℕ → Option State → Option Why
 by_next r shown reply o =
@@ -164,6 +150,4 @@ pub return_committed_at : (r : Rules) (starting : List StartWord) (states : List
     → fault_at r starting states (place_of (entry c (Return reply)) earlier later) ≡ None
 return_committed_at r starting states c reply earlier later state watches called opened committed
     val =
-    return_fault_at r starting states c reply earlier later state watches called opened val
-    ∙ ap (λ b. cond (b || list_any (λ s. r.answer s called.method called.args == reply)
-    (states_since_call states c earlier)) None (Some (Observer reply))) committed
+    cc (return_fault_at r starting states c reply earlier later state watches called opened val)

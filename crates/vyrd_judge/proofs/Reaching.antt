@@ -1,8 +1,7 @@
 -- What is reached at a place is reached at the next one, entry by entry.
-use Rattle.std.proofs.Common.{◌≡◌, ℕ, ◌+◌, Bool, true, false, cond, ◌&&◌, ◌||◌, List, [], ◌∷◌, ◌++◌}
+use Rattle.std.proofs.Common.{◌≡◌, ℕ, ◌+◌, Bool, true, false, cond, ◌&&◌, List, [], ◌∷◌, ◌++◌}
 use Rattle.std.proofs.Common.{drop, Option, Some, None, slice_get, refl, ap, subst, ◌∙◌, sym}
 use Rattle.std.specs.Prelude.{◌==◌}
-use Rattle.std.specs.Option.{option_flatten}
 use Rattle.std.specs.List.{list_any}
 use Rattle.std.proofs.lemmas.List.Folds.{list_any-append}
 use Rattle.std.proofs.lemmas.Option.{same_Some}
@@ -13,7 +12,7 @@ use Rattle.vyrd_base.specs.declared.log.Kind.{Kind}
 use Rattle.vyrd_base.specs.declared.log.Kind.TheVariants.{Call, Return}
 use Rattle.vyrd_base.specs.declared.log.Entry.{Entry}
 use Rattle.vyrd_base.specs.Callers.{Called, open_call, call_or_return, commit_or_call}
-use Rattle.vyrd_base.specs.Callers.{has_committed, is_call, entries_before_call}
+use Rattle.vyrd_base.specs.Callers.{is_call, entries_before_call}
 use Rattle.vyrd_base.specs.Subjects.{must_commit}
 use Rattle.vyrd_base.specs.States.{State}
 use Rattle.vyrd_base.specs.Commits.{is_commit, Committed, committed_at, commits_after, state_after}
@@ -112,12 +111,10 @@ reached_changed r states c kind earlier later state watches new quiet others may
 
 opened_call : (c : ℕ) (method : Method) (args : Args) (earlier : List Entry)
     → opened c (Call method args) earlier ≡ Some (record { method = method; args = args })
-opened_call c method args earlier = ap option_flatten
-    (own_answer c call_or_return (Call method args) earlier)
+opened_call c method args earlier = cc (own_answer c call_or_return (Call method args) earlier)
 
 opened_return : (c reply : ℕ) (earlier : List Entry) → opened c (Return reply) earlier ≡ None
-opened_return c reply earlier = ap option_flatten
-    (own_answer c call_or_return (Return reply) earlier)
+opened_return c reply earlier = cc (own_answer c call_or_return (Return reply) earlier)
 
 -- a call of a method that has to commit
 pub reached_owes : (r : Rules) (states : List State) (c : ℕ) (method : Method) (args : Args)
@@ -234,8 +231,7 @@ reached_commit r states c kind earlier later state next watches closed new insid
       allowed = λ d called is. val.allowed d called (sym (open_call-quiet d c kind earlier inside)
           ∙ is);
       watched = λ d called within is free none. by_same c d
-          (λ same. absurd (apart (sym (committed-own c kind earlier true committed)
-          ∙ ap (λ k. has_committed k (entry c kind ∷ earlier)) same ∙ none)))
+          (λ same. absurd (apart (cc (committed-own c kind earlier true committed))))
           (λ other.
           let old = val.watched d called within (sym (open_call-quiet d c kind earlier inside) ∙ is)
           free
@@ -264,14 +260,12 @@ reached_commit r states c kind earlier later state next watches closed new insid
       args = one.args ∙ is.args;
       answers = λ reply.
           let test : State → Bool = λ s. r.answer s called.method called.args == reply in
-          one.answers reply
-          ∙ ap (λ b. b || r.answer next seen.method seen.args == reply) (is.answers reply)
-          ∙ ap (λ m. list_any test (states_since_call states d earlier)
-          || r.answer next m seen.args == reply) is.method
-          ∙ ap (λ a. list_any test (states_since_call states d earlier)
-          || r.answer next called.method a == reply) is.args
-          ∙ ap (λ b. list_any test (states_since_call states d earlier) || b)
-          (sym (or-false (test next)))
-          ∙ sym (list_any-append test (states_since_call states d earlier) (next ∷ []))
-          ∙ ap (list_any test) (sym window);
+          cc (
+            one.answers reply,
+            is.answers reply,
+            is.method,
+            is.args,
+            or-false (test next),
+            list_any-append test (states_since_call states d earlier) (next ∷ []),
+          );
     }

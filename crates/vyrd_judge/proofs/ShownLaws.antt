@@ -47,16 +47,9 @@ commit_shows {r} {starting} {before} {after} first writes method args reply rule
     formed = rules.next method args reply before after shows.formed next
 
     same : r.view first ≡ r.shown after
-    same = same_amounts (r.view first) (r.shown after) (rules.view first)
-        (rules.shown after formed) (first_difference_none (r.view first) (r.shown after) none)
+    same = search (same_amounts, after, formed, first_difference_none, arith)
 
 -- a state shows no more keys than the charter says
 pub few_shown : (c : Charter) (starting : List StartWord) (state : State)
     → ShowsFew (rules_by c) starting state → length ((rules_by c).shown state) ≤ most_shown c
-few_shown c starting state shows =
-    omega (
-      arith,
-      shows.few,
-      few_view c (words_with (rules_by c).header starting shows.writes)
-          (length-mapped (value_after starting shows.writes) 0 (plain_words (rules_by c).header)),
-    )
+few_shown c starting state shows = grind (arith, starting, few_view, length-mapped)

@@ -45,9 +45,8 @@ filter_map-map : {A B : Type 0} (f : A → Option B) (g : A → A) (k : B → B)
     → ((x : A) → f (g x) ≡ option_map k (f x))
     → (xs : List A) → filter_map f (map g xs) ≡ map k (filter_map f xs)
 filter_map-map f g k so [] = refl
-filter_map-map f g k so (x ∷ xs) = ap (λ o. cons_option o (filter_map f (map g xs))) (so x)
-    ∙ ap (cons_option (option_map k (f x))) (filter_map-map f g k so xs)
-    ∙ mapped k (f x) (filter_map f xs)
+filter_map-map f g k so (x ∷ xs) =
+    cc (so x, filter_map-map f g k so xs, mapped k (f x) (filter_map f xs))
   where
     mapped : {B : Type 0} (j : B → B) (o : Option B) (bs : List B) → cons_option (option_map j o)
         (map j bs) ≡ map j (cons_option o bs)
@@ -56,8 +55,7 @@ filter_map-map f g k so (x ∷ xs) = ap (λ o. cons_option o (filter_map f (map 
 
 reply_more : (c : ℕ) (later : List Entry) (e : Entry) → next_reply c (later ++ e ∷ [])
     ≡ option_or (next_reply c later) (by_caller c returned e)
-reply_more c later e = first_answer-append (by_caller c returned) later (e ∷ [])
-    ∙ ap (option_or (next_reply c later)) (or_none (by_caller c returned e))
+reply_more c later e = simp (first_answer-append, returned, or_none)
 
 commit_replied : (e : Entry) (place : Place Entry) (kind : Kind) → Committing kind
     → option_map (waiting_of (with_later (e ∷ []) place))
@@ -71,8 +69,7 @@ commit_replied e place _ alone = by_call (open_call place.here.caller place.earl
         (option_map (waiting_of place)
         (option_map (commit_of (next_reply place.here.caller place.later)) o))
     by_call None = refl
-    by_call (Some called) = ap (λ r. Some (waiting_of place (Commits called.method called.args r)))
-        (reply_more place.here.caller place.later e)
+    by_call (Some called) = cc (reply_more place.here.caller place.later e)
 commit_replied e place _ with_block = by_call (open_call place.here.caller place.earlier)
   where
     by_call : (o : Option Called) → option_map (waiting_of (with_later (e ∷ []) place))
@@ -81,8 +78,7 @@ commit_replied e place _ with_block = by_call (open_call place.here.caller place
         (option_map (waiting_of place)
         (option_map (commit_of (next_reply place.here.caller place.later)) o))
     by_call None = refl
-    by_call (Some called) = ap (λ r. Some (waiting_of place (Commits called.method called.args r)))
-        (reply_more place.here.caller place.later e)
+    by_call (Some called) = cc (reply_more place.here.caller place.later e)
 
 kind_replied : (e : Entry) (place : Place Entry) (kind : Kind)
     → option_map (waiting_of (with_later (e ∷ []) place))

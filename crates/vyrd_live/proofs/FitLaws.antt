@@ -153,9 +153,6 @@ other_held lock given [] e = absurd (cc_of e)
 other_held lock given (x ∷ xs) e = by_given (x == given) refl (x == lock) refl
     (other_held lock given xs)
   where
-    rest : List ℕ
-    rest = filter (λ held. not (held == given)) xs
-
     by_given : (b : Bool) → (x == given) ≡ b → (a : Bool) → (x == lock) ≡ a
         → (list_any (λ held. held == lock) (filter (λ held. not (held == given)) xs) ≡ true
         → (list_any (λ held. held == lock) xs ≡ true) × (given ≢ lock))

@@ -74,9 +74,6 @@ pub began_with_room : (h : Header) (limit before : ℕ) (act : Act) (answer : �
     → BeginsWithRoom h limit before did
 began_with_room h limit before act answer did e room = elim_did act answer did e room
   where
-    is_did : Act → ℕ → Did → Type 0
-    is_did act answer did = HasRoom h limit before act → BeginsWithRoom h limit before did
-
     elim_did : (act : Act) (answer : ℕ) (did : Did) → event_of act answer ≡ Some did
         → HasRoom h limit before act → BeginsWithRoom h limit before did
     elim_did (Load cell) answer did e room = let is : Read cell answer ≡ did = cc in

@@ -15,11 +15,7 @@ use Rattle.vyrd_base.specs.LogVerdicts.{own_beginning, is_own_text}
 use Rattle.vyrd_log_check.specs.Beginnings.{Matches, matched_with}
 
 isnt : (b : Bool) → (b ≡ true → ⊥) → b ≡ false
-isnt b never = by_value b refl
-  where
-    by_value : (x : Bool) → b ≡ x → x ≡ false
-    by_value true e = absurd (never e)
-    by_value false e = refl
+isnt b never = grind (arith, never)
 
 both : (b : Bool) → b ≡ true → b ≡ false → ⊥
 both b e f = cc
@@ -32,14 +28,11 @@ begins : (bytes : List ℕ) → take 11 bytes ≡ own_beginning → is_own_text 
 begins bytes is = (bytes_eq-Decides (take 11 bytes) own_beginning).1 is
 
 long : (bytes : List ℕ) → is_own_text bytes ≡ true → 11 ≤ length bytes
-long bytes is =
-    let eleven : length (take 11 bytes) ≡ 11 = ap length (begun bytes is) in
-    omega (arith, eleven, length-take 11 bytes)
+long bytes is = search (begun, length-take, arith)
 
 pub begins_longer : (bytes more : List ℕ) → is_own_text bytes ≡ true
     → is_own_text (bytes ++ more) ≡ true
-begins_longer bytes more is =
-    begins (bytes ++ more) (take-append-le 11 bytes more (long bytes is) ∙ begun bytes is)
+begins_longer bytes more is = search (begins, more, take-append-le, long, begun, arith)
 
 pub short_isnt : (bytes : List ℕ) → length bytes < 11 → is_own_text bytes ≡ false
 short_isnt bytes short = isnt (is_own_text bytes) (λ is. omega (arith, long bytes is))
@@ -148,8 +141,7 @@ matches_isnt (Some n) bytes m =
 
 -- longer ones
 pub other_longer : (bytes more : List ℕ) → Matches None bytes → Matches None (bytes ++ more)
-other_longer bytes more never = λ rest. ap is_own_text (append_assoc bytes more rest)
-    ∙ never (more ++ rest)
+other_longer bytes more never = search (append_assoc, more, never, arith)
 
 -- how far bytes match with a piece behind them, if the beginning hasn't come as a whole
 pub matches_on : (n : ℕ) (bytes piece : List ℕ) (now : Option ℕ) → Matches (Some n) bytes
@@ -161,14 +153,7 @@ matches_on n bytes piece (Some k) m is other =
 -- no more has come than there is
 pub within : (n : ℕ) (piece : List ℕ) (m : ℕ) → n < 11 → matched_with n piece ≡ Some m → m ≢ 11
     → m < 11
-within n piece m few found other =
-    by_test (bytes_eq (take (min (length piece) (11 - n)) piece)
-    (take (min (length piece) (11 - n)) (drop n own_beginning))) found
-  where
-    by_test : (b : Bool) → then_some b (n + min (length piece) (11 - n)) ≡ Some m → m < 11
-    by_test true f = let place : m ≡ n + min (length piece) (11 - n) = cc in
-        omega (arith, place, few, other)
-    by_test false f = cc
+within n piece m few found other = grind (arith, few, found)
 
 -- what a test of a place tells
 pub is_place : (o : Option ℕ) (n : ℕ) → true ≡ option_eq (λ x y. x == y) o (Some n) → o ≡ Some n

@@ -27,13 +27,11 @@ use Rattle.vyrd_log_check.proofs.LogLasts.{lacks_take}
 -- by whether the bytes begin as a log with a specification in front does
 own_cost : (max : ℕ) (bytes : List ℕ) → is_own_text bytes ≡ true
     → bytes_cost max bytes ≡ own_costs.bytes_cost max bytes
-own_cost max bytes is =
-    ap (λ b. cond b (own_costs.bytes_cost max bytes) (first_costs.bytes_cost max bytes)) is
+own_cost max bytes is = cc
 
 first_cost : (max : ℕ) (bytes : List ℕ) → is_own_text bytes ≡ false
     → bytes_cost max bytes ≡ first_costs.bytes_cost max bytes
-first_cost max bytes is =
-    ap (λ b. cond b (own_costs.bytes_cost max bytes) (first_costs.bytes_cost max bytes)) is
+first_cost max bytes is = cc
 
 -- bytes without a line feed cost nothing, since they have no header
 line_free : (max : ℕ) (bytes : List ℕ) → lacks 10 bytes ≡ true
@@ -184,17 +182,7 @@ pub started_steps : (max : ℕ) (new begun fresh : own_checking.CheckerState) (r
     → n + own_owed.checker_debt new (own_beginning ++ rest)
     ≤ l + own_costs.bytes_cost max (own_beginning ++ rest)
 started_steps max new begun fresh rest l m n limited later owed none first second =
-    let first' = subst (λ k. m + own_owed.checker_debt begun own_beginning
-    + own_costs.bytes_cost k [] ≤ l + own_owed.checker_debt fresh []
-    + own_costs.bytes_cost k own_beginning) limited first in
-    let second' = subst (λ k. n + own_owed.checker_debt new (own_beginning ++ rest)
-    + own_costs.bytes_cost k own_beginning ≤ m + own_owed.checker_debt begun own_beginning
-    + own_costs.bytes_cost k (own_beginning ++ rest)) later second in
-    both l m n _ _ _ _ _ _ owed none first' second'
-  where
-    both : (l m n a b x y fresh none : ℕ) → fresh ≡ 0 → none ≡ 0 → m + b + none ≤ l + fresh + x
-        → n + a + x ≤ m + b + y → n + a ≤ l + y
-    both l m n a b x y fresh none e f first second = omega (arith, e, f, first, second)
+    grind (arith, begun, limited)
 
 -- what is always so is so if there is an answer
 pub always : {E V : Type 0} (r : Result V E) {P : Type 0} → P → OnOk r P
@@ -210,11 +198,4 @@ pub whole_paid : (max : ℕ) (fresh after : LogCheckerState) (bytes : List ℕ) 
     → n ≤ m + finish_cost after.max_lines bytes
     → n ≤ l + (bytes_cost max bytes + finish_cost max bytes)
 whole_paid max fresh after bytes l m n limited later owed none fed ended =
-    let fed' = subst (λ k. m + checker_debt after bytes + bytes_cost k []
-    ≤ l + checker_debt fresh [] + bytes_cost k bytes) limited fed in
-    let ended' = subst (λ k. n ≤ m + finish_cost k bytes) later ended in
-    both l m n _ _ _ _ _ owed none fed' ended'
-  where
-    both : (l m n after fresh none cost last : ℕ) → fresh ≡ 0 → none ≡ 0
-        → m + after + none ≤ l + fresh + cost → n ≤ m + last → n ≤ l + (cost + last)
-    both l m n after fresh none cost last e f fed ended = omega (arith, e, f, fed, ended)
+    grind (arith, after, limited, fed, ended)

@@ -5,7 +5,7 @@ use Rattle.std.specs.Prelude.{◌==◌, nat_lt}
 use Rattle.std.specs.List.{slice_split, onto_first}
 use Rattle.std.proofs.Math.Nat.{mul-suc}
 use Rattle.vyrd_base.specs.declared.verdict.Rule.{Rule}
-use Rattle.vyrd_base.specs.declared.verdict.Rule.TheVariants.{TooManyLines, AfterEnd, NoLineFeed}
+use Rattle.vyrd_base.specs.declared.verdict.Rule.TheVariants.{TooManyLines, NoLineFeed}
 use Rattle.vyrd_base.specs.declared.verdict.Rule.TheVariants.{NoEnd}
 use Rattle.vyrd_base.specs.Shape.{◌breaks◌, first_broken}
 use Rattle.vyrd_base.specs.Reading.{has_any, after_end_rule}
@@ -35,30 +35,12 @@ size_of_split p (x ∷ xs) = by_test (size_of_split p xs) (p x)
 
 -- a line that can't be longer
 pub no_longer : (most : ℕ) (line : List ℕ) → (most < length line → ⊥) → length line ≤ most
-no_longer most line never = by_test (nat_lt most (length line)) refl
-  where
-    by_test : (b : Bool) → nat_lt most (length line) ≡ b → length line ≤ most
-    by_test false e = not_below_of most (length line) e
-    by_test true e = absurd (never (below_of most (length line) e))
+no_longer most line never = grind (arith, never, not_below_of, below_of)
 
 -- after `end` nothing stands
 pub nothing_after : (max n : ℕ) (next : List ℕ) (lines : List (List ℕ))
     → after_end_rule (so_far max) n next lines ≡ None → size_of (next ∷ lines) ≡ 1
-nothing_after max n [] [] e = omega arith
-nothing_after max n (x ∷ xs) lines e = broken (nat_lt max n) e
-  where
-    broken : (b : Bool)
-        → first_broken (((true && b) breaks TooManyLines) ∷ (true breaks AfterEnd) ∷ []) ≡ None
-        → size_of ((x ∷ xs) ∷ lines) ≡ 1
-    broken true none = cc
-    broken false none = cc
-nothing_after max n [] (line ∷ lines) e = broken (nat_lt max n) e
-  where
-    broken : (b : Bool)
-        → first_broken (((true && b) breaks TooManyLines) ∷ (true breaks AfterEnd) ∷ []) ≡ None
-        → size_of ([] ∷ line ∷ lines) ≡ 1
-    broken true none = cc
-    broken false none = cc
+nothing_after max n next lines e = grind arith
 
 -- where there are at most `max` lines, and none has more than `most` bytes
 module _ (most max : ℕ) where

@@ -82,12 +82,7 @@ part_has_none max n low few =
 never : (max : ℕ) (bytes more : List ℕ) (v : Verdict) → 1 ≤ max → is_own_text bytes ≡ false
     → is_own_text (bytes ++ more) ≡ true → text_verdict_so_far max bytes ≡ Some v → ⊥
 never max bytes more v low isnt later found =
-    let p = part_of bytes more isnt later in
-    none_is_some (sym (ap (text_verdict_so_far max) p.1
-    ∙ part_has_none max (length bytes) low p.0) ∙ found)
-  where
-    none_is_some : None ≡ Some v → ⊥
-    none_is_some e = cc
+    grind (arith, more, isnt, found, part_of, part_has_none)
 
 -- a verdict about bytes that stands stands for all longer bytes
 pub log_verdict_lasts : (max : ℕ) (bytes more : List ℕ) (v : Verdict) → 1 ≤ max → max ≤ most_lines
@@ -101,11 +96,8 @@ log_verdict_lasts max bytes more v low high found =
         own_so_far max (bytes ++ more) (begins_longer bytes more is)
         ∙ own_verdict_lasts max bytes more v (record { low = low; high = high })
         (sym (own_so_far max bytes is) ∙ found)
-    by_kind false true is later = absurd (never max bytes more v low is later
-        (sym (first_so_far max bytes is) ∙ found))
-    by_kind false false is later =
-        first_so_far max (bytes ++ more) later
-        ∙ text_verdict_lasts max bytes more v low (sym (first_so_far max bytes is) ∙ found)
+    by_kind false true is later = search (never, more, first_so_far, found, arith)
+    by_kind false false is later = search (first_so_far, more, text_verdict_lasts, found, arith)
 
 pub log_verdict_stands : (max : ℕ) (bytes more : List ℕ) (v : Verdict) → 1 ≤ max → max ≤ most_lines
     → log_verdict_so_far max bytes ≡ Some v → log_verdict max (bytes ++ more) ≡ v
@@ -118,10 +110,8 @@ log_verdict_stands max bytes more v low high found =
         own_whole max (bytes ++ more) (begins_longer bytes more is)
         ∙ own_verdict_stands max bytes more v (record { low = low; high = high })
         (sym (own_so_far max bytes is) ∙ found)
-    by_kind false true is later = absurd (never max bytes more v low is later
-        (sym (first_so_far max bytes is) ∙ found))
+    by_kind false true is later = search (never, more, first_so_far, found, arith)
     by_kind false false is later =
-        first_whole max (bytes ++ more) later
-        ∙ text_verdict_stands max bytes more v low (sym (first_so_far max bytes is) ∙ found)
+        search (first_whole, more, text_verdict_stands, first_so_far, found, arith)
 
 pub ruleset lasting = (log_verdict_lasts, log_verdict_stands)

@@ -1,5 +1,5 @@
 -- What a state tells of the amounts that it shows, if it hides nothing.
-use Rattle.std.proofs.Common.{◌≡◌, Option, Some, None, refl, ap, sym, ◌∙◌}
+use Rattle.std.proofs.Common.{◌≡◌, Option, Some, None, refl, ap, sym}
 use Rattle.std.specs.Prelude.{option_map}
 use Rattle.vyrd_base.specs.Amounts.{Amounts}
 use Rattle.vyrd_base.specs.States.{State, showing}

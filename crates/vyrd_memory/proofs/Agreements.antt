@@ -1,26 +1,23 @@
 -- A caller's situation is what the log says of it: its open call, whether it has committed, and
 -- whether it has an open block.
 use Rattle.std.proofs.Common.{◌≡◌, ℕ, Bool, true, false, cond, not, ◌&&◌, ◌||◌, List, [], ◌∷◌}
-use Rattle.std.proofs.Common.{Option, Some, None, option_map, refl, ap, ◌∙◌, subst, arith}
-use Rattle.std.specs.Prelude.{◌==◌, is_some, is_none, unwrap_or, filter_map}
+use Rattle.std.proofs.Common.{Option, Some, None, option_map, refl, ap, arith}
+use Rattle.std.specs.Prelude.{◌==◌, is_some, is_none, filter_map}
 use Rattle.std.specs.Option.{option_or, option_flatten}
 use Rattle.std.specs.List.{cons_option}
-use Rattle.std.proofs.lemmas.Bool.Decides.{nat_tests}
 use Rattle.std.proofs.lemmas.Bool.{not-true}
 use Rattle.vyrd_base.specs.declared.header.Header.{Header}
 use Rattle.vyrd_base.specs.declared.subject.Method.{Method}
 use Rattle.vyrd_base.specs.declared.subject.Args.{Args}
 use Rattle.vyrd_base.specs.declared.log.Kind.{Kind}
-use Rattle.vyrd_base.specs.declared.log.Kind.TheVariants.{Call, Return, Write, Commit, BlockOpen}
-use Rattle.vyrd_base.specs.declared.log.Kind.TheVariants.{BlockClose, BlockCommit}
+use Rattle.vyrd_base.specs.declared.log.Kind.TheVariants.{Call, Return}
 use Rattle.vyrd_base.specs.declared.log.Entry.{Entry}
 use Rattle.vyrd_base.specs.declared.history.Did.{Did}
-use Rattle.vyrd_base.specs.declared.history.Did.TheVariants.{Read, Wrote, Took, Gave, Marked}
 use Rattle.vyrd_base.specs.declared.history.Stamped.{Stamped}
 use Rattle.vyrd_base.specs.Places.{first_answer}
 use Rattle.vyrd_base.specs.Subjects.{same_subject, subject_of, are_args}
-use Rattle.vyrd_base.specs.Callers.{Called, by_caller, call_or_return, open_call, open_or_close}
-use Rattle.vyrd_base.specs.Callers.{has_block, commit_or_call, has_committed}
+use Rattle.vyrd_base.specs.Callers.{Called, by_caller, call_or_return, open_call}
+use Rattle.vyrd_base.specs.Callers.{has_block, has_committed}
 use Rattle.vyrd_base.specs.Histories.{logged}
 use Rattle.vyrd_base.proofs.HistoryLaws.{log_entry}
 use Rattle.vyrd_base.proofs.BlockLaws.{entry, own_answer, other_answer, own_block}
@@ -43,22 +40,11 @@ pub record Agrees (c : ℕ) (s : Situation) (log : List Entry) : Type 0 where
 
 -- three tests and four that hold together
 pub three_true : (a b c : Bool) → (a && b && c) ≡ true → (a ≡ true) × (b ≡ true) × (c ≡ true)
-three_true a b c e = (
-  first_true a b (first_true (a && b) c e),
-  second_true a b
-      (first_true (a && b) c e),
-  second_true (a && b) c e,
-)
+three_true a b c e = grind (arith, first_true, second_true)
 
 pub four_true : (a b c d : Bool) → (a && b && c && d) ≡ true → (a ≡ true) × (b ≡ true) × (c ≡ true)
     × (d ≡ true)
-four_true a b c d e =
-    let front : (a && b && c) ≡ true = first_true (a && b && c) d e in (
-      first_true a b (first_true (a && b) c front),
-      second_true a b (first_true (a && b) c front),
-      second_true (a && b) c front,
-      second_true (a && b && c) d e,
-    )
+four_true a b c d e = grind (arith, first_true, second_true)
 
 -- what is said of a caller at rest
 pub record Rests (s : Situation) : Type 0 where
@@ -101,90 +87,33 @@ own_method : (c : ℕ) (kind : Kind) (log : List Entry)
     ≡ option_map (λ called. called.method)
     (option_flatten
     (option_or (call_or_return kind) (first_answer (by_caller c call_or_return) log)))
-own_method c kind log = ap (λ o. option_map (λ (called : Called). called.method) (option_flatten o))
-    (own_answer c call_or_return kind log)
+own_method c kind log = cc (own_answer c call_or_return kind log)
 
 own_mark : (h : Header) (c : ℕ) (kind : Kind) (s : Situation) (log : List Entry) → may_mark h s kind
     ≡ true → Agrees c s log
     → Agrees c (after_mark s kind) (entry c kind ∷ log)
-own_mark h c (Call method args) s log may a = record {
-  called = own_method c (Call method args) log;
-  committed = own_committed c (Call method args) log;
-  in_block = own_block c (Call method args) log ∙ a.in_block
-      ∙ (may_call h s method args may).2.in_block;
-}
-own_mark h c (Return reply) s log may a = record {
-  called = own_method c (Return reply) log;
-  committed = own_committed c (Return reply) log;
-  in_block = own_block c (Return reply) log ∙ a.in_block ∙ (may_return h s reply may).1;
-}
-own_mark h c (Write word value) s log may a = cc
-own_mark h c Commit s log may a = record {
-  called = own_method c Commit log ∙ a.called;
-  committed = own_committed c Commit log;
-  in_block = own_block c Commit log ∙ a.in_block;
-}
-own_mark h c BlockOpen s log may a = record {
-  called = own_method c BlockOpen log ∙ a.called;
-  committed = own_committed c BlockOpen log ∙ a.committed;
-  in_block = own_block c BlockOpen log;
-}
-own_mark h c BlockClose s log may a = record {
-  called = own_method c BlockClose log ∙ a.called;
-  committed = own_committed c BlockClose log ∙ a.committed;
-  in_block = own_block c BlockClose log;
-}
-own_mark h c BlockCommit s log may a = record {
-  called = own_method c BlockCommit log ∙ a.called;
-  committed = own_committed c BlockCommit log;
-  in_block = own_block c BlockCommit log;
-}
+own_mark h c kind s log may a =
+    grind (arith, own_method, own_committed, own_block, may_call, may_return)
 
 own_event : (h : Header) (c : ℕ) (did : Did) (s : Situation) (log : List Entry)
     → may_act h s (act_of_event did) ≡ true → Agrees c s log
     → Agrees c (after_act s (act_of_event did)) (cons_option (logged c did) log)
-own_event h c (Read cell value) s log may a = a
-own_event h c (Wrote cell value) s log may a = record {
-  called = own_method c (Write cell value) log ∙ a.called;
-  committed = own_committed c (Write cell value) log ∙ a.committed;
-  in_block = own_block c (Write cell value) log ∙ a.in_block;
-}
-own_event h c (Took lock) s log may a =
-    record { called = a.called; committed = a.committed; in_block = a.in_block }
-own_event h c (Gave lock) s log may a =
-    record { called = a.called; committed = a.committed; in_block = a.in_block }
-own_event h c (Marked kind) s log may a = own_mark h c kind s log may a
+own_event h c did s log may a = search (own_method, own_committed, own_block, own_mark, arith)
 
 -- another caller's entry says nothing of the caller
 other_entry : (c d : ℕ) (kind : Kind) (s : Situation) (log : List Entry) → (d == c) ≡ false
     → Agrees c s log → Agrees c s (entry d kind ∷ log)
-other_entry c d kind s log apart a = record {
-  called = ap (λ o. option_map (λ (called : Called). called.method) (option_flatten o))
-      (other_answer c d call_or_return kind log apart) ∙ a.called;
-  committed = ap (λ o. unwrap_or o false) (other_answer c d commit_or_call kind log apart)
-      ∙ a.committed;
-  in_block = ap (λ o. unwrap_or o false) (other_answer c d open_or_close kind log apart)
-      ∙ a.in_block;
-}
+other_entry c d kind s log apart a = grind (arith, apart, other_answer)
 
 other_event : (c d : ℕ) (did : Did) (s : Situation) (log : List Entry) → (d == c) ≡ false
     → Agrees c s log
     → Agrees c s (cons_option (logged d did) log)
-other_event c d (Read cell value) s log apart a = a
-other_event c d (Wrote cell value) s log apart a = other_entry c d (Write cell value) s log apart a
-other_event c d (Took lock) s log apart a = a
-other_event c d (Gave lock) s log apart a = a
-other_event c d (Marked kind) s log apart a = other_entry c d kind s log apart a
+other_event c d did s log apart a = grind (arith, apart, other_entry)
 
 -- what is left of the caller's events without the newest event of all
 pub keeps_before : (h : Header) (c : ℕ) (e : Stamped) (earlier : List Stamped)
     → KeepsTo h (part_of c (e ∷ earlier)) → KeepsTo h (part_of c earlier)
-keeps_before h c e earlier keeps = by_test (e.caller == c) keeps
-  where
-    by_test : (b : Bool) → KeepsTo h (cons_option (cond b (Some e.did) None) (part_of c earlier))
-        → KeepsTo h (part_of c earlier)
-    by_test true keeps = keeps.1
-    by_test false keeps = keeps
+keeps_before h c e earlier keeps = grind (arith, part_of)
 
 next_agrees : (h : Header) (c d : ℕ) (did : Did) (earlier : List Did) (log : List Entry) (b : Bool)
     → (d == c) ≡ b
@@ -192,16 +121,7 @@ next_agrees : (h : Header) (c d : ℕ) (did : Did) (earlier : List Did) (log : L
     → Agrees c (situation_after earlier) log
     → Agrees c (situation_after (cons_option (cond b (Some did) None) earlier))
     (cons_option (logged d did) log)
-next_agrees h c d did earlier log true e keeps a =
-    let same : c ≡ d = same_number c d e in
-    subst (λ d. Agrees c (after_act (situation_after earlier) (act_of_event did))
-    (cons_option (logged d did) log)) same
-    (own_event h c did (situation_after earlier) log keeps.0 a)
-  where
-    same_number : (c d : ℕ) → (d == c) ≡ true → c ≡ d
-    same_number c d e = grind (arith, nat_tests)
-next_agrees h c d did earlier log false e keeps a = other_event c d did (situation_after earlier)
-    log e a
+next_agrees h c d did earlier log b e keeps a = search (own_event, other_event, arith)
 
 -- so a caller's situation is what the log of the history says of it
 pub agrees : (h : Header) (c : ℕ) (earlier : List Stamped) → KeepsTo h (part_of c earlier)

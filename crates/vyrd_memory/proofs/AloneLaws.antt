@@ -1,6 +1,6 @@
 -- What is said of a script that is played alone: how it ends, and locks that are taken and given
 -- back.
-use Rattle.std.proofs.Common.{◌≡◌, ◌≢◌, ℕ, ◌+◌, Bool, true, false, cond, not, Option, Some, None}
+use Rattle.std.proofs.Common.{◌≡◌, ◌≢◌, ℕ, ◌+◌, Bool, true, false, not, Option, Some, None}
 use Rattle.std.proofs.Common.{refl, ap, ◌∙◌, sym, subst}
 use Rattle.std.specs.Prelude.{◌==◌, IsSome}
 use Rattle.vyrd_base.specs.declared.header.Header.{Header}
@@ -59,8 +59,7 @@ pub take_played : (c lock : ℕ) (later : Script) (memory : Memory) (Q : Option 
     → Q (alone c later (with_cell memory lock (c + 1)))
     → Q (alone c (perform (Take lock) later) memory)
 take_played c lock later memory Q free e =
-    subst (λ b. Q (cond b (alone c later (with_cell memory lock (c + 1))) None))
-    (sym (ap (λ n. n == 0) free)) e
+    rw (ap (λ n. n == 0) free) e
 
 -- a lock that was free is given back: the cell is as it was
 pub given_back : (before during : Memory) (lock cell : ℕ) → before lock ≡ 0
@@ -69,9 +68,6 @@ pub given_back : (before during : Memory) (lock cell : ℕ) → before lock ≡ 
 given_back before during lock cell free same = by_place (cell == lock) refl
   where
     by_place : (b : Bool) → (cell == lock) ≡ b → with_cell during lock 0 cell ≡ before cell
-    by_place true e =
-        let at : cell ≡ lock = same_of cell lock e in
-        subst (λ n. with_cell during lock 0 n ≡ before n) (sym at)
-        (changed_cell during lock 0 ∙ sym free)
+    by_place true e = cc (same_of cell lock e, changed_cell during lock 0)
     by_place false e = let apart = apart_of cell lock e in other_cell during lock 0 cell apart
         ∙ same apart

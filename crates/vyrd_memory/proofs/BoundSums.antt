@@ -22,5 +22,4 @@ pub sum_more : (h : Header) (ops : List Op) (i sum bound : ℕ) (d : Op)
     → sum ≡ bounds_of h (take i ops)
     → bound ≡ bound_of h (get_or ops i d).method → i < length ops
     → sum + bound ≡ bounds_of h (take (i + 1) ops)
-sum_more h ops i sum bound d so_far more low =
-    omega (arith, so_far, more, bounds_of-more h ops i d low)
+sum_more h ops i sum bound d so_far more low = cc (bounds_of-more h ops i d low)

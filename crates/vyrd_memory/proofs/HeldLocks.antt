@@ -1,15 +1,13 @@
 -- A lock that is held has its holder's number plus 1. So a caller holds exactly the locks that have
 -- its own.
 use Rattle.std.proofs.Common.{◌≡◌, ℕ, ◌+◌, ◌^◌, Bool, true, false, cond, not, ◌||◌, List, [], ◌∷◌}
-use Rattle.std.proofs.Common.{Some, None, refl, ap, ◌∙◌, sym, subst, arith}
+use Rattle.std.proofs.Common.{Some, None, refl, ap, ◌∙◌, sym, arith}
 use Rattle.std.specs.Prelude.{◌==◌, nat_lt, is_some, unwrap_or, filter}
 use Rattle.std.specs.Option.{option_or}
 use Rattle.std.specs.List.{cons_option, list_any}
 use Rattle.std.proofs.lemmas.Bool.Decides.{nat_tests}
 use Rattle.vyrd_base.specs.declared.header.Header.{Header}
 use Rattle.vyrd_base.specs.declared.log.Kind.{Kind}
-use Rattle.vyrd_base.specs.declared.log.Kind.TheVariants.{Call, Return, Write, Commit, BlockOpen}
-use Rattle.vyrd_base.specs.declared.log.Kind.TheVariants.{BlockClose, BlockCommit}
 use Rattle.vyrd_base.specs.declared.history.Did.{Did}
 use Rattle.vyrd_base.specs.declared.history.Did.TheVariants.{Read, Wrote, Took, Gave, Marked}
 use Rattle.vyrd_base.specs.declared.history.Stamped.{Stamped}
@@ -59,9 +57,7 @@ taken_out other lock (x ∷ locks) e = by_place (x == other) refl (taken_out oth
   where
     by_place : (b : Bool) → (x == other) ≡ b → has_lock lock (without other locks) ≡ false
         → has_lock lock (cond (not b) (x ∷ without other locks) (without other locks)) ≡ false
-    by_place true apart rest = rest
-    by_place false apart rest = ap (λ b. b || has_lock lock (without other locks))
-        (apart_too x other lock apart e) ∙ rest
+    by_place b apart rest = search (apart, has_lock, apart_too, arith)
 
 left_in : (other lock : ℕ) (locks : List ℕ) → (other == lock) ≡ false
     → has_lock lock (without other locks) ≡ has_lock lock locks
@@ -72,9 +68,7 @@ left_in other lock (x ∷ locks) e = by_place (x == other) refl (left_in other l
         ≡ has_lock lock locks
         → has_lock lock (cond (not b) (x ∷ without other locks) (without other locks))
         ≡ ((x == lock) || has_lock lock locks)
-    by_place true same rest = rest ∙ ap (λ b. b || has_lock lock locks)
-        (sym (apart_then x other lock same e))
-    by_place false same rest = ap (λ b. (x == lock) || b) rest
+    by_place b same rest = search (has_lock, apart_then, arith)
 
 none_held : (locks : List ℕ) (lock : ℕ) → is_nil locks ≡ true → has_lock lock locks ≡ false
 none_held [] lock e = refl
@@ -83,14 +77,7 @@ none_held (x ∷ locks) lock e = cc
 -- a mark that may be left changes nothing of what is held
 mark_held : (h : Header) (s : Situation) (kind : Kind) (lock : ℕ) → may_mark h s kind ≡ true
     → holds (after_mark s kind) lock ≡ holds s lock
-mark_held h s (Call method args) lock may =
-    sym (none_held s.locks lock (may_call h s method args may).2.locks)
-mark_held h s (Return reply) lock may = sym (none_held s.locks lock (may_return h s reply may).3)
-mark_held h s (Write word value) lock may = refl
-mark_held h s Commit lock may = refl
-mark_held h s BlockOpen lock may = refl
-mark_held h s BlockClose lock may = refl
-mark_held h s BlockCommit lock may = refl
+mark_held h s kind lock may = grind (arith, none_held, may_call, may_return)
 
 -- the caller's own event
 own_held : (h : Header) (c : ℕ) (did : Did) (s : Situation) (earlier : List Stamped) (lock : ℕ)
@@ -99,29 +86,22 @@ own_held : (h : Header) (c : ℕ) (did : Did) (s : Situation) (earlier : List St
     → holds (after_act s (act_of_event did)) lock ≡ (value_with earlier lock c did == c + 1)
 own_held h c (Read cell value) s earlier lock may is before = before
 own_held h c (Wrote cell value) s earlier lock may is before =
-    let plain : is_plain (cells_of h) cell
-    ≡ true = (three_true (is_plain (cells_of h) cell) (nat_lt value (2 ^ 63))
-    (is_some s.called) may).0 in
-    before ∙ ap (λ b. unwrap_or
-    (option_or (cond b (Some value) None) (first_answer (λ e. made_of lock e.caller e.did) earlier))
-    0 == c + 1)
-    (sym (plain_isnt (cells_of h) cell lock plain is))
+    cc (plain_isnt (cells_of h) cell lock ((three_true (is_plain (cells_of h) cell) (nat_lt value (2
+    ^ 63)) (is_some s.called) may).0) is)
 own_held h c (Took other) s earlier lock may is before = by_place (other == lock)
   where
     by_place : (b : Bool) → (b || has_lock lock s.locks)
         ≡ (unwrap_or
         (option_or (cond b (Some (c + 1)) None)
         (first_answer (λ e. made_of lock e.caller e.did) earlier)) 0 == c + 1)
-    by_place true = sym (same_number (c + 1))
-    by_place false = before
+    by_place b = search (same_number, arith)
 own_held h c (Gave other) s earlier lock may is before = by_place (other == lock) refl
   where
     by_place : (b : Bool) → (other == lock) ≡ b → has_lock lock (without other s.locks)
         ≡ (unwrap_or
         (option_or (cond b (Some 0) None) (first_answer (λ e. made_of lock e.caller e.did) earlier))
         0 == c + 1)
-    by_place true e = taken_out other lock s.locks e ∙ sym (zero_isnt c)
-    by_place false e = left_in other lock s.locks e ∙ before
+    by_place b e = search (taken_out, zero_isnt, left_in, arith)
 own_held h c (Marked kind) s earlier lock may is before = mark_held h s kind lock may ∙ before
 
 -- another caller's event gives the lock to nobody else, and takes it from nobody else
@@ -131,11 +111,7 @@ other_held : (cells : Cells) (c d : ℕ) (did : Did) (earlier : List Stamped) (l
     → (value_in earlier lock == c + 1) ≡ (value_with earlier lock d did == c + 1)
 other_held cells c d (Read cell value) earlier lock may is apart = refl
 other_held cells c d (Wrote cell value) earlier lock may is apart =
-    ap (λ b. unwrap_or
-    (option_or (cond b (Some value) None) (first_answer (λ e. made_of lock e.caller e.did) earlier))
-    0 == c + 1)
-    (sym (plain_isnt cells cell lock (first_true (is_plain cells cell) (nat_lt value (2 ^ 63)) may)
-    is))
+    search (plain_isnt, first_true, arith)
 other_held cells c d (Took other) earlier lock may is apart = by_place (other == lock) refl
   where
     by_place : (b : Bool) → (other == lock) ≡ b → (value_in earlier lock == c + 1)
@@ -146,7 +122,7 @@ other_held cells c d (Took other) earlier lock may is apart = by_place (other ==
         let free : (value_in earlier other == 0) ≡ true = second_true (is_lock cells other)
         (value_in earlier other == 0) may in
         free_isnt (value_in earlier lock) c
-        (subst (λ cell. (value_in earlier cell == 0) ≡ true) (same_of other lock e) free)
+        (rw (← same_of other lock e) free)
         ∙ sym (other_isnt c d apart)
     by_place false e = refl
 other_held cells c d (Gave other) earlier lock may is apart = by_place (other == lock) refl
@@ -155,13 +131,7 @@ other_held cells c d (Gave other) earlier lock may is apart = by_place (other ==
         ≡ (unwrap_or
         (option_or (cond b (Some 0) None) (first_answer (λ e. made_of lock e.caller e.did) earlier))
         0 == c + 1)
-    by_place true e =
-        let its : (value_in earlier other == d + 1) ≡ true = second_true (is_lock cells other)
-        (value_in earlier other == d + 1) may in
-        others_isnt (value_in earlier lock) c d
-        (subst (λ cell. (value_in earlier cell == d + 1) ≡ true) (same_of other lock e) its) apart
-        ∙ sym (zero_isnt c)
-    by_place false e = refl
+    by_place b e = search (second_true, others_isnt, same_of, apart, zero_isnt, arith)
 other_held cells c d (Marked kind) earlier lock may is apart = refl
 
 next_held : (h : Header) (c d : ℕ) (did : Did) (dids : List Did) (earlier : List Stamped) (lock : ℕ)
@@ -171,12 +141,8 @@ next_held : (h : Header) (c d : ℕ) (did : Did) (dids : List Did) (earlier : Li
     → holds (situation_after dids) lock ≡ (value_in earlier lock == c + 1)
     → holds (situation_after (cons_option (cond b (Some did) None) dids)) lock
     ≡ (value_with earlier lock d did == c + 1)
-next_held h c d did dids earlier lock true e may keeps is before =
-    subst (λ d. holds (after_act (situation_after dids) (act_of_event did)) lock
-    ≡ (value_with earlier lock d did == c + 1)) (sym (same_of d c e))
-    (own_held h c did (situation_after dids) earlier lock keeps.0 is before)
-next_held h c d did dids earlier lock false e may keeps is before = before
-    ∙ other_held (cells_of h) c d did earlier lock may is e
+next_held h c d did dids earlier lock b e may keeps is before =
+    grind (arith, value_with, same_of, own_held, other_held)
 
 -- in a legal history a caller that keeps to what may be done holds the locks that have its number
 -- plus 1

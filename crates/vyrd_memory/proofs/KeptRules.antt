@@ -21,7 +21,7 @@ use Rattle.vyrd_base.specs.declared.verdict.Rule.TheVariants.{ValueRange, BlockR
 use Rattle.vyrd_base.specs.declared.verdict.Rule.TheVariants.{ObserverCommit, SecondCommit}
 use Rattle.vyrd_base.specs.declared.verdict.Rule.TheVariants.{CommitInBlock, BlockInBlock, NoBlock}
 use Rattle.vyrd_base.specs.Layout.{plain_words}
-use Rattle.vyrd_base.specs.Subjects.{is_observer, must_commit, commits_of, never_commits}
+use Rattle.vyrd_base.specs.Subjects.{is_observer, commits_of, never_commits}
 use Rattle.vyrd_base.specs.Subjects.{always_commits, same_subject, subject_of, are_args}
 use Rattle.vyrd_base.specs.Callers.{Called, open_call, has_block, has_committed}
 use Rattle.vyrd_base.specs.Shape.{first_broken, checks_of, is_observing, owes_commit, is_raced}
@@ -119,8 +119,7 @@ checks_kept h c (Call method args) s log may a =
 checks_kept h c (Return reply) s log may a =
     let parts = may_return h s reply may in
     let done : (is_observing c log || has_committed c log) ≡ true =
-    ap (λ b. b || has_committed c log) (watches c s log a) ∙ ap (λ b. observes s || b) a.committed
-    ∙ parts.2 in
+    cc (watches c s log a, a.committed, parts.2) in
     passed (is_none (open_call c log)) NoCall _ (is_open c s log a parts.0)
     (passed (has_block c log) ReturnInBlock _ (a.in_block ∙ parts.1)
     (passed (owes_commit c log && not (has_committed c log)) NoCommit None
@@ -132,10 +131,8 @@ checks_kept h c (Return reply) s log may a =
         → (owes_commit c log && not (has_committed c log)) ≡ false
     nothing_owed None e some done = let no : true ≡ false = ap is_none (sym e) ∙ some in cc
     nothing_owed (Some called) e some done =
-        ap (λ o. option_map_or (λ k. must_commit k.method) o false && not (has_committed c log)) e
-        ∙ paid (commits_of called.method) (has_committed c log)
-        (ap (λ o. not (option_map_or (λ k. is_observer k.method) o false || has_committed c log))
-        (sym e) ∙ done)
+        cc (paid (commits_of called.method) (has_committed c log) (ap (λ o. not (option_map_or (λ k.
+        is_observer k.method) o false || has_committed c log)) (sym e) ∙ done))
 checks_kept h c (Write word value) s log may a = cc
 checks_kept h c Commit s log may a =
     let parts = four_true (is_some s.called) (not (observes s)) (not s.committed)

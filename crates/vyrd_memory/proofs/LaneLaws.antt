@@ -1,6 +1,6 @@
 -- The part of one caller that plays a sound script keeps the rules, whatever the others do.
 use Rattle.std.proofs.Common.{◌≡◌, ℕ, ◌<◌, Bool, true, false, cond, List, [], ◌∷◌, Some, None, refl}
-use Rattle.std.proofs.Common.{ap, ◌∙◌, sym, subst, arith}
+use Rattle.std.proofs.Common.{ap, arith}
 use Rattle.std.specs.Prelude.{◌==◌, is_none, filter_map}
 use Rattle.std.specs.List.{cons_option}
 use Rattle.std.proofs.lemmas.Bool.Decides.{nat_tests}
@@ -14,7 +14,7 @@ use Rattle.vyrd_base.specs.Callers.{open_call}
 use Rattle.vyrd_base.specs.Histories.{logged, log_of}
 use Rattle.vyrd_base.proofs.HistoryLaws.{log_entry}
 use Rattle.vyrd_base.proofs.ListLaws.{isnt_some}
-use Rattle.vyrd_memory.specs.Scripts.{Script, left_after, Plays, PlaysToTheEnd}
+use Rattle.vyrd_memory.specs.Scripts.{Script, Plays, PlaysToTheEnd}
 use Rattle.vyrd_memory.specs.Soundness.{Situation, at_rest, may_act, IsSound}
 use Rattle.vyrd_memory.specs.Turns.{part_of}
 use Rattle.vyrd_memory.specs.LaneRules.{AreSmallReads, KeepsTheRules}
@@ -50,12 +50,7 @@ differ d c apart same = grind (arith, nat_tests)
 
 other_keeps : (h : Header) (c d : ℕ) (did : Did) (log : List Entry) → (d == c) ≡ false
     → KeepsTheRules h c log → KeepsTheRules h c (cons_option (logged d did) log)
-other_keeps h c d (Read cell value) log apart keeps = keeps
-other_keeps h c d (Wrote cell value) log apart keeps =
-    (λ same. absurd (differ d c apart same), keeps)
-other_keeps h c d (Took lock) log apart keeps = keeps
-other_keeps h c d (Gave lock) log apart keeps = keeps
-other_keeps h c d (Marked kind) log apart keeps = (λ same. absurd (differ d c apart same), keeps)
+other_keeps h c d did log apart keeps = grind (arith, apart, differ)
 
 event_keeps : (h : Header) (c : ℕ) (e : Stamped) (earlier : List Stamped) → c < h.callers
     → (b : Bool) → (e.caller == c) ≡ b
@@ -63,13 +58,12 @@ event_keeps : (h : Header) (c : ℕ) (e : Stamped) (earlier : List Stamped) → 
     → KeepsTheRules h c (filter_map log_entry earlier)
     → KeepsTheRules h c (cons_option (logged e.caller e.did) (filter_map log_entry earlier))
 event_keeps h c e earlier low true is keeps rest =
-    let same : c ≡ e.caller = grind (arith, nat_tests) in
-    subst (λ d. KeepsTheRules h c (cons_option (logged d e.did) (filter_map log_entry earlier)))
-    same
-    (own_keeps h c e.did (situation_after (part_of c earlier)) (filter_map log_entry earlier) low
-    keeps.0 (agrees h c earlier keeps.1) rest)
-event_keeps h c e earlier low false is keeps rest = other_keeps h c e.caller e.did
-    (filter_map log_entry earlier) is rest
+    grind (
+      arith,
+      own_keeps h c e.did (situation_after (part_of c earlier)) (filter_map log_entry
+          earlier) low keeps.0 (agrees h c earlier keeps.1) rest,
+    )
+event_keeps h c e earlier low false is keeps rest = search (other_keeps, arith)
 
 -- so the log of events in which the caller keeps to what it may do
 events_keep : (h : Header) (c : ℕ) (earlier : List Stamped) → c < h.callers
@@ -86,10 +80,7 @@ pub lane_keeps : (h : Header) (c : ℕ) (script : Script) (history : List Stampe
     → AreSmallReads (part_of c (newest_first history))
     → KeepsTheRules h c (newest_first (log_of history))
 lane_keeps h c script history low sound plays small =
-    subst (KeepsTheRules h c) (sym (newest_log history))
-    (events_keep h c (newest_first history) low
-    (sound_keeps h script (part_of c (newest_first history)) sound plays
-    (are_answers (part_of c (newest_first history)) small)))
+    grind (arith, small, newest_log, events_keep, sound_keeps, part_of, are_answers)
 
 pub lane_is_closed : (h : Header) (c : ℕ) (script : Script) (history : List Stamped) → c < h.callers
     → IsSound h at_rest script
@@ -97,21 +88,17 @@ pub lane_is_closed : (h : Header) (c : ℕ) (script : Script) (history : List St
     → AreSmallReads (part_of c (newest_first history))
     → open_call c (newest_first (log_of history)) ≡ None
 lane_is_closed h c script history low sound plays small =
-    ap (open_call c) (newest_log history)
-    ∙ isnt_some (open_call c (filter_map log_entry (newest_first history)))
-    (isnt_open c (situation_after part) (filter_map log_entry (newest_first history))
-    (agrees h c (newest_first history) keeps)
-    (ap (λ s. is_none s.called) at_end))
-  where
-    part : List Did
-    part = part_of c (newest_first history)
-
-    answers : AreAnswers part
-    answers = are_answers part small
-
-    keeps : KeepsTo h part
-    keeps = sound_keeps h script part sound plays.plays answers
-
-    at_end : situation_after part ≡ at_rest
-    at_end = rests_at_stop h (situation_after part) (left_after script part)
-        (sound_left h script part sound plays.plays answers) plays.done
+    grind (
+      arith,
+      small,
+      newest_log,
+      isnt_some,
+      isnt_open,
+      agrees,
+      is_none,
+      part_of,
+      are_answers,
+      sound_keeps,
+      rests_at_stop,
+      sound_left,
+    )

@@ -1,7 +1,7 @@
 -- Legal histories, the newest event first: each event may come after the events before it.
-use Rattle.std.proofs.Common.{◌≡◌, ℕ, ◌+◌, ◌<◌, ◌^◌, Bool, true, false, cond, ◌&&◌, List, [], ◌∷◌}
+use Rattle.std.proofs.Common.{◌≡◌, ℕ, ◌+◌, ◌<◌, ◌^◌, Bool, true, false, cond, List, [], ◌∷◌}
 use Rattle.std.proofs.Common.{Some, None, refl, arith}
-use Rattle.std.specs.Prelude.{◌==◌, nat_lt, unwrap_or, length}
+use Rattle.std.specs.Prelude.{◌==◌, unwrap_or}
 use Rattle.std.specs.Option.{option_or}
 use Rattle.std.specs.List.{list_all, cons_option}
 use Rattle.std.proofs.lemmas.Bool.Decides.{nat_tests}
@@ -67,17 +67,11 @@ legal_history cells history legal = onto_legal cells [] history legal
 -- the caller of an event is in range, and it may do what it did
 pub caller_low : (cells : Cells) (earlier : List Stamped) (e : Stamped) → may_come cells earlier e
     ≡ true → e.caller < cells.callers
-caller_low cells earlier e may =
-    let test : nat_lt e.caller cells.callers ≡ true =
-    second_true (e.number == length earlier) (nat_lt e.caller cells.callers)
-    (first_true (e.number == length earlier && nat_lt e.caller cells.callers)
-    (may_do cells earlier e.caller e.did) may) in
-    grind (arith, nat_tests)
+caller_low cells earlier e may = grind (arith, nat_tests, second_true, first_true)
 
 pub does : (cells : Cells) (earlier : List Stamped) (e : Stamped) → may_come cells earlier e ≡ true
     → may_do cells earlier e.caller e.did ≡ true
-does cells earlier e may = second_true (e.number == length earlier && nat_lt e.caller cells.callers)
-    (may_do cells earlier e.caller e.did) may
+does cells earlier e may = search (second_true, arith)
 
 -- the cell's value after one more event
 abbrev pub value_with : List Stamped → ℕ → ℕ → Did → ℕ
@@ -96,20 +90,18 @@ next_small cells earlier cell caller (Wrote other value) may plain small = by_pl
     by_place : (b : Bool)
         → unwrap_or (option_or (cond b (Some value) None)
         (first_answer (λ e. made_of cell e.caller e.did) earlier)) 0 < 2 ^ 63
-    by_place true = let test : nat_lt value (2 ^ 63) ≡ true = second_true (is_plain cells other)
-        (nat_lt value (2 ^ 63)) may in
-        grind (arith, nat_tests)
-    by_place false = small
+    by_place b = search (second_true, small, arith)
 next_small cells earlier cell caller (Took other) may plain small = by_place (other == cell) refl
   where
     by_place : (b : Bool) → (other == cell) ≡ b
         → unwrap_or (option_or (cond b (Some (caller + 1)) None)
         (first_answer (λ e. made_of cell e.caller e.did) earlier)) 0 < 2 ^ 63
     by_place true e =
-        let apart : (cell == other) ≡ false =
-        plain_isnt cells cell other plain
-        (first_true (is_lock cells other) (value_in earlier other == 0) may) in
-        absurd (not_both other cell e apart)
+        grind (
+          arith,
+          not_both other cell e (plain_isnt cells cell other plain (first_true (is_lock
+              cells other) (value_in earlier other == 0) may)),
+        )
       where
         not_both : (a b : ℕ) → (a == b) ≡ true → (b == a) ≡ false → ⊥
         not_both a b e f = grind (arith, nat_tests)
@@ -119,8 +111,7 @@ next_small cells earlier cell caller (Gave other) may plain small = by_place (ot
     by_place : (b : Bool)
         → unwrap_or (option_or (cond b (Some 0) None)
         (first_answer (λ e. made_of cell e.caller e.did) earlier)) 0 < 2 ^ 63
-    by_place true = omega arith
-    by_place false = small
+    by_place b = search (small, arith)
 next_small cells earlier cell caller (Marked kind) may plain small = small
 
 pub plain_small : (cells : Cells) (earlier : List Stamped) (cell : ℕ) → AreLegal cells earlier
@@ -158,6 +149,4 @@ are_answers cells (e ∷ earlier) c legal = by_caller (e.caller == c)
   where
     by_caller : (b : Bool) → AreAnswers (part_of c earlier)
         → AreAnswers (cons_option (cond b (Some e.did) None) (part_of c earlier))
-    by_caller true before =
-        (answer_is cells earlier e.caller e.did legal.1 (does cells earlier e legal.0), before)
-    by_caller false before = before
+    by_caller b before = search (answer_is, does, arith)

@@ -1,21 +1,18 @@
 -- The run by turns of sound scripts: each turn adds an event that may come, and each caller plays
 -- its script.
-use Rattle.std.proofs.Common.{◌≡◌, ℕ, zero, suc, ◌+◌, ◌<◌, ◌≤◌, ◌^◌, Bool, true, false, cond, not}
+use Rattle.std.proofs.Common.{◌≡◌, ℕ, zero, suc, ◌+◌, ◌<◌, ◌≤◌, Bool, true, cond, not}
 use Rattle.std.proofs.Common.{◌&&◌, List, [], ◌∷◌, Option, Some, None, refl, ap, ◌∙◌, sym, subst}
 use Rattle.std.proofs.Common.{arith}
 use Rattle.std.specs.Prelude.{◌==◌, nat_lt, is_some, length}
 use Rattle.std.specs.List.{cons_option}
 use Rattle.std.proofs.lemmas.Bool.Decides.{nat_tests}
-use Rattle.std.proofs.lemmas.Option.{same_Some}
 use Rattle.vyrd_base.specs.declared.header.Header.{Header}
 use Rattle.vyrd_base.specs.declared.log.Kind.{Kind}
-use Rattle.vyrd_base.specs.declared.log.Kind.TheVariants.{Call, Return, Write, Commit, BlockOpen}
-use Rattle.vyrd_base.specs.declared.log.Kind.TheVariants.{BlockClose, BlockCommit}
 use Rattle.vyrd_base.specs.declared.history.Did.{Did}
-use Rattle.vyrd_base.specs.declared.history.Did.TheVariants.{Read, Wrote, Took, Gave, Marked}
+use Rattle.vyrd_base.specs.declared.history.Did.TheVariants.{Took}
 use Rattle.vyrd_base.specs.declared.history.Stamped.{Stamped}
 use Rattle.vyrd_base.specs.Places.{newest_first, numbers_below}
-use Rattle.vyrd_base.specs.Histories.{cells_of, is_plain, is_lock, value_in, is_write, may_do}
+use Rattle.vyrd_base.specs.Histories.{cells_of, is_lock, value_in, is_write, may_do}
 use Rattle.vyrd_base.specs.Histories.{is_legal}
 use Rattle.vyrd_base.proofs.TestLaws.{both_true, first_true, second_true, same_number, is_below}
 use Rattle.vyrd_memory.specs.declared.act.Act.{Act}
@@ -41,13 +38,7 @@ pub record IsRun (h : Header) (scripts : List Script) (earlier : List Stamped) :
 -- a mark that may be left isn't a write
 is_mark : (h : Header) (s : Situation) (kind : Kind) → may_mark h s kind ≡ true
     → not (is_write kind) ≡ true
-is_mark h s (Call method args) may = refl
-is_mark h s (Return reply) may = refl
-is_mark h s (Write word value) may = may
-is_mark h s Commit may = refl
-is_mark h s BlockOpen may = refl
-is_mark h s BlockClose may = refl
-is_mark h s BlockCommit may = refl
+is_mark h s kind may = grind arith
 
 -- the event of an act that may come may happen
 event_may : (h : Header) (c : ℕ) (earlier : List Stamped) (s : Situation) (act : Act) (did : Did)
@@ -55,49 +46,22 @@ event_may : (h : Header) (c : ℕ) (earlier : List Stamped) (s : Situation) (act
     → ((lock : ℕ) → is_lock (cells_of h) lock ≡ true → holds s lock
     ≡ (value_in earlier lock == c + 1))
     → event_now earlier act ≡ Some did → may_do (cells_of h) earlier c did ≡ true
-event_may h c earlier s (Load cell) did may held e =
-    subst (λ did. may_do (cells_of h) earlier c did ≡ true)
-    (same_Some (Read cell (value_in earlier cell)) did e)
-    (both_true (is_plain (cells_of h) cell) (value_in earlier cell == value_in earlier cell) may
-    (same_number (value_in earlier cell)))
-event_may h c earlier s (Store cell value) did may held e =
-    subst (λ did. may_do (cells_of h) earlier c did ≡ true) (same_Some (Wrote cell value) did e)
-    (first_true (is_plain (cells_of h) cell && nat_lt value (2 ^ 63)) (is_some s.called) may)
+event_may h c earlier s (Load cell) did may held e = search (both_true, same_number, arith)
+event_may h c earlier s (Store cell value) did may held e = search (first_true, is_some, arith)
 event_may h c earlier s (Take lock) did may held e = by_value (value_in earlier lock == 0) refl e
   where
     by_value : (b : Bool) → (value_in earlier lock == 0) ≡ b → cond b (Some (Took lock)) None
         ≡ Some did → may_do (cells_of h) earlier c did ≡ true
-    by_value true free e =
-        subst (λ did. may_do (cells_of h) earlier c did ≡ true) (same_Some (Took lock) did e)
-        (both_true (is_lock (cells_of h) lock) (value_in earlier lock == 0)
-        (first_true (is_lock (cells_of h) lock) (not (holds s lock)) may) free)
-    by_value false free e = cc
+    by_value b free e = search (free, both_true, first_true, arith)
 event_may h c earlier s (Give lock) did may held e =
-    let is : is_lock (cells_of h) lock ≡ true = first_true (is_lock (cells_of h) lock)
-    (holds s lock) may in
-    subst (λ did. may_do (cells_of h) earlier c did ≡ true) (same_Some (Gave lock) did e)
-    (both_true (is_lock (cells_of h) lock) (value_in earlier lock == c + 1) is
-    (sym (held lock is) ∙ second_true (is_lock (cells_of h) lock) (holds s lock) may))
-event_may h c earlier s (Mark kind) did may held e =
-    subst (λ did. may_do (cells_of h) earlier c did ≡ true) (same_Some (Marked kind) did e)
-    (is_mark h s kind may)
+    search (first_true, both_true, held, second_true, arith)
+event_may h c earlier s (Mark kind) did may held e = search (is_mark, arith)
 event_may h c earlier s Done did may held e = cc
 
 -- it is the event that the script wants
 event_plays : (earlier : List Stamped) (act : Act) (did : Did) → event_now earlier act ≡ Some did
     → event_of act (answer_of did) ≡ Some did
-event_plays earlier (Load cell) did e =
-    subst (λ did. event_of (Load cell) (answer_of did) ≡ Some did)
-    (same_Some (Read cell (value_in earlier cell)) did e) refl
-event_plays earlier (Store cell value) did e = e
-event_plays earlier (Take lock) did e = by_value (value_in earlier lock == 0) e
-  where
-    by_value : (b : Bool) → cond b (Some (Took lock)) None ≡ Some did → Some (Took lock) ≡ Some did
-    by_value true e = e
-    by_value false e = cc
-event_plays earlier (Give lock) did e = e
-event_plays earlier (Mark kind) did e = e
-event_plays earlier Done did e = cc
+event_plays earlier act did e = grind arith
 
 next_may : (h : Header) (s : Situation) (script : Script) (earlier : List Stamped) (did : Did)
     → IsSound h s script
@@ -114,17 +78,11 @@ no_script (script ∷ scripts) (suc c) high = no_script scripts c (omega arith)
 
 nothing_left : (scripts : List Script) (c : ℕ) (earlier : List Stamped) → length scripts ≤ c
     → left_after (script_of scripts c) (part_of c earlier) ≡ stop
-nothing_left scripts c earlier high = ap (λ script. left_after script (part_of c earlier))
-    (no_script scripts c high)
-    ∙ left_of_stop (part_of c earlier)
+nothing_left scripts c earlier high = grind (arith, part_of, no_script, left_of_stop)
 
 -- a caller's number is in range or not
 in_range_or_not : {P : Type 0} (c n : ℕ) → (c < n → P) → (n ≤ c → P) → P
-in_range_or_not {P} c n low high = by_test (nat_lt c n) refl
-  where
-    by_test : (b : Bool) → nat_lt c n ≡ b → P
-    by_test true e = low (grind (arith, nat_tests))
-    by_test false e = high (grind (arith, nat_tests))
+in_range_or_not e0 c n = grind (arith, nat_tests)
 
 -- what is left of a caller's script is sound in the caller's situation, and its part keeps to what
 -- may be done
@@ -133,17 +91,13 @@ pub run_sound : (h : Header) (scripts : List Script) (earlier : List Stamped) (c
     → IsRun h scripts earlier → c < h.callers
     → IsSound h (situation_after (part_of c earlier))
     (left_after (script_of scripts c) (part_of c earlier))
-run_sound h scripts earlier c sound run low =
-    sound_left h (script_of scripts c) (part_of c earlier) (sound.sound c low) (run.plays c)
-    (are_answers (cells_of h) earlier c run.legal)
+run_sound h scripts earlier c sound run low = grind (arith, sound_left, part_of, are_answers)
 
 pub run_keeps : (h : Header) (scripts : List Script) (earlier : List Stamped) (c : ℕ)
     → AreSoundScripts h scripts
     → IsRun h scripts earlier → c < h.callers
     → KeepsTo h (part_of c earlier)
-run_keeps h scripts earlier c sound run low =
-    sound_keeps h (script_of scripts c) (part_of c earlier) (sound.sound c low) (run.plays c)
-    (are_answers (cells_of h) earlier c run.legal)
+run_keeps h scripts earlier c sound run low = grind (arith, sound_keeps, part_of, are_answers)
 
 -- one event more
 event_runs : (h : Header) (scripts : List Script) (earlier : List Stamped) (c : ℕ) (did : Did)
@@ -171,13 +125,7 @@ event_runs h scripts earlier c did sound run low e = record {
   where
     by_caller : (i : ℕ) (b : Bool) → (c == i) ≡ b → Plays (script_of scripts i)
         (cons_option (cond b (Some did) None) (part_of i earlier))
-    by_caller i true is =
-        let same : c ≡ i = grind (arith, nat_tests) in (
-          subst (λ i. event_of (act_of scripts i earlier) (answer_of did)
-              ≡ Some did) same (event_plays earlier (act_of scripts c earlier) did e),
-          run.plays i,
-        )
-    by_caller i false is = run.plays i
+    by_caller i b is = search (event_plays, arith)
 
 -- a turn, turns and rounds
 turn_runs : (h : Header) (scripts : List Script) (earlier : List Stamped) (c : ℕ)

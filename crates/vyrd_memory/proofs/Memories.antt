@@ -1,6 +1,6 @@
 -- What it says of a memory that it represents a state.
-use Rattle.std.proofs.Common.{◌≡◌, ℕ, ◌+◌, ◌<◌, ◌≤◌, Bool, true, false, cond, length, map, Some}
-use Rattle.std.proofs.Common.{refl, ap, ◌∙◌, sym, subst, arith, rules}
+use Rattle.std.proofs.Common.{◌≡◌, ℕ, ◌+◌, ◌<◌, ◌≤◌, Bool, true, cond, length, map, Some}
+use Rattle.std.proofs.Common.{ap, ◌∙◌, sym, subst, arith, rules}
 use Rattle.std.specs.Prelude.{◌==◌, ◌≢◌, ◌&&◌, drop, slice_index}
 use Rattle.std.specs.Bool.{then_some}
 use Rattle.std.specs.List.{list_all}
@@ -41,10 +41,7 @@ free_list memory k n = list_all-map is_free memory (numbers_from k n)
 
 locks_are : (h : Header) (memory : Memory) → drop (plain_words h) (words_in h memory)
     ≡ map memory (numbers_from (plain_words h) (lock_words h))
-locks_are h memory =
-    let e : 0 + plain_words h ≡ plain_words h = omega arith in
-    drop-from memory 0 (plain_words h) (lock_words h)
-    ∙ ap (λ k. map memory (numbers_from k (lock_words h))) e
+locks_are h memory = grind (arith, drop-from)
 
 zero_of : (n : ℕ) → is_free n ≡ true → n ≡ 0
 zero_of n e = grind (arith, nat_tests)
@@ -52,10 +49,7 @@ zero_of n e = grind (arith, nat_tests)
 -- the words are as many as the header says
 right_length : (h : Header) (memory : Memory)
     → (length (words_in h memory) == plain_words h + lock_words h) ≡ true
-right_length h memory =
-    let is : length (words_in h memory) ≡ plain_words h + lock_words h = length-mapped memory 0
-    (plain_words h + lock_words h) in
-    grind (arith, nat_tests)
+right_length h memory = grind (arith, nat_tests, length-mapped)
 
 -- what a memory that represents a state is
 pub represents : (h : Header) (memory : Memory) (state : Amounts) → state_in h memory ≡ Some state
@@ -114,8 +108,4 @@ changed_cell memory cell value = search rules
 
 pub other_cell : (memory : Memory) (cell value other : ℕ) → other ≢ cell
     → with_cell memory cell value other ≡ memory other
-other_cell memory cell value other apart = by_place (other == cell) refl
-  where
-    by_place : (b : Bool) → (other == cell) ≡ b → with_cell memory cell value other ≡ memory other
-    by_place true e = let same : other ≡ cell = grind (arith, nat_tests) in absurd (apart same)
-    by_place false e = ap (λ b. cond b value (memory other)) e
+other_cell memory cell value other apart = grind (arith, nat_tests, apart)

@@ -1,8 +1,7 @@
 -- Lists over numbers in a row: their elements, their ends, and what holds of each.
-use Rattle.std.proofs.Common.{◌≡◌, ℕ, zero, suc, ◌+◌, ◌<◌, ◌≤◌, Bool, true, false, List, ◌++◌, map}
+use Rattle.std.proofs.Common.{◌≡◌, ℕ, zero, suc, ◌+◌, ◌<◌, ◌≤◌, Bool, true, List, ◌++◌, map}
 use Rattle.std.proofs.Common.{refl, ap, ◌∙◌, arith}
 use Rattle.std.specs.Prelude.{◌≢◌, ◌==◌, slice_index, drop, flat_map}
-use Rattle.std.proofs.lemmas.Bool.Decides.{nat_tests}
 use Rattle.std.specs.List.{list_all}
 use Rattle.vyrd_base.specs.Places.{numbers_from, numbers_below}
 use Rattle.vyrd_base.proofs.TestLaws.{first_true, second_true}
@@ -12,8 +11,7 @@ pub element_from : (f : ℕ → ℕ) (k n i : ℕ) → i < n → slice_index (ma
     ≡ f (k + i)
 element_from f k zero i low = absurd (omega (arith, low))
 element_from f k (suc n) zero low = let e : k ≡ k + 0 = omega arith in ap f e
-element_from f k (suc n) (suc i) low = let e : k + 1 + i ≡ k + suc i = omega arith in element_from f
-    (k + 1) n i (omega arith) ∙ ap f e
+element_from f k (suc n) (suc i) low = grind (arith, element_from f (k + 1) n i (omega arith))
 
 pub element_below : (f : ℕ → ℕ) (n i : ℕ) → i < n → slice_index (map f (numbers_below n)) i ≡ f i
 element_below f n i low = let e : 0 + i ≡ i = omega arith in element_from f 0 n i low ∙ ap f e
@@ -21,14 +19,11 @@ element_below f n i low = let e : 0 + i ≡ i = omega arith in element_from f 0 
 -- what is left after the first p numbers
 pub drop-from : (f : ℕ → ℕ) (k p n : ℕ) → drop p (map f (numbers_from k (p + n)))
     ≡ map f (numbers_from (k + p) n)
-drop-from f k zero n = let a : 0 + n ≡ n = omega arith in let b : k ≡ k + 0 = omega arith in
-    ap (λ m. map f (numbers_from k m)) a
-    ∙ ap (λ m. map f (numbers_from m n)) b
+drop-from f k zero n = grind arith
 drop-from f k (suc p) n =
     let a : suc p + n ≡ suc (p + n) = omega arith in
     let b : k + 1 + p ≡ k + suc p = omega arith in
-    ap (λ m. drop (suc p) (map f (numbers_from k m))) a ∙ drop-from f (k + 1) p n
-    ∙ ap (λ m. map f (numbers_from m n)) b
+    cc (drop-from f (k + 1) p n)
 
 -- a test that all pass, each does
 pub all_pass : (test : ℕ → Bool) (k n : ℕ) → list_all test (numbers_from k n) ≡ true → (i : ℕ)
@@ -41,9 +36,7 @@ all_pass test k (suc n) all i from to =
     (omega arith) (omega arith))
   where
     by_place : (b : Bool) → (k == i) ≡ b → (k ≢ i → test i ≡ true) → test i ≡ true
-    by_place true e later = let same : i ≡ k = grind (arith, nat_tests) in ap test same
-        ∙ first_true (test k) (list_all test (numbers_from (k + 1) n)) all
-    by_place false e later = later (grind (arith, nat_tests))
+    by_place b e later = search (first_true, arith)
 
 -- what two functions give alike
 pub flat_map_alike : {A : Type 0} (f g : ℕ → List A) (k n : ℕ)

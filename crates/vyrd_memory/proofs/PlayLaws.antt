@@ -5,7 +5,6 @@ use Rattle.std.proofs.Common.{subst, arith}
 use Rattle.std.specs.Prelude.{◌≢◌, ◌==◌, nat_lt, nat_le, is_some, length, slice_get, slice_index}
 use Rattle.std.specs.Prelude.{set, unwrap_or}
 use Rattle.std.specs.Option.{option_or}
-use Rattle.std.specs.List.{cons_option}
 use Rattle.std.proofs.lemmas.Bool.Decides.{nat_tests}
 use Rattle.std.proofs.lemmas.List.{length-set, get_or-set_same, get_or-set_other}
 use Rattle.std.proofs.lemmas.Option.{same_Some, slice_get_within}
@@ -95,15 +94,7 @@ within h script n e sound =
 pub same_event : (h : Header) (earlier : List Stamped) (act : Act)
     → IsWithin (plain_words h + lock_words h) act
     → event_in (memory_after h earlier) act ≡ event_now earlier act
-same_event h earlier (Load cell) is = ap (λ value. Some (Read cell value))
-    (element_below (value_in earlier) (plain_words h + lock_words h) cell is)
-same_event h earlier (Store cell value) is = refl
-same_event h earlier (Take lock) is =
-    ap (λ value. cond (value == 0) (Some (Took lock)) None)
-    (element_below (value_in earlier) (plain_words h + lock_words h) lock is)
-same_event h earlier (Give lock) is = refl
-same_event h earlier (Mark kind) is = refl
-same_event h earlier Done is = refl
+same_event h earlier act is = grind (arith, element_below)
 
 -- one element of a list over numbers is changed
 set_from : (f g : ℕ → ℕ) (k n i v : ℕ) → i < n → g (k + i) ≡ v → ((j : ℕ) → j ≢ k + i → f j ≡ g j)
@@ -122,17 +113,11 @@ set_from f g k (suc n) (suc i) v low is same =
 -- the value of a cell after an event that makes it so, and of every other cell
 made_here : (n cell value : ℕ) (o : Option ℕ) → n ≡ cell
     → unwrap_or (option_or (cond (cell == n) (Some value) None) o) 0 ≡ value
-made_here n cell value o e = ap (λ b. unwrap_or (option_or (cond b (Some value) None) o) 0)
-    (ap (λ n. cell == n) e ∙ same_number cell)
+made_here n cell value o e = cc (same_number cell)
 
 made_there : (n cell value : ℕ) (o : Option ℕ) → n ≢ cell → unwrap_or o 0
     ≡ unwrap_or (option_or (cond (cell == n) (Some value) None) o) 0
-made_there n cell value o apart = by_place (cell == n) refl
-  where
-    by_place : (b : Bool) → (cell == n) ≡ b → unwrap_or o 0
-        ≡ unwrap_or (option_or (cond b (Some value) None) o) 0
-    by_place true e = let same : n ≡ cell = grind (arith, nat_tests) in absurd (apart same)
-    by_place false e = refl
+made_there n cell value o apart = grind (arith, nat_tests, apart)
 
 changed_memory : (h : Header) (e : Stamped) (earlier : List Stamped) (cell value : ℕ)
     → cell < plain_words h + lock_words h
@@ -200,12 +185,9 @@ small_set : (words : List ℕ) (i v : ℕ) → i < length words → v < 2 ^ 63
 small_set words i v low small all cell = by_place (cell == i) refl
   where
     by_place : (b : Bool) → (cell == i) ≡ b → slice_index (set words i v) cell < 2 ^ 63
-    by_place true e =
-        let same : i ≡ cell = grind (arith, nat_tests) in
-        subst (λ j. slice_index (set words i v) j < 2 ^ 63) same
-        (subst (λ x. x < 2 ^ 63) (sym (get_or-set_same words i v 0 low)) small)
+    by_place true e = grind (arith, get_or-set_same words i v 0 low)
     by_place false e = let apart : cell ≢ i = grind (arith, nat_tests) in
-        subst (λ x. x < 2 ^ 63) (sym (get_or-set_other words i cell v 0 apart)) (all cell)
+        rw (get_or-set_other words i cell v 0 apart) (all cell)
 
 next_small : (words : List ℕ) (c : ℕ) (did : Did) → c < 2 ^ 32 → WithinMemory (length words) did
     → ((cell : ℕ) → slice_index words cell < 2 ^ 63)
@@ -218,33 +200,22 @@ next_small words c (Gave lock) low is all = small_set words lock 0 is (omega ari
 next_small words c (Marked kind) low is all = all
 
 next_length : (words : List ℕ) (c : ℕ) (did : Did) → length (words_with words c did) ≡ length words
-next_length words c (Read cell value) = refl
-next_length words c (Wrote cell value) = length-set words cell value
-next_length words c (Took lock) = length-set words lock (c + 1)
-next_length words c (Gave lock) = length-set words lock 0
-next_length words c (Marked kind) = refl
+next_length words c did = grind (arith, length-set)
 
 -- what stands in a list where one element was changed
 pub slice_get-set : {A : Type 0} (xs : List A) (c i : ℕ) (x : A) → c < length xs
     → slice_get (set xs c x) i ≡ cond (i == c) (Some x) (slice_get xs i)
 slice_get-set [] c i x low = absurd (omega (arith, low))
 slice_get-set (y ∷ xs) zero zero x low = refl
-slice_get-set (y ∷ xs) zero (suc i) x low = let e : (suc i == 0)
-    ≡ false = grind (arith, nat_tests) in
-    ap (λ b. cond b (Some x) (slice_get xs i)) (sym e)
-slice_get-set (y ∷ xs) (suc c) zero x low = let e : (0 == suc c)
-    ≡ false = grind (arith, nat_tests) in ap (λ b. cond b (Some x) (Some y)) (sym e)
-slice_get-set (y ∷ xs) (suc c) (suc i) x low =
-    let e : (suc i == suc c) ≡ (i == c) = grind (arith, nat_tests) in slice_get-set xs c i x
-    (omega arith)
-    ∙ ap (λ b. cond b (Some x) (slice_get xs i)) (sym e)
+slice_get-set (y ∷ xs) zero (suc i) x low = grind arith
+slice_get-set (y ∷ xs) (suc c) zero x low = grind arith
+slice_get-set (y ∷ xs) (suc c) (suc i) x low = grind (arith, slice_get-set xs c i x (omega arith))
 
 total-set : {M : Type 0} (ahead : M → ℕ) (machines : List M) (c : ℕ) (m n : M)
     → slice_get machines c ≡ Some m
     → total ahead (set machines c n) + ahead m ≡ total ahead machines + ahead n
 total-set ahead [] c m n is = cc
-total-set ahead (x ∷ machines) zero m n is = let same : x ≡ m = same_Some x m is in
-    omega (arith, ap ahead same)
+total-set ahead (x ∷ machines) zero m n is = grind (arith, same_Some x m is)
 total-set ahead (x ∷ machines) (suc c) m n is = omega (arith, total-set ahead machines c m n is)
 
 pub total_falls : {M : Type 0} (ahead : M → ℕ) (machines : List M) (c : ℕ) (m n : M)
@@ -278,8 +249,7 @@ turn_did_within : {M : Type 0} (h : Header) (header_of : M → Header) (script :
     → IsTurn h header_of script machines c m n words did
     → WithinMemory (plain_words h + lock_words h) did
 turn_did_within h header_of script machines c m n words did t =
-    event_within (plain_words h + lock_words h) words (next_act (script m)) did
-    (turn_within h header_of script machines c m n words did t) t.event
+    search (event_within, turn_within, arith)
 
 pub next_ready : {M : Type 0} (h : Header) (header_of : M → Header) (script : M
     → Script) (machines : List M) (c : ℕ) (m n : M) (words : List ℕ) (did : Did)
@@ -291,27 +261,23 @@ next_ready h header_of script machines c m n words did t = record {
   room = next_length words c did ∙ t.ready.room;
   small =
       next_small words c did t.caller
-      (subst (λ k. WithinMemory k did) (sym t.ready.room)
+      (rw t.ready.room
       (turn_did_within h header_of script machines c m n words did t)) t.ready.small;
 }
   where
     by_place : (i : ℕ) (x : _) (b : Bool) → cond b (Some n) (slice_get machines i) ≡ Some x
         → header_of x ≡ h
-    by_place i x true is = ap header_of (sym (same_Some n x is)) ∙ t.header
-        ∙ t.ready.made c m t.here
-    by_place i x false is = t.ready.made i x is
+    by_place i x b is = search arith
 
 -- the caller's part has one event more, and the others' are as before
 part_here : (c number : ℕ) (did : Did) (earlier : List Stamped)
     → part_of c (record { number = number; caller = c; did = did } ∷ earlier) ≡ did
     ∷ part_of c earlier
-part_here c number did earlier = ap (λ b. cons_option (cond b (Some did) None) (part_of c earlier))
-    (same_number c)
+part_here c number did earlier = cc (same_number c)
 
 pub part_there : (i c number : ℕ) (did : Did) (earlier : List Stamped) → (c == i) ≡ false
     → part_of i (record { number = number; caller = c; did = did } ∷ earlier) ≡ part_of i earlier
-part_there i c number did earlier apart =
-    ap (λ b. cons_option (cond b (Some did) None) (part_of i earlier)) apart
+part_there i c number did earlier apart = cc
 
 pub next_playing : {M : Type 0} (h : Header) (header_of : M → Header) (script : M
     → Script) (machines : List M) (c number : ℕ) (m n : M) (words : List ℕ)
@@ -362,8 +328,7 @@ pub act_is : {M : Type 0} (h : Header) (script : M
     (c : ℕ) (m : M)
     → IsPlaying h script scripts machines words history → slice_get machines c ≡ Some m
     → act_of scripts c (newest_first history) ≡ next_act (script m)
-act_is h script scripts machines words history c m playing here = ap next_act
-    (sym (playing.left c m here))
+act_is h script scripts machines words history c m playing here = cc (playing.left c m here)
 
 -- the event of a machine is that of its caller
 pub event_is : {M : Type 0} (h : Header) (script : M
@@ -374,10 +339,7 @@ pub event_is : {M : Type 0} (h : Header) (script : M
     → event_now (newest_first history) (act_of scripts c (newest_first history)) ≡ event_in words
     (next_act (script m))
 event_is h script scripts machines words history c m playing here is =
-    ap (event_now (newest_first history))
-    (act_is h script scripts machines words history c m playing here)
-    ∙ sym (same_event h (newest_first history) (next_act (script m)) is)
-    ∙ ap (λ words. event_in words (next_act (script m))) (sym playing.words_are)
+    search (act_is, here, same_event, arith)
 
 -- a turn with an event is the turn of the definition
 pub turn_is : {M : Type 0} (h : Header) (header_of : M → Header) (script : M
@@ -456,10 +418,5 @@ pub no_turn_played : {M : Type 0} (h : Header) (header_of : M → Header) (scrip
     → HasPlayed h header_of script (c ∷ []) (scene machines words history)
     (scene machines later_words history)
 no_turn_played h header_of script machines c m words later_words history ready here sound none
-    words_are = record {
-      ready = subst (IsReady h header_of machines) (sym words_are) ready;
-      count = refl;
-      plays = λ scripts playing. subst (λ words. IsPlaying h script scripts machines words history)
-          (sym words_are) playing;
-      history = no_turn_is h header_of script machines c m words history ready here sound none;
-    }
+    words_are =
+    grind (arith, no_turn_is h header_of script machines c m words history ready here sound none)

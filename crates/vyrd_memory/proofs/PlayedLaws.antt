@@ -37,8 +37,7 @@ played_more h header_of script xs ys zs a b c first second e = record {
 
 pub one_more : {A : Type 0} (n : ℕ) (x : A) → replicate (n + 1) x ≡ replicate n x ++ x ∷ []
 one_more zero x = refl
-one_more (suc n) x = let e : suc n + 1 ≡ suc (n + 1) = omega arith in ap (λ n. replicate n x) e
-    ∙ ap (λ xs. x ∷ xs) (one_more n x)
+one_more (suc n) x = grind (arith, one_more n x)
 
 pub turns_more : (turns : List Turn) (i : ℕ) (d : Turn) → i < length turns
     → turns_of (take (i + 1) turns) ≡ turns_of (take i turns) ++ replicate (get_or turns i d).count
@@ -82,17 +81,12 @@ one_round_more h header_of script a b c rounds first second =
     played_more h header_of script (rounds_over (length a.machines) rounds)
     (numbers_below (length b.machines))
     (rounds_over (length a.machines) (rounds + 1)) a b c first second
-    (rounds_more (length a.machines) rounds
-    ∙ ap (λ n. rounds_over (length a.machines) rounds ++ numbers_below n) (sym first.count))
+    (cc (rounds_more (length a.machines) rounds, first.count))
 
 -- a history only grows, by one event in a turn at most
 turn_grows : (scripts : List Script) (c : ℕ) (earlier : List Stamped) → length earlier
     ≤ length (after_turn scripts c earlier)
-turn_grows scripts c earlier = by_event (event_now earlier (act_of scripts c earlier))
-  where
-    by_event : (o : Option Did) → length earlier ≤ length (with_event c earlier o)
-    by_event None = omega arith
-    by_event (Some did) = omega arith
+turn_grows scripts c earlier = grind arith
 
 pub turns_grow : (scripts : List Script) (callers : List ℕ) (earlier : List Stamped)
     → length earlier ≤ length (after_turns scripts callers earlier)
@@ -120,12 +114,9 @@ unmoved scripts (c ∷ callers) earlier same = by_event (event_now earlier (act_
     by_event None e others =
         let here : after_turn scripts c earlier ≡ earlier = ap (with_event c earlier) e in
         ap (after_turns scripts callers) here
-        ∙ others (ap (λ xs. length (after_turns scripts callers xs)) (sym here) ∙ same)
+        ∙ others (cc)
     by_event (Some did) e others =
-        let longer : length (after_turn scripts c earlier) ≡ suc (length earlier) =
-        ap (λ o. length (with_event c earlier o)) e in
-        absurd (omega
-        (arith, turns_grow scripts callers (after_turn scripts c earlier), longer, same))
+        grind (arith, turns_grow scripts callers (after_turn scripts c earlier))
 
 -- a round without an event is the last
 pub come_to_rest : {M : Type 0} (h : Header) (header_of : M → Header) (script : M → Script)
@@ -143,8 +134,5 @@ come_to_rest h header_of script a b c rounds first second same = record {
       ≡ length (newest_first b.history) =
       ap length (sym played) ∙ length-newest_first c.history ∙ same
       ∙ sym (length-newest_first b.history) in
-      ap (λ n. after_turns scripts (numbers_below n) (newest_first c.history)) (sym first.count)
-      ∙ ap (after_turns scripts callers)
-      (played ∙ unmoved scripts callers (newest_first b.history) kept)
-      ∙ sym played;
+      cc (first.count, unmoved scripts callers (newest_first b.history) kept);
 }

@@ -9,7 +9,6 @@ use Rattle.std.specs.List.{cons_option, list_any}
 use Rattle.vyrd_base.specs.declared.header.Header.{Header}
 use Rattle.vyrd_base.specs.declared.log.Entry.{Entry}
 use Rattle.vyrd_base.specs.declared.history.Did.{Did}
-use Rattle.vyrd_base.specs.declared.history.Did.TheVariants.{Read, Wrote, Took, Gave, Marked}
 use Rattle.vyrd_base.specs.declared.history.Stamped.{Stamped}
 use Rattle.vyrd_base.specs.declared.verdict.Rule.{Rule}
 use Rattle.vyrd_base.specs.declared.verdict.Rule.TheVariants.{BlockRaced, CallOpen}
@@ -71,12 +70,7 @@ first_break_only h entries only = break_only h [] entries only
 event_only : (h : Header) (c : ℕ) (did : Did) (s : Situation) (log : List Entry) → c < h.callers
     → may_act h s (act_of_event did) ≡ true → Agrees c s log
     → AreOnlyRaced h log → AreOnlyRaced h (cons_option (logged c did) log)
-event_only h c (Read cell value) s log low may a only = only
-event_only h c (Wrote cell value) s log low may a only =
-    (write_kept h c cell value s log low may a, only)
-event_only h c (Took lock) s log low may a only = only
-event_only h c (Gave lock) s log low may a only = only
-event_only h c (Marked kind) s log low may a only = (mark_kept h c kind s log low may a, only)
+event_only h c did s log low may a only = grind (arith, write_kept, mark_kept)
 
 -- each caller's part keeps to what may be done
 abbrev pub AllKeep : Header → List Stamped → Type 0
@@ -131,8 +125,7 @@ fault_isnt h states (place ∷ ps) line rule e = by_fault (fault_at (rules_of h)
         → option_or (option_map (Violation (line_of [] (position_of place))) o)
         (first_answer (violation_at (rules_of h) [] states) ps)
         ≡ Some (Malformed line rule) → ⊥
-    by_fault None later e = later e
-    by_fault (Some why) later e = cc
+    by_fault o later e = search arith
 
 first_fault_isnt : (h : Header) (entries : List Entry) (line : ℕ) (rule : Rule)
     → first_fault (rules_of h) [] entries ≡ Some (Malformed line rule) → ⊥
@@ -148,8 +141,7 @@ named : (fault : Option Verdict) (broken : Option Rule) (open_ : Bool) (at end :
     (then_some open_ (Malformed end CallOpen))) good ≡ Malformed line rule
     → broken ≡ Some rule
 named (Some v) broken open_ at end good line rule isnt closed fine e = absurd (isnt (ap Some e))
-named None (Some broken) open_ at end good line rule isnt closed fine e = let same : broken
-    ≡ rule = cc in ap Some same
+named None (Some broken) open_ at end good line rule isnt closed fine e = cc
 named None None true at end good line rule isnt closed fine e = cc
 named None None false at end good line rule isnt closed fine e = absurd (fine e)
 
@@ -192,10 +184,8 @@ pub all_keep : (h : Header) (scripts : List Script) (history : List Stamped)
     → AreSoundScripts h scripts
     → AreLegal (cells_of h) (newest_first history)
     → PlayToTheEnd scripts history → AllKeep h (newest_first history)
-all_keep h scripts history sound legal played c low =
-    let part = part_of c (newest_first history) in
-    sound_keeps h (script_of scripts c) part (sound.sound c low) (played c).plays
-    (are_answers (cells_of h) (newest_first history) c legal)
+all_keep h scripts history sound legal played =
+    grind (arith, played, part_of, sound_keeps, are_answers)
 
 pub all_rest : (h : Header) (scripts : List Script) (history : List Stamped)
     → AreSoundScripts h scripts → AreLegal (cells_of h) (newest_first history)
@@ -213,9 +203,7 @@ pub only_races_break : (h : Header) (scripts : List Script) (history : List Stam
     → is_legal (cells_of h) history ≡ true → PlayToTheEnd scripts history
     → OnlyRaced (first_break h (log_of history))
 only_races_break h scripts history sound is_legal_ played =
-    let legal = legal_events (cells_of h) history is_legal_ in
-    first_break_only h (log_of history) (subst (AreOnlyRaced h) (sym (newest_log history))
-    (log_only h (newest_first history) legal (all_keep h scripts history sound legal played)))
+    search (played, legal_events, first_break_only, newest_log, log_only, all_keep, arith)
 
 pub none_is_open : (h : Header) (scripts : List Script) (history : List Stamped)
     → AreSoundScripts h scripts

@@ -1,22 +1,20 @@
 -- The whole run by turns: how it begins, and where it ends.
-use Rattle.std.proofs.Common.{◌≡◌, ℕ, zero, suc, ◌+◌, ◌<◌, ◌^◌, Bool, true, false, cond, not, ◌&&◌}
+use Rattle.std.proofs.Common.{◌≡◌, ℕ, zero, suc, ◌+◌, ◌<◌, ◌^◌, Bool, true, false, not, ◌&&◌}
 use Rattle.std.proofs.Common.{◌||◌, List, [], ◌∷◌, map, replicate, Option, Some, None}
 use Rattle.std.proofs.Common.{option_map, refl, ap, ◌∙◌, sym, subst, arith}
-use Rattle.std.specs.Prelude.{◌==◌, length, slice_get, slice_index, All}
+use Rattle.std.specs.Prelude.{length, slice_get, slice_index, All}
 use Rattle.std.specs.List.{list_all}
 use Rattle.std.proofs.lemmas.List.{length-map, length-replicate}
 use Rattle.std.proofs.lemmas.List.Elements.{All-head, All-tail}
 use Rattle.std.proofs.lemmas.Option.{slice_get-map, get_or_from_slice_get}
 use Rattle.vyrd_base.specs.declared.header.Header.{Header}
 use Rattle.vyrd_base.specs.declared.history.Did.{Did}
-use Rattle.vyrd_base.specs.declared.history.Did.TheVariants.{Took}
 use Rattle.vyrd_base.specs.declared.history.Stamped.{Stamped}
 use Rattle.vyrd_base.specs.Places.{newest_first, numbers_from, numbers_below}
 use Rattle.vyrd_base.specs.Layout.{plain_words, lock_words}
 use Rattle.vyrd_base.specs.Histories.{value_in}
 use Rattle.vyrd_base.proofs.TestLaws.{both_true}
 use Rattle.vyrd_memory.specs.declared.act.Act.{Act}
-use Rattle.vyrd_memory.specs.declared.act.Act.TheVariants.{Load, Store, Take, Give, Mark, Done}
 use Rattle.vyrd_memory.specs.declared.op.Turn.{Turn}
 use Rattle.vyrd_memory.specs.Scripts.{Script, stop, next_act, left_after}
 use Rattle.vyrd_memory.specs.Turns.{script_of, part_of, act_of, event_now, with_event, after_turn}
@@ -56,14 +54,7 @@ pub done_is : {M : Type 0} (h : Header) (script : M → Script) (scripts : List 
     → IsPlaying h script scripts machines words history
     → list_all (λ m. is_done (next_act (script m))) machines ≡ are_done scripts
     (newest_first history)
-done_is h script scripts machines words history playing =
-    all_by_number (λ m. is_done (next_act (script m)))
-    (λ c. is_done (act_of scripts c (newest_first history))) machines 0
-    (λ i m is. let e : 0 + i ≡ i = omega arith in ap is_done
-    (sym (act_is h script scripts machines words history i m playing is))
-    ∙ ap (λ i. is_done (act_of scripts i (newest_first history))) (sym e))
-    ∙ ap (λ n. list_all (λ c. is_done (act_of scripts c (newest_first history))) (numbers_below n))
-    playing.count
+done_is h script = search (all_by_number, act_is, arith)
 
 -- turns that leave the history as it is have no event
 no_event : (scripts : List Script) (c : ℕ) (callers : List ℕ) (earlier : List Stamped)
@@ -74,27 +65,12 @@ no_event scripts c callers earlier same = by_event (event_now earlier (act_of sc
   where
     by_event : (o : Option Did) → event_now earlier (act_of scripts c earlier) ≡ o → o ≡ None
     by_event None e = refl
-    by_event (Some did) e =
-        let longer : length (after_turn scripts c earlier) ≡ suc (length earlier) =
-        ap (λ o. length (with_event c earlier o)) e in
-        let kept : length (after_turns scripts callers (after_turn scripts c earlier))
-        ≡ length earlier = ap length same in
-        absurd (omega
-        (arith, turns_grow scripts callers (after_turn scripts c earlier), longer, kept))
+    by_event (Some did) e = grind (arith, turns_grow scripts callers (after_turn scripts c earlier))
 
 -- an act without an event is none, or is held up
 held_up : (earlier : List Stamped) (act : Act) → event_now earlier act ≡ None
     → (is_done act || is_held_up earlier act) ≡ true
-held_up earlier (Load cell) e = cc
-held_up earlier (Store cell value) e = cc
-held_up earlier (Take lock) e = by_value (value_in earlier lock == 0) e
-  where
-    by_value : (b : Bool) → cond b (Some (Took lock)) None ≡ None → not b ≡ true
-    by_value true e = cc
-    by_value false e = refl
-held_up earlier (Give lock) e = cc
-held_up earlier (Mark kind) e = cc
-held_up earlier Done e = refl
+held_up earlier act e = grind arith
 
 all_held_up : (scripts : List Script) (earlier : List Stamped) (k n : ℕ)
     → after_turns scripts (numbers_from k n) earlier ≡ earlier
@@ -144,12 +120,9 @@ pub playing_start : {M : Type 0} (h : Header) (script : M → Script) (machines 
     → IsPlaying h script (map script machines) machines words history
 playing_start h script machines words history none zeros = record {
   count = sym (length-map machines script);
-  left = λ i m is. sym (get_or_from_slice_get (map script machines) i (script m) stop
-      (slice_get-map script machines i ∙ ap (option_map script) is))
-      ∙ ap (λ history. left_after (script_of (map script machines) i)
-      (part_of i (newest_first history))) (sym none);
-  words_are = zeros ∙ zeros_are 0 (plain_words h + lock_words h)
-      ∙ ap (λ history. memory_after h (newest_first history)) (sym none);
+  left = λ i m is. cc (get_or_from_slice_get (map script machines) i (script m) stop (slice_get-map
+      script machines i ∙ ap (option_map script) is));
+  words_are = cc (zeros_are 0 (plain_words h + lock_words h));
 }
 
 -- the history after the turns and the rounds
@@ -159,14 +132,7 @@ history_is : {M : Type 0} (h : Header) (header_of : M → Header) (script : M �
     → HasPlayed h header_of script (turns_of turns) a b
     → (rest : HaveComeToRest h header_of script b c) → newest_first c.history
     ≡ run_for (map script a.machines) turns rest.rounds
-history_is h header_of script turns a b c start none first rest =
-    let scripts = map script a.machines in
-    rest.played.history scripts (first.plays scripts start)
-    ∙ ap (λ n. after_turns scripts (rounds_over n rest.rounds) (newest_first b.history))
-    (first.count ∙ start.count)
-    ∙ rounds_are scripts rest.rounds (newest_first b.history)
-    ∙ ap (after_rounds scripts rest.rounds) (first.history scripts start
-    ∙ ap (λ history. after_turns scripts (turns_of turns) (newest_first history)) none)
+history_is h header_of script turns rest = grind (arith, after_turns, rounds_are)
 
 pub runs_to : {M : Type 0} (h : Header) (header_of : M → Header) (script : M → Script)
     (turns : List Turn) (a b c : Scene M)

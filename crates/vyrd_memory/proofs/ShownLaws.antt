@@ -49,8 +49,7 @@ one_round_more h header_of script has_taken a b c rounds first second =
     shown_more h header_of script has_taken (rounds_over (length a.machines) rounds)
     (numbers_below (length b.machines))
     (rounds_over (length a.machines) (rounds + 1)) a b c first second
-    (rounds_more (length a.machines) rounds
-    ∙ ap (λ n. rounds_over (length a.machines) rounds ++ numbers_below n) (sym first.count))
+    (cc (rounds_more (length a.machines) rounds, first.count))
 
 -- a round without an event is the last
 pub rest_shown : {M S : Type 0} (h : Header) (header_of : M → Header) (script : M → Script)

@@ -51,8 +51,7 @@ sound_may : (h : Header) (s : Situation) (script : Script) (did : Did) → IsSou
     → event_of (next_act script) (answer_of did) ≡ Some did
     → may_act h s (act_of_event did) ≡ true
 sound_may h s stop did sound e = cc
-sound_may h s (step act rest) did sound e = subst (λ act. may_act h s act ≡ true)
-    (event_act act did e) sound.0
+sound_may h s (step act rest) did sound e = cc (event_act act did e, sound.0)
 
 sound_step : (h : Header) (s : Situation) (script : Script) (did : Did) → IsSound h s script
     → event_of (next_act script) (answer_of did) ≡ Some did
@@ -105,5 +104,4 @@ done_is_stop h s (step act rest) sound e = absurd (undone act sound.0 e)
 -- nothing is left of nothing
 pub left_of_stop : (dids : List Did) → left_after stop dids ≡ stop
 left_of_stop [] = refl
-left_of_stop (did ∷ earlier) = ap (λ script. after_answer script (answer_of did))
-    (left_of_stop earlier)
+left_of_stop (did ∷ earlier) = cc (left_of_stop earlier)

@@ -1,8 +1,7 @@
 -- Single acts of a sound script, with the locks that its caller holds.
-use Rattle.std.proofs.Common.{◌≡◌, ℕ, ◌+◌, ◌<◌, ◌^◌, Bool, true, false, cond, not, ◌||◌, List, ◌∷◌}
+use Rattle.std.proofs.Common.{◌≡◌, ℕ, ◌+◌, ◌<◌, ◌^◌, Bool, true, false, cond, not, List, ◌∷◌}
 use Rattle.std.proofs.Common.{Some, refl, ap, arith}
 use Rattle.std.specs.Prelude.{◌==◌, filter, is_some}
-use Rattle.std.specs.List.{list_any}
 use Rattle.std.proofs.lemmas.Bool.Decides.{nat_tests}
 use Rattle.vyrd_base.specs.declared.header.Header.{Header}
 use Rattle.vyrd_base.specs.declared.subject.Method.{Method}
@@ -31,8 +30,7 @@ pub store_sound : (h : Header) (s : Situation) (cell value : ℕ) (later : Scrip
     → is_plain (cells_of h) cell ≡ true → value < 2 ^ 63
     → is_some s.called ≡ true
     → IsSound h s later → IsSound h s (perform (Store cell value) later)
-store_sound h s cell value later plain low called sound =
-    (both_true _ _ (both_true _ _ plain (is_below value (2 ^ 63) low)) called, λ answer is. sound)
+store_sound h s cell value later plain low called sound = search (both_true, plain, is_below, arith)
 
 -- both ways of a choice, each with what the test told
 pub either : (h : Header) (s : Situation) (b : Bool) (x y : Script) → (b ≡ true → IsSound h s x)
@@ -44,14 +42,12 @@ either h s false x y e f = f refl
 -- a lock that was given back isn't held any more
 pub gone : (lock : ℕ) (locks : List ℕ) → filter (λ held. not (held == lock)) (lock ∷ locks)
     ≡ filter (λ held. not (held == lock)) locks
-gone lock locks = ap (λ b. cond (not b) (lock ∷ filter (λ held. not (held == lock)) locks)
-    (filter (λ held. not (held == lock)) locks)) (same_number lock)
+gone lock locks = cc (same_number lock)
 
 -- the lock that was taken last is held
 pub held_first : (lock : ℕ) (locks : List ℕ) (method : Method) (committed : Bool)
     → holds (holding (lock ∷ locks) method committed) lock ≡ true
-held_first lock locks method committed = ap (λ b. b || list_any (λ held. held == lock) locks)
-    (same_number lock)
+held_first lock locks method committed = cc (same_number lock)
 
 -- locks that lie in a row are apart where their numbers are
 pub other_lock : (first_lock first second : ℕ) → (first == second) ≡ false

@@ -22,20 +22,11 @@ not_both b e f = cc
 -- one more act
 pub loads_in : (n cell : ℕ) (rest : ℕ → Script) → ((answer : ℕ) → EndsByReturn n (rest answer))
     → EndsByReturn (n + 1) (step (Load cell) rest)
-loads_in n cell rest ends = (
-  omega arith,
-  λ e. cc,
-  λ on answer is. in_more n (n + 1 - 1) (rest answer) (omega arith)
-      (ends answer),
-)
+loads_in n cell rest ends = grind (arith, ends, in_more)
 
 pub acts_in : (n : ℕ) (act : Act) (later : Script) → is_return act ≡ false → EndsByReturn n later
     → EndsByReturn (n + 1) (perform act later)
-acts_in n act later on ends = (
-  omega arith,
-  λ e. absurd (not_both (is_return act) on e),
-  λ on answer is. in_more n (n + 1 - 1) later (omega arith) ends,
-)
+acts_in n act later on ends = grind (arith, ends, not_both, in_more)
 
 -- one way or the other
 pub either_in : (n : ℕ) (b : Bool) (x y : Script) → EndsByReturn n x → EndsByReturn n y

@@ -1,7 +1,7 @@
 -- A round that leaves out callers that are done is a round over all of them.
 use Rattle.std.proofs.Common.{◌≡◌, ◌≢◌, ℕ, zero, suc, ◌+◌, ◌<◌, ◌≤◌, Bool, true, false, cond, not}
 use Rattle.std.proofs.Common.{List, [], ◌∷◌, ◌++◌, length, get_or, slice_get, Option, Some, None}
-use Rattle.std.proofs.Common.{refl, ap, ◌∙◌, sym, subst, arith, append-nil}
+use Rattle.std.proofs.Common.{refl, ap, ◌∙◌, sym, arith, append-nil}
 use Rattle.std.specs.List.{filter}
 use Rattle.std.proofs.lemmas.List.Elements.{filter-append}
 use Rattle.vyrd_base.specs.declared.header.Header.{Header}
@@ -11,9 +11,9 @@ use Rattle.vyrd_base.specs.Places.{newest_first, numbers_from, numbers_below}
 use Rattle.vyrd_base.proofs.PlaceLaws.{numbers_below-push}
 use Rattle.vyrd_base.proofs.TestLaws.{isnt_same}
 use Rattle.vyrd_memory.specs.declared.act.Act.{Act}
-use Rattle.vyrd_memory.specs.declared.act.Act.TheVariants.{Load, Store, Take, Give, Mark, Done}
-use Rattle.vyrd_memory.specs.Scripts.{Script, next_act, left_after}
-use Rattle.vyrd_memory.specs.Turns.{script_of, act_of, event_now, with_event, after_turn}
+use Rattle.vyrd_memory.specs.declared.act.Act.TheVariants.{Done}
+use Rattle.vyrd_memory.specs.Scripts.{Script}
+use Rattle.vyrd_memory.specs.Turns.{act_of, event_now, with_event, after_turn}
 use Rattle.vyrd_memory.specs.Turns.{after_turns, is_done}
 use Rattle.vyrd_memory.specs.Unfinished.{is_unfinished, LeavesOut}
 use Rattle.vyrd_memory.specs.Playing.{IsPlaying}
@@ -22,21 +22,13 @@ use Rattle.vyrd_memory.proofs.PlayLaws.{part_there}
 
 -- no event where all is done
 no_event : (earlier : List Stamped) (act : Act) → is_done act ≡ true → event_now earlier act ≡ None
-no_event earlier (Load cell) e = cc
-no_event earlier (Store cell value) e = cc
-no_event earlier (Take lock) e = cc
-no_event earlier (Give lock) e = cc
-no_event earlier (Mark kind) e = cc
-no_event earlier Done e = refl
+no_event earlier act e = grind arith
 
 -- what another caller does next stays after a turn
 other_act : (scripts : List Script) (caller c : ℕ) (earlier : List Stamped) (event : Option Did)
     → caller ≢ c
     → act_of scripts c (with_event caller earlier event) ≡ act_of scripts c earlier
-other_act scripts caller c earlier None apart = refl
-other_act scripts caller c earlier (Some did) apart =
-    ap (λ part. next_act (left_after (script_of scripts c) part))
-    (part_there c caller (length earlier) did earlier (isnt_same caller c apart))
+other_act scripts caller c earlier event apart = grind (arith, apart, part_there, isnt_same)
 
 true_isnt_false : (keep : ℕ → Bool) (a b : ℕ) → keep a ≡ true → keep b ≡ false → a ≢ b
 true_isnt_false keep a b kept left same = let at = ap keep same in cc
@@ -63,9 +55,7 @@ first_left_out scripts keep n k count earlier within done rest true kept =
     (other_act scripts k c earlier (event_now earlier (act_of scripts k earlier))
     (true_isnt_false keep k c kept left)) ∙ done c low left)
 first_left_out scripts keep n k count earlier within done rest false left =
-    let still : after_turn scripts k earlier ≡ earlier =
-    ap (with_event k earlier) (no_event earlier (act_of scripts k earlier) (done k within left)) in
-    rest earlier done ∙ ap (after_turns scripts (numbers_from (k + 1) count)) (sym still)
+    cc (rest earlier done, no_event earlier (act_of scripts k earlier) (done k within left))
 
 turns_left_out : (scripts : List Script) (keep : ℕ → Bool) (n k count : ℕ) (earlier : List Stamped)
     → k + count ≤ n → AreDone scripts keep n earlier
@@ -119,8 +109,7 @@ round_shown {M} {S} h header_of script has_taken callers a b left shown = record
         at : (o : Option M) → slice_get a.machines c ≡ o
             → is_done (act_of scripts c (newest_first history)) ≡ true
         at None none = let past = none_past a.machines c none in absurd (omega arith)
-        at (Some m) here = ap (λ s. is_done (next_act s)) (sym (playing.left c m here))
-            ∙ left.done c m left_out here
+        at (Some m) here = cc (playing.left c m here, left.done c m left_out here)
 
 -- the callers of a list are kept, and are below the number of machines
 kept_first : (keep : ℕ → Bool) (k : ℕ) (rest : List ℕ)
@@ -140,9 +129,7 @@ kept_at keep k (suc count) i low = kept_first keep k (filter keep (numbers_from 
 below_first : (k n : ℕ) (rest : List ℕ) → k < n → ((i : ℕ) → i < length rest → get_or rest i 0 < n)
     → (b : Bool) (i : ℕ) → i < length (cond b (k ∷ rest) rest)
     → get_or (cond b (k ∷ rest) rest) i 0 < n
-below_first k n rest here later true zero low = here
-below_first k n rest here later true (suc i) low = later i (omega arith)
-below_first k n rest here later false i low = later i low
+below_first k n rest here later b i low = grind (arith, here)
 
 below_at : (keep : ℕ → Bool) (n k count i : ℕ) → k + count ≤ n
     → i < length (filter keep (numbers_from k count))
@@ -155,10 +142,7 @@ below_at keep n k (suc count) i within low =
 pub callers_below : {M : Type 0} (script : M → Script) (machines : List M) (callers : List ℕ)
     → LeavesOut script machines callers
     → (i : ℕ) → i < length callers → get_or callers i 0 < length machines
-callers_below script machines callers left i low =
-    subst (λ cs. get_or cs i 0 < length machines) (sym left.kept)
-    (below_at left.keep (length machines) 0 (length machines) i (omega arith)
-    (subst (λ cs. i < length cs) left.kept low))
+callers_below script machines i left = grind (arith, left, below_at)
 
 -- the machines that are left out stay as they are
 pub still_left_out : {M : Type 0} (script : M → Script) (machines later : List M) (callers : List ℕ)
@@ -169,22 +153,18 @@ pub still_left_out : {M : Type 0} (script : M → Script) (machines later : List
     → LeavesOut script later callers
 still_left_out {M} script machines later callers left count others = record {
   keep = left.keep;
-  kept = left.kept ∙ ap (λ n. filter left.keep (numbers_below n)) (sym count);
+  kept = cc (left.kept);
   done = λ c m left_out here. left.done c m left_out
       (sym (others c (λ i low. true_isnt_false left.keep _ c (kept i low) left_out)) ∙ here);
 }
   where
     kept : (i : ℕ) → i < length callers → left.keep (get_or callers i 0) ≡ true
-    kept i low =
-        subst (λ cs. left.keep (get_or cs i 0) ≡ true) (sym left.kept)
-        (kept_at left.keep 0 (length machines) i (subst (λ cs. i < length cs) left.kept low))
+    kept i low = search (kept_at, arith)
 
 -- the callers up to one more
 pub one_more_kept : (keep : ℕ → Bool) (n : ℕ) → keep n ≡ true → filter keep (numbers_below (n + 1))
     ≡ filter keep (numbers_below n) ++ n ∷ []
-one_more_kept keep n kept =
-    ap (filter keep) (numbers_below-push n) ∙ filter-append keep (numbers_below n) (n ∷ [])
-    ∙ ap (λ b. filter keep (numbers_below n) ++ cond b (n ∷ []) []) kept
+one_more_kept keep n kept = grind (arith, kept, numbers_below-push, filter-append)
 
 pub one_more_left : (keep : ℕ → Bool) (n : ℕ) → keep n ≡ false → filter keep (numbers_below (n + 1))
     ≡ filter keep (numbers_below n)
@@ -197,12 +177,4 @@ one_more_left keep n left =
 pub unfinished_are : {M : Type 0} (script : M → Script) (machines : List M) (callers : List ℕ)
     → callers ≡ filter (λ c. is_unfinished script (slice_get machines c))
     (numbers_below (length machines)) → LeavesOut script machines callers
-unfinished_are script machines callers are = record {
-  keep = λ c. is_unfinished script (slice_get machines c);
-  kept = are;
-  done = λ c m left_out here. not_false _ (ap (is_unfinished script) (sym here) ∙ left_out);
-}
-  where
-    not_false : (b : Bool) → not b ≡ false → b ≡ true
-    not_false true e = refl
-    not_false false e = cc
+unfinished_are script machines callers are = grind arith

@@ -105,12 +105,10 @@ behind_the_cut free earlier (x ∷ xs) cut right = go (is_left_mover free x) ref
     (behind_the_cut free (x ∷ earlier) xs)
   where
     next : has_cut free (newest_first (x ∷ earlier)) ≡ is_left_mover free x
-    next = has_cut-next free earlier x
-        ∙ ap (λ b. b || (has_cut free (newest_first earlier) && is_left_mover free x)) right
-        ∙ ap (λ b. b && is_left_mover free x) cut
+    next = cc (has_cut-next free earlier x)
 
     still : list_all (is_right_mover free) (newest_first (x ∷ earlier)) ≡ false
-    still = right-next free earlier x ∙ ap (λ b. b && is_right_mover free x) right
+    still = cc (right-next free earlier x)
 
     go : (b : Bool) → is_left_mover free x ≡ b
         → (has_cut free (newest_first (x ∷ earlier)) ≡ true → list_all (is_right_mover free)
@@ -139,11 +137,10 @@ before_the_cut free earlier (x ∷ xs) right =
     ∙ go (is_right_mover free x) refl (before_the_cut free (x ∷ earlier) xs)
   where
     cut : has_cut free (newest_first (x ∷ earlier)) ≡ true
-    cut = has_cut-next free earlier x
-        ∙ ap (λ b. b || (has_cut free (newest_first earlier) && is_left_mover free x)) right
+    cut = cc (has_cut-next free earlier x)
 
     next : list_all (is_right_mover free) (newest_first (x ∷ earlier)) ≡ is_right_mover free x
-    next = right-next free earlier x ∙ ap (λ b. b && is_right_mover free x) right
+    next = cc (right-next free earlier x)
 
     go : (b : Bool) → is_right_mover free x ≡ b
         → (list_all (is_right_mover free) (newest_first (x ∷ earlier)) ≡ true

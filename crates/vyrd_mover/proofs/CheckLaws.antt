@@ -1,5 +1,5 @@
 -- If no block is broken, each block can be gathered.
-use Rattle.std.proofs.Common.{◌≡◌, ℕ, Bool, true, cond, List, [], ◌∷◌, ◌++◌, Option, Some, None}
+use Rattle.std.proofs.Common.{◌≡◌, ℕ, Bool, true, List, [], ◌∷◌, ◌++◌, Option, Some, None}
 use Rattle.std.proofs.Common.{refl, ap, ◌∙◌, sym}
 use Rattle.std.specs.Option.{option_map, option_and_then, is_none}
 use Rattle.vyrd_base.specs.declared.history.Stamped.{Stamped}
@@ -57,10 +57,7 @@ block_there : (earlier rest after : List Stamped) (opening : Stamped) → is_blo
     ≡ true → up_to_end opening.caller (rest ++ after) ≡ Some rest
     → block_at (record { earlier = earlier; here = opening; later = rest ++ after })
     ≡ Some (events_of opening.caller rest)
-block_there earlier rest after opening opens ends =
-    ap (λ b. cond b
-    (option_map (events_of opening.caller) (up_to_end opening.caller (rest ++ after))) None) opens
-    ∙ ap (option_map (events_of opening.caller)) ends
+block_there earlier rest after opening opens ends = cc
 
 pub each_is_gathered : (cells : Cells) (history : List Stamped) (n : ℕ) → is_legal cells history
     ≡ true → blocks_of cells history ≡ Reducible n

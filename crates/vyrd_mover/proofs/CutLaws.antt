@@ -1,7 +1,7 @@
 -- Cuts of a list by recursion: the first event is followed by left movers alone, or it is a right
 -- mover and the rest has a cut.
-use Rattle.std.proofs.Common.{◌≡◌, ℕ, zero, suc, ◌+◌, ◌<◌, Bool, true, false, ◌&&◌, ◌||◌, ◌⊎◌, inl}
-use Rattle.std.proofs.Common.{inr, List, [], ◌∷◌, length, take, drop, refl, ap, ◌∙◌, sym, arith}
+use Rattle.std.proofs.Common.{◌≡◌, ℕ, zero, suc, ◌+◌, ◌<◌, Bool, true, ◌&&◌, ◌||◌, ◌⊎◌, inl}
+use Rattle.std.proofs.Common.{inr, List, [], ◌∷◌, length, take, drop, refl, ◌∙◌, sym, arith}
 use Rattle.std.specs.List.{list_all, list_any}
 use Rattle.std.proofs.lemmas.Bool.{or_left, or_right}
 use Rattle.vyrd_base.specs.declared.history.Stamped.{Stamped}
@@ -24,8 +24,7 @@ cut_then free (e ∷ later) (suc i) h =
     let at : is_cut free (e ∷ later) (suc i)
     ≡ ((is_right_mover free e && list_all (is_right_mover free) (take i later))
     && list_all (is_left_mover free) (drop (i + 1) later)) =
-    ap (λ n. (is_right_mover free e && list_all (is_right_mover free) (take i later))
-    && list_all (is_left_mover free) (drop n (e ∷ later))) (move i) in
+    cc (move i) in
     let here : ((is_right_mover free e && list_all (is_right_mover free) (take i later))
     && list_all (is_left_mover free) (drop (i + 1) later)) ≡ true = sym at ∙ h in
     or_right (list_all (is_left_mover free) later) _ (both_true (is_right_mover free e) _
@@ -50,12 +49,9 @@ later_cut free e later right (i, low, h) =
     let bound : suc i < length (e ∷ later) + 1 = omega arith in (
       suc i,
       bound,
-      ap (λ n. (is_right_mover free e && list_all (is_right_mover free) (take i later))
-          && list_all (is_left_mover free) (drop n (e ∷ later))) n_is
-          ∙ both_true (is_right_mover free e && list_all (is_right_mover free) (take i later)) _
-          (both_true (is_right_mover free e) _ right
-          (first_true (list_all (is_right_mover free) (take i later)) _ h))
-          (second_true (list_all (is_right_mover free) (take i later)) _ h),
+      cc (both_true (is_right_mover free e && list_all (is_right_mover free) (take i later)) _
+          (both_true (is_right_mover free e) _ right (first_true (list_all (is_right_mover free)
+          (take i later)) _ h)) (second_true (list_all (is_right_mover free) (take i later)) _ h)),
     )
 
 then_cut : (free : ℕ → Bool) (events : List Stamped) → cuts free events ≡ true → Cut free events
@@ -67,13 +63,10 @@ then_cut free (e ∷ later) h = go (λ k. then_cut free later k)
         → (list_all (is_left_mover free) later ≡ true)
         ⊎ ((is_right_mover free e && cuts free later) ≡ true) → Cut free (e ∷ later)
     go rest (inl left) = (0, omega arith, left)
-    go rest (inr h) = later_cut free e later (first_true (is_right_mover free e) _ h)
-        (rest (second_true (is_right_mover free e) _ h))
+    go rest (inr h) = search (later_cut, free, first_true, second_true, arith)
 
 same_truth : (a b : Bool) → (a ≡ true → b ≡ true) → (b ≡ true → a ≡ true) → a ≡ b
-same_truth true b f g = sym (f refl)
-same_truth false true f g = g refl
-same_truth false false f g = refl
+same_truth a b f g = grind arith
 
 pub has_cut-cuts : (free : ℕ → Bool) (events : List Stamped) → has_cut free events
     ≡ cuts free events

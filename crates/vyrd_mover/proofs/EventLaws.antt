@@ -1,6 +1,6 @@
 -- A later line of a history has one reading.
 use Rattle.std.proofs.Common.{◌≡◌, ℕ, ◌<◌, ◌^◌, Bool, true, false, cond, not, ◌&&◌, List, [], ◌∷◌}
-use Rattle.std.proofs.Common.{◌++◌, get_or, Option, Some, None, refl, ap, sym, ◌∙◌, arith}
+use Rattle.std.proofs.Common.{◌++◌, Option, Some, None, refl, ap, sym, ◌∙◌, arith}
 use Rattle.std.specs.Prelude.{nat_lt, codes, decimal}
 use Rattle.std.specs.List.{list_all}
 use Rattle.std.specs.Str.{bytes_eq}
@@ -8,8 +8,6 @@ use Rattle.std.proofs.lemmas.Slice.Eq.{bytes_eq-Decides}
 use Rattle.std.proofs.lemmas.Bool.{not-true}
 use Rattle.vyrd_base.specs.declared.subject.Subject.{Subject}
 use Rattle.vyrd_base.specs.declared.log.Kind.{Kind}
-use Rattle.vyrd_base.specs.declared.log.Kind.TheVariants.{Call, Return, Write, Commit, BlockOpen}
-use Rattle.vyrd_base.specs.declared.log.Kind.TheVariants.{BlockClose, BlockCommit}
 use Rattle.vyrd_base.specs.declared.log.Entry.{Entry}
 use Rattle.vyrd_base.specs.declared.history.Did.{Did}
 use Rattle.vyrd_base.specs.declared.history.Did.TheVariants.{Read, Wrote, Took, Gave, Marked}
@@ -36,21 +34,13 @@ stamped number caller did = record { number = number; caller = caller; did = did
 -- the line of an act is its caller, a space and what it does
 pub act_line_is : (caller : ℕ) (did : Did) → is_act did ≡ true → did_line caller did
     ≡ decimal caller ++ 32 ∷ act_text did
-act_line_is caller (Read cell value) e = refl
-act_line_is caller (Wrote cell value) e = refl
-act_line_is caller (Took lock) e = refl
-act_line_is caller (Gave lock) e = refl
-act_line_is caller (Marked kind) e = cc
+act_line_is caller did e = grind arith
 
 -- an act is an event of any subject
 act_is_event : (subject : Subject) (number caller : ℕ) (did : Did) → nat_lt caller (2 ^ 32) ≡ true
     → is_act did ≡ true
     → is_event_of subject (stamped number caller did) ≡ true
-act_is_event subject number caller (Read cell value) low e = both_true _ _ low e
-act_is_event subject number caller (Wrote cell value) low e = both_true _ _ low e
-act_is_event subject number caller (Took lock) low e = both_true _ _ low e
-act_is_event subject number caller (Gave lock) low e = both_true _ _ low e
-act_is_event subject number caller (Marked kind) low e = cc
+act_is_event subject number caller did low e = grind (arith, both_true)
 
 -- what is read as an act
 record IsAct (number : ℕ) (line : List ℕ) (e : Stamped) : Type 0 where
@@ -69,10 +59,9 @@ checked subject line number caller did e acts true t f =
     let same : stamped number caller did ≡ e = cc in
     let event : is_event_of subject (stamped number caller did) ≡ true = first_true _ _ t in
     record {
-      numbered = ap (λ x. x.number) (sym same);
+      numbered = cc;
       caller = ap (λ x. nat_lt x.caller (2 ^ 32)) (sym same) ∙ first_true _ _ event;
-      act = ap (λ x. is_act x.did) (sym same) ∙ sym acts
-          ∙ second_true (nat_lt caller (2 ^ 32)) _ event;
+      act = cc (second_true (nat_lt caller (2 ^ 32)) _ event);
       line_is = sym
           ((bytes_eq-Decides (did_line caller did) line).0
           (second_true (is_event_of subject (stamped number caller did)) _ t)) ∙ ap event_line same;
@@ -88,25 +77,13 @@ act_from_sound subject line number (a ∷ b ∷ c ∷ []) e f = by_word (bytes_e
   where
     by_word : (t : Bool) → event_if subject line number (number_of a)
         (cond t (Took (number_of c)) (Gave (number_of c))) ≡ Some e → IsAct number line e
-    by_word true f = checked subject line number (number_of a) (Took (number_of c)) e refl
-        (is_event_of subject (stamped number (number_of a) (Took (number_of c)))
-        && bytes_eq (did_line (number_of a) (Took (number_of c))) line) refl f
-    by_word false f = checked subject line number (number_of a) (Gave (number_of c)) e refl
-        (is_event_of subject (stamped number (number_of a) (Gave (number_of c)))
-        && bytes_eq (did_line (number_of a) (Gave (number_of c))) line) refl f
+    by_word t f = search (checked, arith)
 act_from_sound subject line number (a ∷ b ∷ c ∷ d ∷ []) e f = by_word (bytes_eq b (codes "read")) f
   where
     by_word : (t : Bool) → event_if subject line number (number_of a)
         (cond t (Read (number_of c) (number_of d)) (Wrote (number_of c) (number_of d))) ≡ Some e
         → IsAct number line e
-    by_word true f = checked subject line number (number_of a) (Read (number_of c) (number_of d)) e
-        refl
-        (is_event_of subject (stamped number (number_of a) (Read (number_of c) (number_of d)))
-        && bytes_eq (did_line (number_of a) (Read (number_of c) (number_of d))) line) refl f
-    by_word false f = checked subject line number (number_of a) (Wrote (number_of c) (number_of d))
-        e refl
-        (is_event_of subject (stamped number (number_of a) (Wrote (number_of c) (number_of d)))
-        && bytes_eq (did_line (number_of a) (Wrote (number_of c) (number_of d))) line) refl f
+    by_word t f = search (checked, arith)
 act_from_sound subject line number (a ∷ b ∷ c ∷ d ∷ x ∷ more) e f = cc
 
 -- the fields of an access, and of a take or a give
@@ -168,10 +145,7 @@ act_back : (subject : Subject) (number caller : ℕ) (did : Did) → nat_lt call
     → act_from subject (did_line caller did) number (fields_of (did_line caller did))
     ≡ Some (stamped number caller did)
 act_back subject number caller did low e =
-    guess_back subject (did_line caller did) number caller did (below_32 caller low) e
-    ∙ ap (λ b. cond b (Some (stamped number caller did)) None)
-    (both_true _ _ (act_is_event subject number caller did low e)
-    (bytes_same (did_line caller did)))
+    grind (arith, guess_back, below_32, both_true, act_is_event, bytes_same)
 
 -- what was found is the act that the line spells
 pub stamped_is : (subject : Subject) (number : ℕ) (line : List ℕ) (o : Option Stamped)
@@ -185,85 +159,21 @@ stamped_is subject number line None none = by_answer (act_from subject line numb
     by_answer (Some x) e =
         let is = act_from_sound subject line number (fields_of line) x e in
         absurd (none x (below_of x.caller (2 ^ 32) is.caller) is.act is.line_is)
-stamped_is subject number line (Some e) is =
-    sym (ap (λ l. act_from subject l number (fields_of l)) is.3
-    ∙ act_back subject number e.caller e.did (is_below e.caller (2 ^ 32) is.1) is.2
-    ∙ ap (λ n. Some (stamped n e.caller e.did)) (sym is.0))
+stamped_is subject number line (Some e) is = search (act_back, is_below, arith)
 
 -- a caller that no act follows
 pub no_did : (number : ℕ) (line : List ℕ) (n : ℕ) (r : List ℕ) → n < 2 ^ 64 → line ≡ decimal n
     ++ 32 ∷ r → IsActRead r None → IsStampedRead number line None
-no_did number line n r low e none x small act f =
-    let is = one_before_space n x.caller r (act_text x.did) low (omega arith)
-    (sym e ∙ f ∙ act_line_is x.caller x.did act) in
-    none x.did act is.1
+no_did number line n r low e none x small act f = search (one_before_space, act_line_is, arith)
 
 -- a cell that no value follows
 pub no_value : (text : List ℕ) (m : ℕ) (r : List ℕ) → m < 2 ^ 64 → text ≡ decimal m ++ 32 ∷ r
     → ((n : ℕ) → n < 2 ^ 64 → r ≡ decimal n → ⊥) → IsPairRead text None
-no_value text m r low e none cell value s v f =
-    let is = one_before_space m cell r (decimal value) low (omega arith) (sym e ∙ f) in
-    none value v is.1
+no_value text m r low e none = grind (arith, one_before_space)
 
 -- no act is spelled as an entry
 no_entry_text : (did : Did) (kind : Kind) → is_act did ≡ true → act_text did ≡ kind_text kind → ⊥
-no_entry_text (Marked x) kind act e = cc
-no_entry_text (Read cell value) (Call m a) act e = let h : 114 ≡ 99 = ap (λ t. get_or t 0 0) e in
-    omega (arith, h)
-no_entry_text (Read cell value) (Return x) act e = let h : 97 ≡ 116 = ap (λ t. get_or t 2 0) e in
-    omega (arith, h)
-no_entry_text (Read cell value) (Write w v) act e = let h : 114 ≡ 119 = ap (λ t. get_or t 0 0) e in
-    omega (arith, h)
-no_entry_text (Read cell value) Commit act e = let h : 114 ≡ 99 = ap (λ t. get_or t 0 0) e in
-    omega (arith, h)
-no_entry_text (Read cell value) BlockOpen act e = let h : 114 ≡ 111 = ap (λ t. get_or t 0 0) e in
-    omega (arith, h)
-no_entry_text (Read cell value) BlockClose act e = let h : 114 ≡ 99 = ap (λ t. get_or t 0 0) e in
-    omega (arith, h)
-no_entry_text (Read cell value) BlockCommit act e = let h : 114 ≡ 99 = ap (λ t. get_or t 0 0) e in
-    omega (arith, h)
-no_entry_text (Wrote cell value) (Call m a) act e = let h : 119 ≡ 99 = ap (λ t. get_or t 0 0) e in
-    omega (arith, h)
-no_entry_text (Wrote cell value) (Return x) act e = let h : 119 ≡ 114 = ap (λ t. get_or t 0 0) e in
-    omega (arith, h)
-no_entry_text (Wrote cell value) (Write w v) act e = let h : 111 ≡ 105 = ap (λ t. get_or t 2 0) e in
-    omega (arith, h)
-no_entry_text (Wrote cell value) Commit act e = let h : 119 ≡ 99 = ap (λ t. get_or t 0 0) e in
-    omega (arith, h)
-no_entry_text (Wrote cell value) BlockOpen act e = let h : 119 ≡ 111 = ap (λ t. get_or t 0 0) e in
-    omega (arith, h)
-no_entry_text (Wrote cell value) BlockClose act e = let h : 119 ≡ 99 = ap (λ t. get_or t 0 0) e in
-    omega (arith, h)
-no_entry_text (Wrote cell value) BlockCommit act e = let h : 119 ≡ 99 = ap (λ t. get_or t 0 0) e in
-    omega (arith, h)
-no_entry_text (Took lock) (Call m a) act e = let h : 116 ≡ 99 = ap (λ t. get_or t 0 0) e in
-    omega (arith, h)
-no_entry_text (Took lock) (Return x) act e = let h : 116 ≡ 114 = ap (λ t. get_or t 0 0) e in
-    omega (arith, h)
-no_entry_text (Took lock) (Write w v) act e = let h : 116 ≡ 119 = ap (λ t. get_or t 0 0) e in
-    omega (arith, h)
-no_entry_text (Took lock) Commit act e = let h : 116 ≡ 99 = ap (λ t. get_or t 0 0) e in
-    omega (arith, h)
-no_entry_text (Took lock) BlockOpen act e = let h : 116 ≡ 111 = ap (λ t. get_or t 0 0) e in
-    omega (arith, h)
-no_entry_text (Took lock) BlockClose act e = let h : 116 ≡ 99 = ap (λ t. get_or t 0 0) e in
-    omega (arith, h)
-no_entry_text (Took lock) BlockCommit act e = let h : 116 ≡ 99 = ap (λ t. get_or t 0 0) e in
-    omega (arith, h)
-no_entry_text (Gave lock) (Call m a) act e = let h : 103 ≡ 99 = ap (λ t. get_or t 0 0) e in
-    omega (arith, h)
-no_entry_text (Gave lock) (Return x) act e = let h : 103 ≡ 114 = ap (λ t. get_or t 0 0) e in
-    omega (arith, h)
-no_entry_text (Gave lock) (Write w v) act e = let h : 103 ≡ 119 = ap (λ t. get_or t 0 0) e in
-    omega (arith, h)
-no_entry_text (Gave lock) Commit act e = let h : 103 ≡ 99 = ap (λ t. get_or t 0 0) e in
-    omega (arith, h)
-no_entry_text (Gave lock) BlockOpen act e = let h : 103 ≡ 111 = ap (λ t. get_or t 0 0) e in
-    omega (arith, h)
-no_entry_text (Gave lock) BlockClose act e = let h : 103 ≡ 99 = ap (λ t. get_or t 0 0) e in
-    omega (arith, h)
-no_entry_text (Gave lock) BlockCommit act e = let h : 103 ≡ 99 = ap (λ t. get_or t 0 0) e in
-    omega (arith, h)
+no_entry_text did kind act e = grind arith
 
 no_entry : (subject : Subject) (caller : ℕ) (did : Did) → nat_lt caller (2 ^ 32) ≡ true → is_act did
     ≡ true → entry_in subject (did_line caller did) ≡ None

@@ -39,8 +39,7 @@ line_says s t r subject place line have same count said is =
 -- the first rule that it breaks
 pub broken : (s : Remembered) (t : Taken) (r : Recorded) (e : Stamped) → HaveRead s t r
     → broken_by r e ≡ broken_by (record { header = s.header; history = r.history }) e
-broken s t r e have = ap (λ h. broken_by (record { header = h; history = r.history }) e)
-    (sym have.header)
+broken s t r e have = cc (have.header)
 
 -- the number of the next event
 pub counted : (s : Remembered) (t : Taken) (r : Recorded) (e : Stamped) → HaveRead s t r
@@ -63,5 +62,4 @@ pub in_ledger : (s : Remembered) (t : Taken) (r : Recorded) (e : Stamped) → Ha
     → IsNext t.header r.history e
     → IsInRange (plain_words s.header) (plain_words s.header + lock_words s.header) e.did
 in_ledger s t r e have next =
-    subst (λ h. IsInRange (plain_words h) (plain_words h + lock_words h) e.did)
-    (have.same ∙ sym have.header) ((fits t r.history e have.taken next).in_cells)
+    rw (← have.same ∙ sym have.header) ((fits t r.history e have.taken next).in_cells)

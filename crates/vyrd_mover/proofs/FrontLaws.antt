@@ -9,10 +9,8 @@ use Rattle.std.proofs.lemmas.Slice.Eq.{bytes_eq-Decides}
 use denote.Ref.{Bor}
 use Rattle.vyrd_base.specs.declared.subject.Subject.{Subject}
 use Rattle.vyrd_base.specs.declared.log.Kind.{Kind}
-use Rattle.vyrd_base.specs.declared.log.Kind.TheVariants.{Call, Return, Write, Commit, BlockOpen}
-use Rattle.vyrd_base.specs.declared.log.Kind.TheVariants.{BlockClose, BlockCommit}
 use Rattle.vyrd_base.specs.declared.history.Did.{Did}
-use Rattle.vyrd_base.specs.declared.history.Did.TheVariants.{Read, Wrote, Took, Gave, Marked}
+use Rattle.vyrd_base.specs.declared.history.Did.TheVariants.{Read}
 use Rattle.vyrd_base.specs.declared.history.Stamped.{Stamped}
 use Rattle.vyrd_base.specs.Spelling.{end_line}
 use Rattle.vyrd_base.specs.Histories.{is_write}
@@ -42,14 +40,7 @@ use Rattle.vyrd_mover.proofs.WalkLaws.{refusal_at}
 -- a kind whose fourth byte isn't that of `write` isn't a write
 isnt_write : (subject : Subject) (text rest : List ℕ) (kind : Kind) → (get_or text 3 0 ≡ 116 → ⊥)
     → IsKindAtFront subject text kind rest → is_write kind ≡ false
-isnt_write subject text rest (Call method args) other is = refl
-isnt_write subject text rest (Return reply) other is = refl
-isnt_write subject text rest (Write word value) other is =
-    absurd (other (ap (λ t. get_or t 3 0) is.1))
-isnt_write subject text rest Commit other is = refl
-isnt_write subject text rest BlockOpen other is = refl
-isnt_write subject text rest BlockClose other is = refl
-isnt_write subject text rest BlockCommit other is = refl
+isnt_write subject text rest kind other is = grind arith
 
 pub mark_read : (subject : Subject) (text : List ℕ) (read : Option (Kind × Bor (List ℕ)))
     → (get_or text 3 0 ≡ 116 → ⊥) → IfSome read (λ r. IsKindAtFront subject text r.0 r.1.now)
@@ -59,24 +50,15 @@ mark_read subject text (Some r) other is = isnt_write subject text r.1.now r.0 o
 
 -- an event's line is its caller, a space and what it says
 did_line_is : (caller : ℕ) (did : Did) → did_line caller did ≡ decimal caller ++ 32 ∷ did_text did
-did_line_is caller (Read cell value) = refl
-did_line_is caller (Wrote cell value) = refl
-did_line_is caller (Took lock) = refl
-did_line_is caller (Gave lock) = refl
-did_line_is caller (Marked kind) = entry_line_is caller kind
+did_line_is caller did = grind (arith, entry_line_is)
 
 -- a caller and what it did
 pub event_at_front : (subject : Subject) (number caller : ℕ) (did : Did) (text rest after : List ℕ)
     → caller < 2 ^ 32 → text ≡ decimal caller ++ 32 ∷ rest → IsDidAtFront subject rest did after
     → IsEventAtFront subject number text (record { number = number; caller = caller; did = did })
     after
-event_at_front subject number caller did text rest after low is d = (
-  refl,
-  both_true _ _ (is_below caller (2 ^ 32) low) d.0,
-  is ∙ ap (λ t. decimal caller ++ 32 ∷ t) d.1
-      ∙ sym (append_assoc (decimal caller) (32 ∷ did_text did) (10 ∷ after))
-      ∙ ap (λ t. t ++ 10 ∷ after) (sym (did_line_is caller did)),
-)
+event_at_front subject number caller did text rest after low is d =
+    grind (arith, after, both_true, is_below, append_assoc, did_line_is)
 
 -- its line isn't `end`
 event_isnt_end : (e : Stamped) → ¬ (event_line e ≡ end_line)
@@ -151,8 +133,7 @@ at_events l e bytes fine going later at = subst (λ d. Follows l.line e d bytes)
 
 -- nothing of a text was taken in
 pub nothing_taken : (l : Lines) (bytes text : List ℕ) → IsAt l bytes → IsTakenTo l bytes text text
-nothing_taken l bytes text at =
-    record { front = []; parted = refl; at = subst (IsAt l) (sym (append-nil bytes)) at }
+nothing_taken l bytes text at = grind (arith, append-nil bytes)
 
 -- events were
 pub events_taken : (l : Lines) (e new : Events) (m : ℕ) (bytes text rest : List ℕ)
@@ -197,12 +178,8 @@ events_refused l e fault bytes text f refused n events ended =
 pub front_fed : (l : Lines) (s : ReaderState) (bytes text rest : List ℕ) → (read : HasRead s bytes)
     → s.unfinished ≡ [] → IsTakenTo l read.whole text rest
     → IsFedTo (record { lines = l; unfinished = s.unfinished }) bytes text rest
-front_fed l s bytes text rest read none to = record {
-  front = to.front;
-  parted = to.parted;
-  read = subst (λ xs. HasRead (record { lines = l; unfinished = xs }) (bytes ++ to.front))
-      (sym none) (whole_line l s bytes to.front read none to.at);
-}
+front_fed l s bytes text rest read none to =
+    grind (arith, to.front, to.parted, whole_line l s bytes to.front read none to.at)
 
 -- the front of a piece, and then the front of what stands behind it
 pub fed_then : (a b : ReaderState) (bytes piece rest after : List ℕ)
@@ -210,7 +187,6 @@ pub fed_then : (a b : ReaderState) (bytes piece rest after : List ℕ)
     → IsFedTo b bytes piece after
 fed_then a b bytes piece rest after first second = record {
   front = first.front ++ second.front;
-  parted = first.parted ∙ ap (λ t. first.front ++ t) second.parted
-      ∙ sym (append_assoc first.front second.front after);
+  parted = cc (first.parted, second.parted, append_assoc first.front second.front after);
   read = subst (HasRead b) (append_assoc bytes first.front second.front) second.read;
 }

@@ -1,13 +1,11 @@
 -- The block law over the definitions.
-use Rattle.std.proofs.Common.{◌≡◌, ℕ, suc, ◌+◌, Bool, true, false, cond, not, ◌&&◌, List, [], ◌∷◌}
+use Rattle.std.proofs.Common.{◌≡◌, ℕ, ◌+◌, Bool, true, cond, List, [], ◌∷◌}
 use Rattle.std.proofs.Common.{◌++◌, length, Some, None, refl, ap, ◌∙◌, sym, subst, arith}
 use Rattle.std.proofs.Common.{append_assoc, append-nil}
-use Rattle.std.proofs.Math.Bool.{and-false}
 use Rattle.std.specs.Prelude.{◌==◌}
 use Rattle.std.specs.List.{list_all, cons_option}
 use Rattle.std.proofs.lemmas.List.Elements.{filter_map-append}
 use Rattle.vyrd_base.specs.declared.history.Did.{Did}
-use Rattle.vyrd_base.specs.declared.history.Did.TheVariants.{Read, Wrote, Took, Gave, Marked}
 use Rattle.vyrd_base.specs.declared.history.Stamped.{Stamped}
 use Rattle.vyrd_base.specs.Places.{newest_first, newest_first_onto}
 use Rattle.vyrd_base.specs.Histories.{Cells, is_legal}
@@ -33,16 +31,12 @@ behind_before before es = onto_onto before es []
 
 numbered-append : (k : ℕ) (xs ys : List Stamped) → numbered_from k (xs ++ ys) ≡ numbered_from k xs
     ++ numbered_from (k + length xs) ys
-numbered-append k [] ys = let e : k + 0 ≡ k = omega arith in ap (λ n. numbered_from n ys) (sym e)
-numbered-append k (x ∷ xs) ys =
-    let e : k + 1 + length xs ≡ k + suc (length xs) = omega arith in
-    ap (λ rest. record { number = k; caller = x.caller; did = x.did } ∷ rest)
-    (numbered-append (k + 1) xs ys ∙ ap (λ n. numbered_from (k + 1) xs ++ numbered_from n ys) e)
+numbered-append k [] ys = let e : k + 0 ≡ k = omega arith in cc
+numbered-append k (x ∷ xs) ys = grind (arith, numbered-append (k + 1) xs ys)
 
 done-numbered : (c k : ℕ) (xs : List Stamped) → done_by c (numbered_from k xs) ≡ done_by c xs
 done-numbered c k [] = refl
-done-numbered c k (x ∷ xs) = ap (cons_option (cond (x.caller == c) (Some x.did) None))
-    (done-numbered c (k + 1) xs)
+done-numbered c k (x ∷ xs) = cc (done-numbered c (k + 1) xs)
 
 own_alone : (c k : ℕ) (xs : List Stamped) → list_all (λ e. e.caller == c)
     (numbered_from k (own c xs)) ≡ true
@@ -52,8 +46,7 @@ own_alone c k (x ∷ xs) = go (x.caller == c) refl (λ k. own_alone c k xs)
     go : (b : Bool) → (x.caller == c) ≡ b
         → ((k : ℕ) → list_all (λ e. e.caller == c) (numbered_from k (own c xs)) ≡ true)
         → list_all (λ e. e.caller == c) (numbered_from k (cond b (x ∷ own c xs) (own c xs))) ≡ true
-    go true its rest = both_true (x.caller == c) _ its (rest (k + 1))
-    go false its rest = rest k
+    go b its rest = search (both_true, arith)
 
 done-own : (c : ℕ) (xs : List Stamped) → done_by c (own c xs) ≡ done_by c xs
 done-own c [] = refl
@@ -62,37 +55,25 @@ done-own c (x ∷ xs) = go (x.caller == c) refl (done-own c xs)
     go : (b : Bool) → (x.caller == c) ≡ b → done_by c (own c xs) ≡ done_by c xs
         → done_by c (cond b (x ∷ own c xs) (own c xs)) ≡ cons_option (cond b (Some x.did) None)
         (done_by c xs)
-    go true its rest = ap (λ b. cons_option (cond b (Some x.did) None) (done_by c (own c xs))) its
-        ∙ ap (λ ds. x.did ∷ ds) rest
-    go false its rest = rest
+    go b its rest = search arith
 
 done-foreign : (c : ℕ) (xs : List Stamped) → Foreign c xs → done_by c xs ≡ []
 done-foreign c [] foreign = refl
-done-foreign c (x ∷ xs) foreign = ap (λ b. cons_option (cond b (Some x.did) None) (done_by c xs))
-    foreign.0 ∙ done-foreign c xs foreign.1
+done-foreign c (x ∷ xs) foreign = cc (foreign.0, done-foreign c xs foreign.1)
 
 open_is_mark : (did : Did) → is_block_open did ≡ true → is_mark did ≡ true
-open_is_mark (Marked kind) e = refl
-open_is_mark (Read cell value) e = cc
-open_is_mark (Wrote cell value) e = cc
-open_is_mark (Took lock) e = cc
-open_is_mark (Gave lock) e = cc
+open_is_mark did e = grind arith
 
 open_is_no_event : (c : ℕ) (opening : Stamped) (rest : List Stamped) → is_block_open opening.did
     ≡ true → events_of c (opening ∷ rest) ≡ events_of c rest
-open_is_no_event c opening rest e =
-    ap (λ b. cond ((opening.caller == c) && not b) (opening ∷ events_of c rest) (events_of c rest))
-    (open_is_mark opening.did e)
-    ∙ ap (λ b. cond b (opening ∷ events_of c rest) (events_of c rest))
-    (and-false (opening.caller == c))
+open_is_no_event c opening rest e = grind (arith, open_is_mark)
 
 -- the events with those of others that came before the block's, the block's own, and the rest,
 -- renumbered
 split : (k : ℕ) (xs ys zs : List Stamped)
     → numbered_from k (xs ++ (ys ++ zs)) ≡ numbered_from k xs
     ++ (numbered_from (k + length xs) ys ++ numbered_from (k + length xs + length ys) zs)
-split k xs ys zs = numbered-append k xs (ys ++ zs) ∙ ap (λ rest. numbered_from k xs ++ rest)
-    (numbered-append (k + length xs) ys zs)
+split k xs ys zs = cc (numbered-append k xs (ys ++ zs), numbered-append (k + length xs) ys zs)
 
 numbered_apart : (cells : Cells) (free : ℕ → Bool) (c : ℕ)
     (before block after front back : List Stamped) → Foreign c front
@@ -159,7 +140,4 @@ pub reducible_is_gathered : (cells : Cells) (history before rest after : List St
     (events_of opening.caller rest) ≡ true
     → CanBeGathered cells opening.caller before (opening ∷ rest) after
 reducible_is_gathered cells history before rest after opening legal block cut =
-    block_gathered cells before rest after opening
-    (subst (λ h. is_legal cells h ≡ true) block.stands legal) block.opens
-    (subst (λ h. has_cut (is_race_free cells h) (events_of opening.caller rest) ≡ true) block.stands
-    cut)
+    grind (arith, after, block_gathered)

@@ -31,10 +31,8 @@ did_of c e = cond (e.caller == c) (Some e.did) None
 
 swap_options : {A : Type 0} (x y : Option A) (xs : List A) → (x ≡ None) ⊎ (y ≡ None)
     → cons_option x (cons_option y xs) ≡ cons_option y (cons_option x xs)
-swap_options x y xs (inl e) = ap (λ o. cons_option o (cons_option y xs)) e
-    ∙ ap (λ o. cons_option y (cons_option o xs)) (sym e)
-swap_options x y xs (inr e) = ap (λ o. cons_option x (cons_option o xs)) e
-    ∙ ap (λ o. cons_option o (cons_option x xs)) (sym e)
+swap_options x y xs (inl e) = cc
+swap_options x y xs (inr e) = cc
 
 one_is_silent : (c : ℕ) (a b : Stamped) → a.caller ≢ b.caller → (did_of c a ≡ None)
     ⊎ (did_of c b ≡ None)
@@ -51,8 +49,7 @@ done_within : (c : ℕ) (before : List Stamped) (a b : Stamped) (after : List St
     → done_by c (before ++ b ∷ a ∷ after) ≡ done_by c (before ++ a ∷ b ∷ after)
 done_within c [] a b after other = swap_options (did_of c b) (did_of c a) (done_by c after)
     (one_is_silent c b a (λ e. other (sym e)))
-done_within c (x ∷ before) a b after other = ap (cons_option (did_of c x))
-    (done_within c before a b after other)
+done_within c (x ∷ before) a b after other = cc (done_within c before a b after other)
 
 exchange : (cells : Cells) (free : ℕ → Bool) (origin before : List Stamped) (a b : Stamped)
     (after : List Stamped) → a.caller ≢ b.caller

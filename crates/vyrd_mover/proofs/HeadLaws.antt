@@ -27,9 +27,7 @@ use Rattle.vyrd_mover.specs.HistorySpelled.{AreBoundsRead, IsFirstRead}
 -- a size that no number of callers follows
 pub no_callers : (text : List ℕ) (m : ℕ) (r : List ℕ) → m < 2 ^ 64 → text ≡ decimal m ++ 32 ∷ r
     → ((n : ℕ) → n < 2 ^ 32 → r ≡ decimal n → ⊥) → AreBoundsRead text None
-no_callers text m r low e none size callers s c f =
-    let is = one_before_space m size r (decimal callers) low (omega arith) (sym e ∙ f) in
-    none callers c is.1
+no_callers text m r low e none = grind (arith, one_before_space)
 
 -- a line that no bounds end
 pub no_bounds : (line r : List ℕ) (found : Subject) (t : List ℕ) → line ≡ codes "history " ++ r

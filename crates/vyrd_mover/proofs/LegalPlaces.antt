@@ -1,14 +1,13 @@
 -- What a legal history says of the event at a place.
 use Rattle.std.proofs.Common.{◌≡◌, ℕ, zero, suc, ◌+◌, ◌-◌, ◌<◌, ◌≤◌, true, ◌&&◌, List, [], ◌∷◌}
 use Rattle.std.proofs.Common.{length, take, get_or, subst, arith}
-use Rattle.std.specs.Prelude.{◌==◌, nat_le, nat_lt}
+use Rattle.std.specs.Prelude.{◌==◌, nat_lt}
 use Rattle.std.specs.List.{list_all}
 use Rattle.vyrd_base.specs.declared.history.Did.{Did}
-use Rattle.vyrd_base.specs.declared.history.Did.TheVariants.{Read, Wrote, Took, Gave, Marked}
 use Rattle.vyrd_base.specs.declared.history.Stamped.{Stamped}
 use Rattle.vyrd_base.specs.Places.{places_after, newest_first, newest_first_onto}
 use Rattle.vyrd_base.specs.Histories.{Cells, may_do, is_legal_at, is_legal}
-use Rattle.vyrd_base.proofs.TestLaws.{first_true, second_true, same_of, below_of, at_most_of}
+use Rattle.vyrd_base.proofs.TestLaws.{first_true, second_true, below_of, at_most_of}
 use Rattle.vyrd_mover.specs.LockSets.{words_for}
 use Rattle.vyrd_mover.specs.Usage.{IsInRange, IsBehind, HasPlaceIn}
 use Rattle.vyrd_mover.proofs.LockLaws.{place_of_lock}
@@ -26,20 +25,16 @@ legal_place : (cells : Cells) (earlier xs : List Stamped) (i : ℕ) (d : Stamped
     (get_or xs i d)
 legal_place cells earlier [] i d legal low = absurd (omega arith)
 legal_place cells earlier (x ∷ xs) zero d legal low =
-    let here : is_legal_at cells (record { earlier = earlier; here = x; later = xs })
-    ≡ true = first_true _ _ legal in
-    let both : ((x.number == length earlier) && nat_lt x.caller cells.callers)
-    ≡ true = first_true _ _ here in
-    let number : x.number ≡ length earlier = same_of x.number (length earlier)
-    (first_true _ _ both) in
-    record {
-      numbered = omega arith;
-      caller = below_of x.caller cells.callers (second_true (x.number == length earlier) _ both);
-      may = second_true ((x.number == length earlier) && nat_lt x.caller cells.callers) _ here;
-    }
+    grind (
+      arith,
+      below_of x.caller cells.callers (second_true (x.number == length earlier) _
+          (first_true _ _ (first_true _ _ legal))),
+      second_true ((x.number == length earlier) && nat_lt
+          x.caller cells.callers) _ (first_true _ _ legal),
+    )
 legal_place cells earlier (x ∷ xs) (suc i) d legal low =
     let n : length (x ∷ earlier) + i ≡ length earlier + suc i = omega arith in
-    subst (λ n. MayCome cells (newest_first_onto (x ∷ earlier) (take i xs)) n (get_or xs i d)) n
+    rw (← n)
     (legal_place cells (x ∷ earlier) xs i d
     (second_true (is_legal_at cells (record { earlier = earlier; here = x; later = xs })) _ legal)
     (omega arith))
@@ -57,40 +52,19 @@ legal_event cells history i d legal low =
 pub in_range : (cells : Cells) (earlier : List Stamped) (caller : ℕ) (did : Did)
     → may_do cells earlier caller did ≡ true
     → IsInRange cells.plain (cells.plain + cells.locks) did
-in_range cells earlier caller (Read cell value) may = below_of cell cells.plain (first_true _ _ may)
-in_range cells earlier caller (Wrote cell value) may = below_of cell cells.plain
-    (first_true _ _ may)
-in_range cells earlier caller (Took lock) may = below_of lock (cells.plain + cells.locks)
-    (second_true (nat_le cells.plain lock) _ (first_true _ _ may))
-in_range cells earlier caller (Gave lock) may = below_of lock (cells.plain + cells.locks)
-    (second_true (nat_le cells.plain lock) _ (first_true _ _ may))
-in_range cells earlier caller (Marked kind) may = tt
+in_range cells earlier caller did may = grind (arith, below_of, first_true, second_true)
 
 -- its lock stands behind the plain cells
 pub behind : (cells : Cells) (earlier : List Stamped) (caller : ℕ) (did : Did)
     → may_do cells earlier caller did ≡ true → IsBehind cells.plain did
-behind cells earlier caller (Read cell value) may = tt
-behind cells earlier caller (Wrote cell value) may = tt
-behind cells earlier caller (Took lock) may = at_most_of cells.plain lock
-    (first_true (nat_le cells.plain lock) _ (first_true _ _ may))
-behind cells earlier caller (Gave lock) may = at_most_of cells.plain lock
-    (first_true (nat_le cells.plain lock) _ (first_true _ _ may))
-behind cells earlier caller (Marked kind) may = tt
+behind cells earlier caller did may = grind (arith, at_most_of, first_true)
 
 -- and has a place in a set for all locks
 pub has_place_in : (plain locks : ℕ) (did : Did) → IsInRange plain (plain + locks) did
     → IsBehind plain did → HasPlaceIn plain (words_for locks) did
-has_place_in plain locks (Read cell value) range least = tt
-has_place_in plain locks (Wrote cell value) range least = tt
-has_place_in plain locks (Took lock) range least = place_of_lock (lock - plain) locks (omega arith)
-has_place_in plain locks (Gave lock) range least = place_of_lock (lock - plain) locks (omega arith)
-has_place_in plain locks (Marked kind) range least = tt
+has_place_in plain locks did range least = grind (arith, plain, least, place_of_lock)
 
 -- a range with more locks
 pub wider : (plain all more : ℕ) (did : Did) → all ≤ more → IsInRange plain all did
     → IsInRange plain more did
-wider plain all more (Read cell value) least range = range
-wider plain all more (Wrote cell value) least range = range
-wider plain all more (Took lock) least range = omega arith
-wider plain all more (Gave lock) least range = omega arith
-wider plain all more (Marked kind) least range = tt
+wider plain all more did least range = grind (arith, plain, more, least)

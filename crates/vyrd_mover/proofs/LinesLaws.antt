@@ -39,18 +39,15 @@ within_limit n rule low = ap (λ b. cond b TooManyLines rule) (isnt_below 400000
 pub rest_too_many : (r : Recorded) (n : ℕ) (is_ended : Bool) (line rest : List ℕ) → lacks 10 line
     ≡ true → 4000000 < n
     → rest_read r n is_ended (cut (line ++ 10 ∷ rest)) ≡ refused n TooManyLines
-rest_too_many r n true line rest lack high = more_after r n (line ++ 10 ∷ rest)
-    (not_empty line rest) ∙ ap (refused n) (above_limit n AfterEnd high)
-rest_too_many r n false line rest lack high = too_many r n line rest lack high
+rest_too_many r n is_ended line rest lack high =
+    grind (arith, more_after, not_empty, refused, above_limit, too_many)
 
 -- a line after `end`
 pub rest_after_end : (r : Recorded) (n : ℕ) (is_ended : Bool) (line rest : List ℕ) → is_ended ≡ true
     → n ≤ 4000000
     → rest_read r n is_ended (cut (line ++ 10 ∷ rest)) ≡ refused n AfterEnd
 rest_after_end r n is_ended line rest e low =
-    ap (λ d. rest_read r n d (cut (line ++ 10 ∷ rest))) e ∙ more_after r n (line ++ 10 ∷ rest)
-    (not_empty line rest)
-    ∙ ap (refused n) (within_limit n AfterEnd low)
+    grind (arith, more_after, not_empty, refused, within_limit)
 
 -- the line `end`
 pub rest_ends : (e : Events) (r : Recorded) (n : ℕ) (is_ended : Bool) (line : List ℕ)
@@ -60,8 +57,7 @@ rest_ends e r n is_ended line have d lack low is =
     record {
       recorded = r;
       have = have;
-      read = λ rest. ap (λ d. rest_read r n d (cut (line ++ 10 ∷ rest))) d
-          ∙ end_found r n line rest lack low is;
+      read = λ rest. cc (end_found r n line rest lack low is);
     }
 
 -- another line
@@ -69,8 +65,7 @@ pub rest_line : (r : Recorded) (n : ℕ) (is_ended : Bool) (line rest : List ℕ
     → lacks 10 line ≡ true → n ≤ 4000000
     → ¬ (line ≡ end_line) → rest_read r n is_ended (cut (line ++ 10 ∷ rest))
     ≡ then_lines n (cut rest) (line_read r line)
-rest_line r n is_ended line rest d lack low other =
-    ap (λ d. rest_read r n d (cut (line ++ 10 ∷ rest))) d ∙ line_found r n line rest lack low other
+rest_line r n is_ended line rest d lack low other = cc (line_found r n line rest lack low other)
 
 pub rest_goes_on : (e : Events) (r : Recorded) (n : ℕ) (is_ended : Bool) (line : List ℕ) → is_ended
     ≡ false → lacks 10 line ≡ true → n ≤ 4000000
@@ -88,27 +83,17 @@ rest_goes_on e r n is_ended line d lack low other have =
 -- bytes that are refused stay refused
 pub still_at_fault : (l : Lines) (bytes more : List ℕ) → is_some l.fault ≡ true → IsAt l bytes
     → IsAt l (bytes ++ more)
-still_at_fault l bytes more = go l.fault
-  where
-    go : (f : Option HistoryFault) → is_some f ≡ true → IsAtBy l.line l.events l.ended f bytes
-        → IsAtBy l.line l.events l.ended f (bytes ++ more)
-    go None e at = cc
-    go (Some fault) e at = λ rest. subst (λ text. IsRefusal fault (history_reading text))
-        (sym (append_assoc bytes more rest)) (at (more ++ rest))
+still_at_fault l bytes more e3 e4 = grind (arith, more, is_some, append_assoc)
 
 -- before line 1
 pub at_first : (l : Lines) (bytes : List ℕ) → l.fault ≡ None → l.events ≡ None → IsAt l bytes
     → (bytes ≡ []) × (l.line ≡ 1) × (l.ended ≡ false)
-at_first l bytes fine first at =
-    subst (λ e. IsAtBy l.line e l.ended None bytes) first
-    (subst (λ f. IsAtBy l.line l.events l.ended f bytes) fine at)
+at_first l bytes fine first at = grind arith
 
 -- after it
 pub at_later : (l : Lines) (e : Events) (bytes : List ℕ) → l.fault ≡ None → l.events ≡ Some e
     → IsAt l bytes → Follows l.line e l.ended bytes
-at_later l e bytes fine later at =
-    subst (λ o. IsAtBy l.line o l.ended None bytes) later
-    (subst (λ f. IsAtBy l.line l.events l.ended f bytes) fine at)
+at_later l e bytes fine later at = grind arith
 
 pub first_taken : (l : Lines) (events : Events) (line bytes : List ℕ) → l.fault ≡ None → l.events
     ≡ None → IsAt l bytes → lacks 10 line ≡ true
@@ -148,8 +133,7 @@ first_refused l fault line bytes rest fine first at lack is =
 pub line_and_rest : (bytes line rest : List ℕ) → (bytes ++ (line ++ 10 ∷ [])) ++ rest ≡ bytes
     ++ (line ++ 10 ∷ rest)
 line_and_rest bytes line rest =
-    append_assoc bytes (line ++ 10 ∷ []) rest ∙ ap (λ more. bytes ++ more)
-    (append_assoc line (10 ∷ []) rest)
+    cc (append_assoc bytes (line ++ 10 ∷ []) rest, append_assoc line (10 ∷ []) rest)
 
 pub later_taken : (n : ℕ) (e new : Events) (was_ended is_ended : Bool) (line bytes : List ℕ)
     → (f : Follows n e was_ended bytes)
@@ -167,9 +151,7 @@ pub later_refused : (n : ℕ) (e : Events) (was_ended : Bool) (fault : HistoryFa
     (line bytes rest : List ℕ) → (f : Follows n e was_ended bytes)
     → IsRefusal fault (rest_read f.recorded n was_ended (cut (line ++ 10 ∷ rest)))
     → IsRefusal fault (history_reading ((bytes ++ (line ++ 10 ∷ [])) ++ rest))
-later_refused n e was_ended fault line bytes rest f is =
-    subst (IsRefusal fault)
-    (sym (ap history_reading (line_and_rest bytes line rest) ∙ f.read (line ++ 10 ∷ rest))) is
+later_refused n e was_ended fault line bytes rest f is = grind (arith, line_and_rest)
 
 -- a line of more than 64 bytes
 pub long_first : (l : Lines) (bytes more rest : List ℕ) → l.fault ≡ None → l.events ≡ None
@@ -196,17 +178,14 @@ pub long_later : (l : Lines) (e : Events) (bytes more rest : List ℕ) → l.fau
     → 64 < length more → history_reading ((bytes ++ more) ++ rest) ≡ refused l.line
     (unless_too_many l.line (cond l.ended AfterEnd BadLine))
 long_later l e bytes more rest fine later at lack long =
-    let f = at_later l e bytes fine later at in
-    ap history_reading (append_assoc bytes more rest) ∙ f.read (more ++ rest)
-    ∙ long_rest f.recorded l.line l.ended more rest lack long
+    grind (arith, more, long, at_later, append_assoc, long_rest)
 
 -- the text ends before line 1 does
 pub ends_first : (l : Lines) (bytes unfinished : List ℕ) → l.fault ≡ None → l.events ≡ None
     → IsAt l bytes → lacks 10 unfinished ≡ true
     → history_reading (bytes ++ unfinished) ≡ refused 1 (unfinished_rule 1 BadHeader unfinished)
 ends_first l bytes unfinished fine first at lack =
-    let begun = at_first l bytes fine first at in
-    ap (λ xs. history_reading (xs ++ unfinished)) begun.0 ∙ first_last unfinished lack
+    cc ((at_first l bytes fine first at).0, first_last unfinished lack)
 
 -- or before the line `end`
 pub ends_later : (l : Lines) (e : Events) (bytes unfinished : List ℕ) → l.fault ≡ None → l.events
@@ -214,9 +193,7 @@ pub ends_later : (l : Lines) (e : Events) (bytes unfinished : List ℕ) → l.fa
     → lacks 10 unfinished ≡ true → history_reading (bytes ++ unfinished) ≡ refused l.line
     (unfinished_rule l.line BadLine unfinished)
 ends_later l e bytes unfinished fine later d at lack =
-    let f = at_later l e bytes fine later at in
-    f.read unfinished ∙ ap (λ d. rest_read f.recorded l.line d (cut unfinished)) d
-    ∙ lines_last f.recorded l.line unfinished lack
+    grind (arith, unfinished, at_later, lines_last)
 
 -- the value of an option that has one
 pub record TheValue {A : Type 0} (o : Option A) : Type 0 where

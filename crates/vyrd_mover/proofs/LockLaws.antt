@@ -1,5 +1,5 @@
 -- Sets of locks: what is in a set that was changed, and in what two sets share.
-use Rattle.std.proofs.Common.{◌≡◌, ◌≢◌, ℕ, zero, suc, ◌+◌, ◌*◌, ◌/◌, ◌%◌, ◌^◌, ◌<◌, ◌≤◌, Bool, true}
+use Rattle.std.proofs.Common.{◌≡◌, ◌≢◌, ℕ, zero, ◌+◌, ◌*◌, ◌/◌, ◌%◌, ◌^◌, ◌<◌, ◌≤◌, Bool, true}
 use Rattle.std.proofs.Common.{false, ◌&&◌, min, List, length, replicate, get_or, set, refl, ap, ◌∙◌}
 use Rattle.std.proofs.Common.{sym, subst, arith}
 use Rattle.std.specs.Prelude.{◌==◌, nat_lt}
@@ -91,13 +91,7 @@ length-without_lock words lock = length-set words (lock / 64)
 
 -- the lower of two bits is 1 where both are
 both_bits : (a b : ℕ) → a < 2 → b < 2 → (min a b == 1) ≡ ((a == 1) && (b == 1))
-both_bits zero zero low_a low_b = refl
-both_bits zero (suc zero) low_a low_b = refl
-both_bits zero (suc (suc b)) low_a low_b = absurd (omega arith)
-both_bits (suc zero) zero low_a low_b = refl
-both_bits (suc zero) (suc zero) low_a low_b = refl
-both_bits (suc zero) (suc (suc b)) low_a low_b = absurd (omega arith)
-both_bits (suc (suc a)) b low_a low_b = absurd (omega arith)
+both_bits a b low_a low_b = grind arith
 
 pub has-in_both : (words others : List ℕ) (lock : ℕ) → has_lock (in_both words others) lock
     ≡ (has_lock words lock && has_lock others lock)
@@ -134,11 +128,7 @@ pub record IsMet (words others items : List ℕ) (n : ℕ) : Type 0 where
   pub rest : (place : ℕ) → n ≤ place → get_or items place 0 ≡ get_or words place 0
 
 pub met_none : (words others : List ℕ) → IsMet words others words 0
-met_none words others = record {
-  size = refl;
-  met = λ place low. absurd (omega arith);
-  rest = λ place least. refl;
-}
+met_none words others = grind arith
 
 pub met_more : (words others items : List ℕ) (n : ℕ) → IsMet words others items n → n < length words
     → IsMet words others (set items n (bit_and (get_or items n 0) (get_or others n 0))) (n + 1)
@@ -156,15 +146,13 @@ met_more words others items n is low =
         → get_or (set items n (bit_and (get_or items n 0) (get_or others n 0))) place 0
         ≡ bit_and (get_or words place 0) (get_or others place 0)
     go place below true h =
-        let within : n < length items = omega (arith, is.size) in
-        subst (λ p. get_or (set items n (bit_and (get_or items n 0) (get_or others n 0))) p 0
-        ≡ bit_and (get_or words p 0) (get_or others p 0)) (sym (same_of place n h))
-        (get_or-set_same items n (bit_and (get_or items n 0) (get_or others n 0)) 0 within
-        ∙ ap (λ w. bit_and w (get_or others n 0)) (is.rest n (omega arith)))
-    go place below false h =
-        let ne : place ≢ n = apart_of place n h in
-        get_or-set_other items n place (bit_and (get_or items n 0) (get_or others n 0)) 0 ne
-        ∙ is.met place (omega arith)
+        cc (
+          same_of place n h,
+          get_or-set_same items n (bit_and (get_or items n 0) (get_or others n
+              0)) 0 (omega (arith, is.size)),
+          is.rest n (omega arith),
+        )
+    go place below false h = search (apart_of, get_or-set_other, arith)
 
 pub met_all : (words others items : List ℕ) (n : ℕ) → IsMet words others items n → length words ≤ n
     → items ≡ in_both words others

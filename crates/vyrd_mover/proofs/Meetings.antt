@@ -1,6 +1,6 @@
 -- Two neighbouring events that may be exchanged don't meet: where one changes a cell, the other
 -- doesn't touch it.
-use Rattle.std.proofs.Common.{◌≡◌, ◌≢◌, ℕ, ◌+◌, Bool, true, false, cond, ◌||◌, ◌⊎◌, inl, inr, List}
+use Rattle.std.proofs.Common.{◌≡◌, ◌≢◌, ℕ, ◌+◌, Bool, true, false, cond, ◌||◌, List}
 use Rattle.std.proofs.Common.{◌∷◌, Some, None, refl, ap, ◌∙◌, sym, arith}
 use Rattle.std.specs.Prelude.{◌==◌, unwrap_or}
 use Rattle.std.proofs.lemmas.Bool.{or_left, or_right}
@@ -39,11 +39,8 @@ pub no_clash : (cells : Cells) (m : ℕ → ℕ) (a b : Stamped) (es : List Stam
     → may cells m a.caller a.did ≡ true → is_access_of cell a.did ≡ true → is_access_of cell b.did
     ≡ true
     → (is_write_to cell a.did || is_write_to cell b.did) ≡ true → ⊥
-no_clash cells m a b es cell (alone c low h) other allowed first second write =
-    other (h.0 first ∙ sym (h.1.0 second))
-no_clash cells m a b es cell (unwritten h) other allowed first second write =
-    let e : (is_write_to cell a.did || is_write_to cell b.did)
-    ≡ false = ap (λ x. x || is_write_to cell b.did) h.0 ∙ h.1.0 in cc
+no_clash cells m a b es cell (alone c low h) other allowed first second write = search arith
+no_clash cells m a b es cell (unwritten h) other allowed first second write = grind arith
 no_clash cells m a b es cell (guarded lock kind h) other allowed first second write =
     let kept : step m a lock ≡ m lock = step_same m a lock
     (access_keeps cells m a.caller cell lock a.did first allowed kind) in
@@ -63,18 +60,11 @@ NoClash free da db = (cell : ℕ) → free cell ≡ true → is_access_of cell d
 
 free_cell : (free : ℕ → Bool) (x y cell : ℕ) → (x == cell) ≡ true → (y == cell) ≡ true
     → (free x || free y) ≡ true → free cell ≡ true
-free_cell free x y cell ex ey e = go (either_true (free x) (free y) e)
-  where
-    go : (free x ≡ true) ⊎ (free y ≡ true) → free cell ≡ true
-    go (inl f) = ap free (sym (same_of x cell ex)) ∙ f
-    go (inr f) = ap free (sym (same_of y cell ey)) ∙ f
+free_cell free x y cell ex ey e = grind (arith, free, either_true, same_of)
 
 plain_or_lock : (cells : Cells) (x l cell : ℕ) → is_plain cells x ≡ true → is_lock cells l ≡ true
     → (x == cell) ≡ true → (l == cell) ≡ true → ⊥
-plain_or_lock cells x l cell plain kind ex el =
-    let no_lock : (x == l) ≡ false = plain_isnt cells x l plain kind in
-    let same : (x == l) ≡ true = is_same x l (same_of x cell ex ∙ sym (same_of l cell el)) in
-    cc
+plain_or_lock cells x l cell plain kind ex el = grind arith
 
 both_at : (x y cell : ℕ) → (x == cell) ≡ true → (y == cell) ≡ true → (x == y) ≡ true
 both_at x y cell ex ey = is_same x y (same_of x cell ex ∙ sym (same_of y cell ey))
@@ -92,30 +82,19 @@ took_took : (cells : Cells) (m : ℕ → ℕ) (k c d x y cell : ℕ) → (x == c
     ≡ true
     → may cells (step m (event_by k c (Took x))) d (Took y) ≡ true → ⊥
 took_took cells m k c d x y cell ex ey allowed =
-    let one : step m (event_by k c (Took x)) y ≡ c + 1 = taken_value m c x y
-    (both_at x y cell ex ey) in
-    let zero_then : step m (event_by k c (Took x)) y ≡ 0 = same_of _ _
-    (second_true (is_lock cells y) _ allowed) in
-    omega arith
+    grind (arith, step, taken_value, both_at, same_of, second_true)
 
 took_gave : (cells : Cells) (m : ℕ → ℕ) (k c d x y cell : ℕ) → c ≢ d → (x == cell) ≡ true
     → (y == cell) ≡ true
     → may cells (step m (event_by k c (Took x))) d (Gave y) ≡ true → ⊥
 took_gave cells m k c d x y cell other ex ey allowed =
-    let one : step m (event_by k c (Took x)) y ≡ c + 1 = taken_value m c x y
-    (both_at x y cell ex ey) in
-    let two : step m (event_by k c (Took x)) y ≡ d + 1 = same_of _ _
-    (second_true (is_lock cells y) _ allowed) in
-    other (omega arith)
+    grind (arith, step, taken_value, both_at, same_of, second_true)
 
 gave_gave : (cells : Cells) (m : ℕ → ℕ) (k c d x y cell : ℕ) → (x == cell) ≡ true → (y == cell)
     ≡ true
     → may cells (step m (event_by k c (Gave x))) d (Gave y) ≡ true → ⊥
 gave_gave cells m k c d x y cell ex ey allowed =
-    let one : step m (event_by k c (Gave x)) y ≡ 0 = given_value m x y (both_at x y cell ex ey) in
-    let two : step m (event_by k c (Gave x)) y ≡ d + 1 = same_of _ _
-    (second_true (is_lock cells y) _ allowed) in
-    omega arith
+    grind (arith, step, given_value, both_at, same_of, second_true)
 
 pub never : false ≡ true → ⊥
 never e = cc
@@ -130,42 +109,18 @@ meet : (cells : Cells) (m : ℕ → ℕ) (free : ℕ → Bool) (k c d cell : ℕ
     → NoClash free da db
     → touches cell da ≡ true → touches cell db ≡ true → (changes cell da || changes cell db) ≡ true
     → ⊥
-meet cells m free k c d cell (Marked x) db other first second move clash ta tb ch = never ta
-meet cells m free k c d cell (Read x v) (Marked y) other first second move clash ta tb ch = never tb
-meet cells m free k c d cell (Wrote x v) (Marked y) other first second move clash ta tb ch =
-    never tb
-meet cells m free k c d cell (Took x) (Marked y) other first second move clash ta tb ch = never tb
-meet cells m free k c d cell (Gave x) (Marked y) other first second move clash ta tb ch = never tb
-meet cells m free k c d cell (Read x v) (Read y w) other first second move clash ta tb ch = never ch
-meet cells m free k c d cell (Read x v) (Wrote y w) other first second move clash ta tb ch =
-    clash cell (free_cell free x y cell ta tb move) ta tb ch
-meet cells m free k c d cell (Wrote x v) (Read y w) other first second move clash ta tb ch =
-    clash cell (free_cell free x y cell ta tb move) ta tb ch
-meet cells m free k c d cell (Wrote x v) (Wrote y w) other first second move clash ta tb ch =
-    clash cell (free_cell free x y cell ta tb move) ta tb ch
-meet cells m free k c d cell (Read x v) (Took y) other first second move clash ta tb ch =
-    plain_or_lock cells x y cell (first_true _ _ first) (first_true _ _ second) ta tb
-meet cells m free k c d cell (Read x v) (Gave y) other first second move clash ta tb ch =
-    plain_or_lock cells x y cell (first_true _ _ first) (first_true _ _ second) ta tb
-meet cells m free k c d cell (Wrote x v) (Took y) other first second move clash ta tb ch =
-    plain_or_lock cells x y cell (first_true _ _ first) (first_true _ _ second) ta tb
-meet cells m free k c d cell (Wrote x v) (Gave y) other first second move clash ta tb ch =
-    plain_or_lock cells x y cell (first_true _ _ first) (first_true _ _ second) ta tb
-meet cells m free k c d cell (Took x) (Read y w) other first second move clash ta tb ch =
-    plain_or_lock cells y x cell (first_true _ _ second) (first_true _ _ first) tb ta
-meet cells m free k c d cell (Took x) (Wrote y w) other first second move clash ta tb ch =
-    plain_or_lock cells y x cell (first_true _ _ second) (first_true _ _ first) tb ta
-meet cells m free k c d cell (Gave x) (Read y w) other first second move clash ta tb ch =
-    plain_or_lock cells y x cell (first_true _ _ second) (first_true _ _ first) tb ta
-meet cells m free k c d cell (Gave x) (Wrote y w) other first second move clash ta tb ch =
-    plain_or_lock cells y x cell (first_true _ _ second) (first_true _ _ first) tb ta
-meet cells m free k c d cell (Took x) (Took y) other first second move clash ta tb ch =
-    took_took cells m k c d x y cell ta tb second
-meet cells m free k c d cell (Took x) (Gave y) other first second move clash ta tb ch =
-    took_gave cells m k c d x y cell other ta tb second
-meet cells m free k c d cell (Gave x) (Gave y) other first second move clash ta tb ch =
-    gave_gave cells m k c d x y cell ta tb second
-meet cells m free k c d cell (Gave x) (Took y) other first second move clash ta tb ch = never move
+meet cells m free k c d cell da db other first second move clash ta tb ch =
+    grind (
+      arith,
+      free,
+      never,
+      free_cell,
+      plain_or_lock,
+      first_true,
+      took_took,
+      took_gave,
+      gave_gave,
+    )
 
 -- if one of the two changes a cell, the other doesn't touch it
 pub record Apart (a b : Did) : Type 0 where
@@ -173,11 +128,7 @@ pub record Apart (a b : Did) : Type 0 where
   pub changed_second : (cell : ℕ) → touches cell a ≡ true → changes cell b ≡ true → ⊥
 
 pub changed_is_touched : (cell : ℕ) (did : Did) → changes cell did ≡ true → touches cell did ≡ true
-changed_is_touched cell (Read x v) e = absurd (never e)
-changed_is_touched cell (Wrote x v) e = e
-changed_is_touched cell (Took x) e = e
-changed_is_touched cell (Gave x) e = e
-changed_is_touched cell (Marked x) e = e
+changed_is_touched cell did e = grind (arith, never)
 
 pub apart : (cells : Cells) (m : ℕ → ℕ) (free : ℕ → Bool) (a b : Stamped) (es : List Stamped)
     → a.caller ≢ b.caller

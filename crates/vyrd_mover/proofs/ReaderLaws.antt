@@ -53,8 +53,7 @@ more_unfinished s unfinished before more read is lack short =
 -- how far a piece was taken in
 pub fed_nothing : (s : ReaderState) (bytes piece : List ℕ) → HasRead s bytes
     → IsFedTo s bytes piece piece
-fed_nothing s bytes piece read =
-    record { front = []; parted = refl; read = subst (HasRead s) (sym (append-nil bytes)) read }
+fed_nothing s bytes piece read = grind (arith, append-nil bytes)
 
 pub fed_line : (s new : ReaderState) (bytes piece rest line next : List ℕ)
     → (fed : IsFedTo s bytes piece rest) → rest ≡ line ++ 10 ∷ next
@@ -69,9 +68,7 @@ fed_line s new bytes piece rest line next fed is read = record {
 pub fed_all : (s new : ReaderState) (bytes piece rest : List ℕ) → (fed : IsFedTo s bytes piece rest)
     → HasRead new ((bytes ++ fed.front) ++ rest)
     → HasRead new (bytes ++ piece)
-fed_all s new bytes piece rest fed read =
-    subst (HasRead new) (append_assoc bytes fed.front rest
-    ∙ ap (λ xs. bytes ++ xs) (sym fed.parted)) read
+fed_all s new bytes piece rest fed read = grind (arith, fed, read, append_assoc)
 
 -- if all blocks of the history are reducible, each can be gathered
 pub gathered_of : (bytes : List ℕ) (r : Recorded) (n : ℕ) → history_reading bytes ≡ Ok r

@@ -112,13 +112,10 @@ changes cell (Marked kind) = false
 pub may_same : (cells : Cells) (m n : ℕ → ℕ) (caller : ℕ) (did : Did)
     → ((cell : ℕ) → touches cell did ≡ true → m cell ≡ n cell)
     → may cells m caller did ≡ may cells n caller did
-may_same cells m n caller (Read cell value) same = ap (λ v. is_plain cells cell && value == v)
-    (same cell (same_number cell))
+may_same cells m n caller (Read cell value) same = cc (same cell (same_number cell))
 may_same cells m n caller (Wrote cell value) same = refl
-may_same cells m n caller (Took cell) same = ap (λ v. is_lock cells cell && v == 0)
-    (same cell (same_number cell))
-may_same cells m n caller (Gave cell) same = ap (λ v. is_lock cells cell && v == caller + 1)
-    (same cell (same_number cell))
+may_same cells m n caller (Took cell) same = cc (same cell (same_number cell))
+may_same cells m n caller (Gave cell) same = cc (same cell (same_number cell))
 may_same cells m n caller (Marked kind) same = refl
 
 -- an event makes nothing of a cell that it doesn't change

@@ -28,14 +28,12 @@ use Rattle.vyrd_mover.specs.Usage.{is_shared, joined, used_by, unused, held_by, 
 use Rattle.vyrd_mover.specs.Usage.{kept_after}
 use Rattle.vyrd_mover.proofs.LockLaws.{with_same, with_other, length-with_lock, without_same}
 use Rattle.vyrd_mover.proofs.LockLaws.{without_other, length-without_lock, has-in_both}
-use Rattle.vyrd_mover.proofs.LockLaws.{has_none_of_zeros, place_of_lock}
+use Rattle.vyrd_mover.proofs.LockLaws.{has_none_of_zeros}
 use Rattle.vyrd_mover.proofs.TruthLaws.{tells_any}
-use Rattle.vyrd_mover.proofs.Running.{value_step}
 
 pub list_all-push : {A : Type 0} (test : A → Bool) (xs : List A) (x : A)
     → list_all test (xs ++ x ∷ []) ≡ (list_all test xs && test x)
-list_all-push test xs x = list_all-append test xs (x ∷ []) ∙ ap (λ b. list_all test xs && b)
-    (and-true (test x))
+list_all-push test xs x = cc (list_all-append test xs (x ∷ []), and-true (test x))
 
 -- the place of one more event
 abbrev place_of : List Stamped → Stamped → Place Stamped
@@ -79,42 +77,15 @@ not_used cells seen cell kept e no_access no_write is =
 
 joined_alone : (users : Users) (caller c : ℕ) → may_be_alone (joined users caller) c
     ≡ (may_be_alone users c && caller == c)
-joined_alone Nobody caller c = refl
-joined_alone Many caller c = refl
-joined_alone (One user) caller c = go (user == caller) refl
-  where
-    differ : (user == caller) ≡ false → (b : Bool) → (user == c) ≡ b → false ≡ (b && caller == c)
-    differ e false h = refl
-    differ e true h =
-        let ne : caller ≢ c = λ same. apart_of user caller e (same_of user c h ∙ sym same) in
-        sym (isnt_same caller c ne)
-
-    go : (b : Bool) → (user == caller) ≡ b → may_be_alone (cond b (One user) Many) c
-        ≡ (user == c && caller == c)
-    go true e = sym (ap (λ n. (user == c) && (n == c)) (sym (same_of user caller e))
-        ∙ twice (user == c))
-      where
-        twice : (b : Bool) → (b && b) ≡ b
-        twice true = refl
-        twice false = refl
-    go false e = differ e (user == c) refl ∙ refl
+joined_alone users caller c = grind (arith, apart_of, same_of, isnt_same)
 
 joined_used : (users : Users) (caller : ℕ) → is_used (joined users caller) ≡ true
-joined_used Nobody caller = refl
-joined_used Many caller = refl
-joined_used (One user) caller = elim (user == caller) as (λ b. is_used (cond b (One user) Many)
-    ≡ true) [ true ↦ refl | false ↦ refl ]
+joined_used users caller = grind arith
 
 joined_below : (users : Users) (caller callers user : ℕ) → ((u : ℕ) → users ≡ One u → u < callers)
     → caller < callers
     → joined users caller ≡ One user → user < callers
-joined_below Nobody caller callers user below low e = let same : caller ≡ user = cc in omega arith
-joined_below Many caller callers user below low e = absurd (cc)
-joined_below (One u) caller callers user below low e = go (u == caller) e
-  where
-    go : (b : Bool) → cond b (One u) Many ≡ One user → user < callers
-    go true e = below user e
-    go false e = absurd (cc)
+joined_below users caller callers user below low e = grind (arith, below)
 
 not_or : (a b : Bool) → (not a && not b) ≡ not (a || b)
 not_or true b = refl
@@ -133,15 +104,19 @@ used_more : (cells : Cells) (seen : List Stamped) (cell : ℕ) (kept : Use) (hel
     (used_by held e.caller is_write kept)
 used_more cells seen cell kept held e is_write access write low holds is =
     record {
-      alone = λ c. list_all-push (λ e. not (is_access_of cell e.did) || e.caller == c) seen e
-          ∙ ap (λ b. is_used_by_alone seen cell c && (not b || e.caller == c)) access
-          ∙ ap (λ b. b && e.caller == c) (is.alone c)
-          ∙ sym (joined_alone kept.users e.caller c);
+      alone = λ c. cc (
+        list_all-push (λ e. not (is_access_of cell e.did) || e.caller == c) seen e,
+        is.alone c,
+        joined_alone kept.users e.caller c,
+      );
       user_below = λ user h. joined_below kept.users e.caller cells.callers user is.user_below low
           h;
-      unwritten = list_all-push (λ e. not (is_write_to cell e.did)) seen e
-          ∙ ap (λ b. is_unwritten seen cell && not b) write
-          ∙ ap (λ b. b && not is_write) is.unwritten ∙ not_or kept.written is_write;
+      unwritten = cc (
+        list_all-push (λ e. not (is_write_to cell e.did)) seen e,
+        is.unwritten,
+        not_or
+            kept.written is_write,
+      );
       unseen = λ u lock. absurd (contradiction u);
       guards = λ u lock. by_use lock (is_used kept.users) refl;
     }
@@ -152,31 +127,18 @@ used_more cells seen cell kept held e is_write access write low holds is =
     one_more : (lock : ℕ)
         → (is_guarded_by seen cell lock && value_in (newest_first seen) lock == e.caller + 1)
         ≡ is_guarded_by (seen ++ e ∷ []) cell lock
-    one_more lock =
-        ap (λ b. is_guarded_by seen cell lock
-        && (not b || value_in (newest_first seen) lock == e.caller + 1)) (sym access)
-        ∙ sym (guarded-push seen e cell lock)
+    one_more lock = cc (guarded-push seen e cell lock)
 
     by_use : (lock : ℕ) (b : Bool) → is_used kept.users ≡ b
         → has_lock (cond b (in_both kept.guards held) held) lock
         ≡ (nat_lt lock cells.locks && is_guarded_by (seen ++ e ∷ []) cell (cells.plain + lock))
-    by_use lock true u =
-        has-in_both kept.guards held lock ∙ (λ i. is.guards u lock i && holds.holds lock i)
-        ∙ both_after (nat_lt lock cells.locks) _ _ ∙ ap (λ b. nat_lt lock cells.locks && b)
-        (one_more (cells.plain + lock))
-    by_use lock false u =
-        holds.holds lock
-        ∙ ap (λ b. nat_lt lock cells.locks && b)
-        (ap (λ b. b && value_in (newest_first seen) (cells.plain + lock) == e.caller + 1)
-        (sym (is.unseen u (cells.plain + lock)))
-        ∙ one_more (cells.plain + lock))
+    by_use lock b u = search (has-in_both, held, both_after, one_more, arith)
 
 -- the value that a lock is left with
 value_push : (seen : List Stamped) (e : Stamped) (lock : ℕ)
     → value_in (newest_first (seen ++ e ∷ [])) lock ≡ unwrap_or (made_of lock e.caller e.did)
     (value_in (newest_first seen) lock)
-value_push seen e lock = ap (λ earlier. value_in earlier lock) (newest_first-push seen e)
-    ∙ λ i. value_step e (newest_first seen) i lock
+value_push seen e lock = grind (arith, newest_first-push seen e)
 
 -- what callers hold after an event that changes no lock
 holds_still : (cells : Cells) (seen : List Stamped) (e : Stamped) (caller : ℕ) (held : List ℕ)
@@ -184,9 +146,7 @@ holds_still : (cells : Cells) (seen : List Stamped) (e : Stamped) (caller : ℕ)
     → HoldsSo cells seen caller held → HoldsSo cells (seen ++ e ∷ []) caller held
 holds_still cells seen e caller held still is = record {
   room = is.room;
-  holds = λ lock. is.holds lock ∙ ap (λ v. nat_lt lock cells.locks && v == caller + 1)
-      (sym (value_push seen e (cells.plain + lock)
-      ∙ ap (λ o. unwrap_or o (value_in (newest_first seen) (cells.plain + lock))) (still lock)));
+  holds = λ lock. cc (is.holds lock, value_push seen e (cells.plain + lock), still lock);
 }
 
 -- the cell of an access, and another cell
@@ -207,12 +167,11 @@ use_here cells seen all e other cell is_write have access write low fits inside 
         let got = get_or-set_same all.cells other
         (used_by (held_by all e.caller) e.caller is_write (get_or all.cells other unused)) d
         within in
-        subst (λ c. IsUse cells (seen ++ e ∷ []) c
-        (get_or (with_use all other e.caller is_write).cells c d)) at
+        rw (← at)
         (subst (IsUse cells (seen ++ e ∷ []) other) (sym got)
         (used_more cells seen other (get_or all.cells other unused) (held_by all e.caller) e
         is_write (access other ∙ same_number other)
-        (write other ∙ ap (λ b. b && is_write) (same_number other)) low (have.held e.caller low [])
+        (cc (write other, same_number other)) low (have.held e.caller low [])
         (have.uses other fits unused)))
     go false h =
         let ne : cell ≢ other = λ same. apart_of other cell h (sym same) in
@@ -220,7 +179,7 @@ use_here cells seen all e other cell is_write have access write low fits inside 
         (sym (get_or-set_other all.cells other cell
         (used_by (held_by all e.caller) e.caller is_write (get_or all.cells other unused)) d ne))
         (not_used cells seen cell (get_or all.cells cell d) e (access cell ∙ h)
-        (write cell ∙ ap (λ b. b && is_write) h) (have.uses cell inside d))
+        (cc (write cell)) (have.uses cell inside d))
 
 -- an access leaves the locks as they are
 with_access : (cells : Cells) (seen : List Stamped) (all : UsageKept) (e : Stamped) (other : ℕ)
@@ -250,16 +209,12 @@ record Makes (cells : Cells) (e : Stamped) (other value : ℕ) : Type 0 where
 value_made : (cells : Cells) (seen : List Stamped) (e : Stamped) (other value lock : ℕ)
     → Makes cells e other value → (other == lock) ≡ true
     → value_in (newest_first (seen ++ e ∷ [])) lock ≡ value
-value_made cells seen e other value lock makes h =
-    value_push seen e lock ∙ ap (λ o. unwrap_or o (value_in (newest_first seen) lock))
-    (makes.made lock ∙ ap (λ b. cond b (Some value) None) h)
+value_made cells seen e other value lock makes h = grind (arith, value_push)
 
 value_kept : (cells : Cells) (seen : List Stamped) (e : Stamped) (other value lock : ℕ)
     → Makes cells e other value → (other == lock) ≡ false
     → value_in (newest_first (seen ++ e ∷ [])) lock ≡ value_in (newest_first seen) lock
-value_kept cells seen e other value lock makes h =
-    value_push seen e lock ∙ ap (λ o. unwrap_or o (value_in (newest_first seen) lock))
-    (makes.made lock ∙ ap (λ b. cond b (Some value) None) h)
+value_kept cells seen e other value lock makes h = grind (arith, value_push)
 
 -- what its caller holds then
 own_locks : (cells : Cells) (seen : List Stamped) (e : Stamped) (other value : ℕ)
@@ -310,12 +265,8 @@ others_locks cells seen e other value caller held makes before after is =
         ≡ (nat_lt lock cells.locks && value_in (newest_first (seen ++ e ∷ [])) (cells.plain + lock)
         == caller + 1)
     go lock true h =
-        ap (λ b. nat_lt lock cells.locks && b)
-        (ap (λ l. value_in (newest_first seen) l == caller + 1) (sym (same_of _ _ h)) ∙ before
-        ∙ sym (ap (λ v. v == caller + 1)
-        (value_made cells seen e other value (cells.plain + lock) makes h) ∙ after))
-    go lock false h = ap (λ v. nat_lt lock cells.locks && v == caller + 1)
-        (sym (value_kept cells seen e other value (cells.plain + lock) makes h))
+        cc (same_of _ _ h, value_made cells seen e other value (cells.plain + lock) makes h)
+    go lock false h = cc (value_kept cells seen e other value (cells.plain + lock) makes h)
 
 -- a change of a lock leaves the cells as they are
 with_locks : (cells : Cells) (seen : List Stamped) (all : UsageKept) (e : Stamped) (other value : ℕ)
@@ -369,10 +320,7 @@ has_place : (cells : Cells) (seen : List Stamped) (all : UsageKept) (caller othe
     → HaveSeen cells seen all → caller < cells.callers
     → cells.plain ≤ other → other < cells.plain + cells.locks → (other - cells.plain) / 64 < length
     (held_by all caller)
-has_place cells seen all caller other have low least most =
-    let place = place_of_lock (other - cells.plain) cells.locks (omega arith) in
-    let room = (have.held caller low []).room in
-    omega arith
+has_place cells seen all caller other have low least most = grind arith
 
 -- a lock is taken
 with_taken : (cells : Cells) (seen : List Stamped) (all : UsageKept) (k c lock : ℕ)
@@ -390,11 +338,10 @@ with_taken cells seen all k c lock have low may =
     let place = has_place cells seen all c lock have low least most in
     let makes : Makes cells (record { number = k; caller = c; did = Took lock }) lock (c + 1) =
     record { made = λ l. refl; least = least; most = most } in
-    subst (λ n. HaveSeen cells (seen ++ record { number = k; caller = c; did = Took lock } ∷ [])
-    (with_held all c (with_lock (held_by all c) (lock - n)))) (sym have.all_cells)
+    rw have.all_cells
     (with_locks cells seen all (record { number = k; caller = c; did = Took lock }) lock (c + 1)
     (with_lock (held_by all c) (lock - cells.plain)) have (λ x. refl) (λ x. refl) makes low
-    (λ caller apart. ap (λ v. v == caller + 1) free ∙ none_isnt caller)
+    (λ caller apart. cc (none_isnt caller))
     (λ caller apart. next_isnt c caller apart)
     (length-with_lock (held_by all c) (lock - cells.plain))
     (with_same (held_by all c) (lock - cells.plain) place ∙ sym (same_number (c + 1)))
@@ -416,11 +363,10 @@ with_given cells seen all k c lock have low may =
     let place = has_place cells seen all c lock have low least most in
     let makes : Makes cells (record { number = k; caller = c; did = Gave lock }) lock 0 =
     record { made = λ l. refl; least = least; most = most } in
-    subst (λ n. HaveSeen cells (seen ++ record { number = k; caller = c; did = Gave lock } ∷ [])
-    (with_held all c (without_lock (held_by all c) (lock - n)))) (sym have.all_cells)
+    rw have.all_cells
     (with_locks cells seen all (record { number = k; caller = c; did = Gave lock }) lock 0
     (without_lock (held_by all c) (lock - cells.plain)) have (λ x. refl) (λ x. refl) makes low
-    (λ caller apart. ap (λ v. v == caller + 1) mine ∙ next_isnt c caller apart)
+    (λ caller apart. cc (next_isnt c caller apart))
     (λ caller apart. none_isnt caller)
     (length-without_lock (held_by all c) (lock - cells.plain))
     (without_same (held_by all c) (lock - cells.plain) place ∙ sym (none_isnt c))
@@ -436,19 +382,15 @@ step_by : (cells : Cells) (seen : List Stamped) (all : UsageKept) (k c : ℕ) (d
     → HaveSeen cells (seen ++ record { number = k; caller = c; did = did } ∷ [])
     (kept_after all c did)
 step_by cells seen all k c (Read cell value) have low may =
-    with_access cells seen all (record { number = k; caller = c; did = Read cell value }) cell false
-    have (λ c. refl) (λ c. false_and (cell == c))
-    (λ lock. refl) low (below_of cell cells.plain (first_true _ _ may))
+    search (with_access, false_and, below_of, first_true, arith)
 step_by cells seen all k c (Wrote cell value) have low may =
     let plain = below_of cell cells.plain (first_true _ _ may) in
     with_access cells seen all (record { number = k; caller = c; did = Wrote cell value }) cell true
     have (λ c. refl) (λ c. sym (and-true (cell == c)))
     (λ lock. let apart : cell ≢ cells.plain + lock = omega arith in
-    ap (λ b. cond b (Some value) None) (isnt_same cell (cells.plain + lock) apart)) low plain
-step_by cells seen all k c (Took lock) have low may = with_taken cells seen all k c lock have low
-    may
-step_by cells seen all k c (Gave lock) have low may = with_given cells seen all k c lock have low
-    may
+    cc (isnt_same cell (cells.plain + lock) apart)) low plain
+step_by cells seen all k c (Took lock) have low may = search (with_taken, arith)
+step_by cells seen all k c (Gave lock) have low may = search (with_given, arith)
 step_by cells seen all k c (Marked kind) have low may =
     record {
       all_held = have.all_held;
@@ -469,13 +411,7 @@ have_seen_more cells seen all e have low may = step_by cells seen all e.number e
     low may
 
 nobody_yet : (cells : Cells) (cell : ℕ) → IsUse cells [] cell unused
-nobody_yet cells cell = record {
-  alone = λ c. refl;
-  user_below = λ user e. absurd (cc);
-  unwritten = refl;
-  unseen = λ u lock. refl;
-  guards = λ u. absurd (cc);
-}
+nobody_yet cells cell = grind arith
 
 -- before the first event
 holds_nothing : (cells : Cells) (caller : ℕ)
@@ -483,8 +419,7 @@ holds_nothing : (cells : Cells) (caller : ℕ)
 holds_nothing cells caller = record {
   room = length-replicate (words_for cells.locks) 0;
   holds = λ lock. has_none_of_zeros (words_for cells.locks) lock
-      ∙ sym (ap (λ b. nat_lt lock cells.locks && b) (none_isnt caller)
-      ∙ and-false (nat_lt lock cells.locks));
+      ∙ sym (cc (none_isnt caller, and-false (nat_lt lock cells.locks)));
 }
 
 pub have_seen_nothing : (cells : Cells)

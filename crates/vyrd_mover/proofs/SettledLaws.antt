@@ -17,7 +17,7 @@ use Rattle.vyrd_base.proofs.TestLaws.{both_true, below_of, is_below, not_below_o
 use Rattle.vyrd_base.proofs.LongLines.{longer}
 use Rattle.vyrd_mover.specs.declared.fault.HistoryRule.{HistoryRule}
 use Rattle.vyrd_mover.specs.declared.fault.HistoryRule.TheVariants.{TooManyLines, BadHeader}
-use Rattle.vyrd_mover.specs.declared.fault.HistoryRule.TheVariants.{BadLine, NoLineFeed}
+use Rattle.vyrd_mover.specs.declared.fault.HistoryRule.TheVariants.{BadLine}
 use Rattle.vyrd_mover.specs.HistoryText.{Recorded}
 use Rattle.vyrd_mover.specs.HistoryLines.{history_header_in, event_in}
 use Rattle.vyrd_mover.specs.HistoryReading.{refused, broken_by, with_event, unless_broken}
@@ -66,19 +66,14 @@ long_header line long = by_answer (history_header_in line) refl
   where
     by_answer : (o : Option Header) → history_header_in line ≡ o → o ≡ None
     by_answer None e = refl
-    by_answer (Some h) e =
-        let short = short_first h in
-        let same = ap length (header_in_sound line h e).1 in
-        absurd (omega (arith, long, short, same))
+    by_answer (Some h) e = grind (arith, short_first h, (header_in_sound line h e).1)
 
 long_isnt_end : (line : List ℕ) → 64 < length line → ¬ (line ≡ end_line)
 long_isnt_end line long e = let same = ap length e in omega (arith, long, same)
 
 long_unfinished : (n : ℕ) (bad : HistoryRule) (rest : List ℕ) → 64 < length rest
     → unfinished_rule n bad rest ≡ unless_too_many n bad
-long_unfinished n bad [] long = absurd (omega (arith, long))
-long_unfinished n bad (b ∷ rest) long = ap (λ t. unless_too_many n (cond t bad NoLineFeed))
-    (is_below 64 (length (b ∷ rest)) long)
+long_unfinished n bad rest long = grind (arith, long, is_below)
 
 -- more than 64 bytes without a line feed are a bad line, whatever follows them
 pub long_line : (r : Recorded) (n : ℕ) (line more : List ℕ) → lacks 10 line ≡ true

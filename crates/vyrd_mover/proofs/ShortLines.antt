@@ -8,7 +8,7 @@ use Rattle.vyrd_base.specs.declared.subject.Subject.{Subject}
 use Rattle.vyrd_base.specs.declared.history.Did.{Did}
 use Rattle.vyrd_base.specs.declared.history.Did.TheVariants.{Read, Wrote, Took, Gave, Marked}
 use Rattle.vyrd_base.specs.declared.history.Stamped.{Stamped}
-use Rattle.vyrd_base.specs.Spelling.{subject_name, end_line, is_kind_of}
+use Rattle.vyrd_base.specs.Spelling.{end_line, is_kind_of}
 use Rattle.vyrd_base.specs.Histories.{is_write}
 use Rattle.vyrd_base.proofs.HeaderLaws.{size_in_32_bits, callers_in_32_bits}
 use Rattle.vyrd_base.proofs.LongLines.{short_entry, short_number, short_value}
@@ -23,26 +23,11 @@ short_pair : (caller cell value : ℕ) (word : List ℕ) → caller < 2 ^ 32 →
     → value < 2 ^ 64 → length word ≤ 5
     → length (decimal caller ++ 32 ∷ (word ++ 32 ∷ (decimal cell ++ 32 ∷ decimal value))) ≤ 64
 short_pair caller cell value word lc lx lv lw =
-    omega (
-      arith,
-      short_number caller lc,
-      short_number cell lx,
-      short_value value lv,
-      length-append (decimal caller) (32 ∷ (word ++ 32 ∷ (decimal cell ++ 32 ∷ decimal value))),
-      length-append word (32 ∷ (decimal cell ++ 32 ∷ decimal value)),
-      length-append (decimal cell) (32 ∷ decimal value),
-    )
+    grind (arith, short_number, short_value, length-append)
 
 short_one : (caller lock : ℕ) (word : List ℕ) → caller < 2 ^ 32 → lock < 2 ^ 32 → length word ≤ 5
     → length (decimal caller ++ 32 ∷ (word ++ 32 ∷ decimal lock)) ≤ 64
-short_one caller lock word lc lx lw =
-    omega (
-      arith,
-      short_number caller lc,
-      short_number lock lx,
-      length-append (decimal caller) (32 ∷ (word ++ 32 ∷ decimal lock)),
-      length-append word (32 ∷ decimal lock),
-    )
+short_one caller lock word lc lx lw = grind (arith, short_number, length-append)
 
 short_did : (subject : Subject) (caller : ℕ) (did : Did) → nat_lt caller (2 ^ 32) ≡ true
     → is_did_of subject did ≡ true → length (did_line caller did) ≤ 64
@@ -52,10 +37,8 @@ short_did subject caller (Read cell value) low is = short_pair caller cell value
 short_did subject caller (Wrote cell value) low is = short_pair caller cell value (codes "wrote")
     (below_of _ _ low) (below_of cell (2 ^ 32) (first_true _ _ is))
     (below_of value (2 ^ 64) (second_true (nat_lt cell (2 ^ 32)) _ is)) (omega arith)
-short_did subject caller (Took lock) low is = short_one caller lock (codes "took")
-    (below_of _ _ low) (below_of _ _ is) (omega arith)
-short_did subject caller (Gave lock) low is = short_one caller lock (codes "gave")
-    (below_of _ _ low) (below_of _ _ is) (omega arith)
+short_did subject caller (Took lock) low is = search (short_one, below_of, arith)
+short_did subject caller (Gave lock) low is = search (short_one, below_of, arith)
 short_did subject caller (Marked kind) low is = short_entry subject
     (record { caller = caller; kind = kind })
     (both_true (nat_lt caller (2 ^ 32)) (is_kind_of subject kind) low
@@ -63,19 +46,11 @@ short_did subject caller (Marked kind) low is = short_entry subject
 
 pub short_first : (h : Header) → length (history_header_line h.subject h.size h.callers) ≤ 64
 short_first h =
-    omega (
-      arith,
-      short_number h.size (size_in_32_bits h),
-      short_number h.callers (callers_in_32_bits h),
-      short_subject h.subject,
-      length-append (subject_name h.subject) (32 ∷ (decimal h.size ++ 32 ∷ decimal h.callers)),
-      length-append (decimal h.size) (32 ∷ decimal h.callers),
-    )
+    grind (arith, short_number, size_in_32_bits, callers_in_32_bits, short_subject, length-append)
 
 pub short_event : (subject : Subject) (e : Stamped) → is_event_of subject e ≡ true
     → length (event_line e) ≤ 64
-short_event subject e is = short_did subject e.caller e.did (first_true _ _ is)
-    (second_true (nat_lt e.caller (2 ^ 32)) _ is)
+short_event subject e is = search (short_did, first_true, second_true, arith)
 
 short_later : (subject : Subject) (es : List Stamped)
     → AllByRecursion (λ e. is_event_of subject e ≡ true) es

@@ -1,5 +1,5 @@
 -- What is kept of a history from some place on, one event earlier.
-use Rattle.std.proofs.Common.{◌≡◌, ◌≢◌, ℕ, suc, ◌+◌, ◌<◌, ◌≤◌, Bool, true, false, cond, not, ◌&&◌}
+use Rattle.std.proofs.Common.{◌≡◌, ℕ, suc, ◌<◌, ◌≤◌, Bool, true, false, not, ◌&&◌}
 use Rattle.std.proofs.Common.{List, [], ◌∷◌, length, get_or, set, replicate, Option, Some, None}
 use Rattle.std.proofs.Common.{refl, ap, ◌∙◌, sym, subst, arith}
 use Rattle.std.specs.Prelude.{◌==◌}
@@ -17,16 +17,14 @@ use Rattle.vyrd_base.specs.Places.{places_after, first_answer}
 use Rattle.vyrd_base.proofs.TestLaws.{same_of, apart_of, same_number}
 use Rattle.vyrd_mover.specs.declared.ahead.Ahead.{Ahead}
 use Rattle.vyrd_mover.specs.declared.step.Role.{Role}
-use Rattle.vyrd_mover.specs.declared.step.Role.TheVariants.{Opens, Ends, Marks, Takes, Gives}
-use Rattle.vyrd_mover.specs.declared.step.Role.TheVariants.{Accesses}
 use Rattle.vyrd_mover.specs.Movers.{is_right_mover, is_left_mover}
 use Rattle.vyrd_mover.specs.Blocks.{is_mark, is_block_open, is_block_end, up_to_end, events_of}
 use Rattle.vyrd_mover.specs.Blocks.{block_at, broken_lines, broken_at, line_of}
 use Rattle.vyrd_mover.specs.Steps.{role_of}
-use Rattle.vyrd_mover.specs.Ahead.{first_not_left, break_line, kept_of, ahead_of, with_line}
+use Rattle.vyrd_mover.specs.Ahead.{kept_of, ahead_of, with_line}
 use Rattle.vyrd_mover.specs.Ahead.{Surveyed, with_ahead, opened_before, ahead_at, preceded_by}
 use Rattle.vyrd_mover.specs.Ahead.{HasSurveyed}
-use Rattle.vyrd_mover.proofs.BreakLaws.{broken_lines_is, lines_from}
+use Rattle.vyrd_mover.proofs.BreakLaws.{broken_lines_is}
 
 -- what is kept of the rest of a block
 abbrev keep : (ℕ → Bool) → ℕ → List Stamped → Ahead
@@ -37,26 +35,14 @@ ahead_skip : (free : ℕ → Bool) (c : ℕ) (e : Stamped) (later : List Stamped
     → ((e.caller == c) && is_block_end e.did) ≡ false
     → ((e.caller == c) && not (is_mark e.did)) ≡ false → ahead_of free c (e ∷ later)
     ≡ ahead_of free c later
-ahead_skip free c e later no_end no_event =
-    ap (λ b. option_map (keep free c)
-    (cond b (Some (e ∷ [])) (option_map (λ rest. e ∷ rest) (up_to_end c later)))) no_end
-    ∙ go (up_to_end c later)
-  where
-    go : (o : Option (List Stamped)) → option_map (keep free c) (option_map (λ rest. e ∷ rest) o)
-        ≡ option_map (keep free c) o
-    go None = refl
-    go (Some rest) =
-        ap (λ b. Some (kept_of free (cond b (e ∷ events_of c rest) (events_of c rest)))) no_event
+ahead_skip free c e later no_end no_event = grind (arith, free, no_end, no_event)
 
 -- the end of the caller's block
 ahead_end : (free : ℕ → Bool) (c : ℕ) (e : Stamped) (later : List Stamped)
     → ((e.caller == c) && is_block_end e.did) ≡ true
     → ((e.caller == c) && not (is_mark e.did)) ≡ false → ahead_of free c (e ∷ later)
     ≡ Some (kept_of free [])
-ahead_end free c e later end no_event =
-    ap (λ b. option_map (keep free c)
-    (cond b (Some (e ∷ [])) (option_map (λ rest. e ∷ rest) (up_to_end c later)))) end
-    ∙ ap (λ b. Some (kept_of free (cond b (e ∷ []) []))) no_event
+ahead_end free c e later end no_event = grind (arith, free, no_event)
 
 -- one of the caller's events
 ahead_act : (free : ℕ → Bool) (c : ℕ) (e : Stamped) (later : List Stamped)
@@ -65,31 +51,7 @@ ahead_act : (free : ℕ → Bool) (c : ℕ) (e : Stamped) (later : List Stamped)
     → ahead_of free c (e ∷ later)
     ≡ option_map (with_line (line_of e) (is_left_mover free e) (is_right_mover free e))
     (ahead_of free c later)
-ahead_act free c e later no_end event =
-    ap (λ b. option_map (keep free c)
-    (cond b (Some (e ∷ [])) (option_map (λ rest. e ∷ rest) (up_to_end c later)))) no_end
-    ∙ go (up_to_end c later)
-  where
-    line : (b : Bool) (o : Option ℕ) → option_or (cond b None (Some (line_of e))) o
-        ≡ cond b o (Some (line_of e))
-    line true o = refl
-    line false o = refl
-
-    more : (rest : List Stamped) → keep free c (e ∷ rest) ≡ with_line (line_of e)
-        (is_left_mover free e) (is_right_mover free e) (keep free c rest)
-    more rest =
-        ap (λ b. kept_of free (cond b (e ∷ events_of c rest) (events_of c rest))) event
-        ∙ λ i. record {
-          not_left = line (is_left_mover free e) (first_not_left free (events_of c rest)) i;
-          uncut = cond (is_right_mover free e) (break_line free (events_of c rest))
-              (first_not_left free (events_of c rest));
-        }
-
-    go : (o : Option (List Stamped)) → option_map (keep free c) (option_map (λ rest. e ∷ rest) o)
-        ≡ option_map (with_line (line_of e) (is_left_mover free e) (is_right_mover free e))
-        (option_map (keep free c) o)
-    go None = refl
-    go (Some rest) = ap Some (more rest)
+ahead_act free c e later no_end event = grind (arith, free, no_end)
 
 -- what other callers have ahead stays, and what the event's caller has ahead is the new
 ahead_set : (free : ℕ → Bool) (e : Stamped) (later : List Stamped) (ahead : List (Option Ahead))
@@ -112,11 +74,7 @@ ahead_set free e later ahead new old is c low = go (e.caller == c) refl
         let low_e : e.caller < length ahead = omega (arith, within) in
         subst (λ n. get_or (set ahead e.caller new) n None ≡ ahead_of free n (e ∷ later)) at
         (get_or-set_same ahead e.caller new None low_e ∙ is)
-    go false h =
-        let ne : c ≢ e.caller = λ same. apart_of e.caller c h (sym same) in
-        get_or-set_other ahead e.caller c new None ne ∙ old c within
-        ∙ sym (ahead_skip free c e later (ap (λ b. b && is_block_end e.did) h)
-        (ap (λ b. b && not (is_mark e.did)) h))
+    go false h = search (apart_of, get_or-set_other, within, ahead_skip, free, is_mark, arith)
 
 -- one more event that opens no block
 acted : (free : ℕ → Bool) (e : Stamped) (later : List Stamped) (s : Surveyed) (new : Option Ahead)
@@ -126,46 +84,13 @@ acted : (free : ℕ → Bool) (e : Stamped) (later : List Stamped) (s : Surveyed
     → e.caller < length s.ahead
     → HasSurveyed free (e ∷ later) (with_ahead s e.caller new)
 acted free e later s new no_open is new_is low =
-    record {
-      ahead = ahead_set free e later s.ahead new is.ahead (new_is low);
-      blocks = λ earlier. is.blocks (e ∷ earlier)
-          ∙ sym (ap (λ o. length
-          (cons_option o (filter_map block_at (places_after (e ∷ earlier) later))))
-          (no_block earlier));
-      few = omega (arith, is.few);
-      broken = λ earlier. is.broken (e ∷ earlier)
-          ∙ sym (ap (λ o. option_or (option_and_then (broken_lines free e) o)
-          (first_answer (broken_at free) (places_after (e ∷ earlier) later))) (no_block earlier));
-    }
-  where
-    no_block : (earlier : List Stamped)
-        → block_at (record { earlier = earlier; here = e; later = later }) ≡ None
-    no_block earlier =
-        ap (λ b. cond b (option_map (events_of e.caller) (up_to_end e.caller later)) None) no_open
+    grind (arith, ahead_set free e later s.ahead new is.ahead (new_is low), is.few)
 
 -- one more mark that opens and ends no block
 marked : (free : ℕ → Bool) (e : Stamped) (later : List Stamped) (s : Surveyed) → is_block_open e.did
     ≡ false → is_block_end e.did ≡ false
     → is_mark e.did ≡ true → HasSurveyed free later s → HasSurveyed free (e ∷ later) s
-marked free e later s no_open no_end mark is =
-    record {
-      ahead = λ c low. is.ahead c low ∙ sym (ahead_skip free c e later
-          (ap (λ b. (e.caller == c) && b) no_end ∙ and-false (e.caller == c))
-          (ap (λ b. (e.caller == c) && not b) mark ∙ and-false (e.caller == c)));
-      blocks = λ earlier. is.blocks (e ∷ earlier)
-          ∙ sym (ap (λ o. length
-          (cons_option o (filter_map block_at (places_after (e ∷ earlier) later))))
-          (no_block earlier));
-      few = omega (arith, is.few);
-      broken = λ earlier. is.broken (e ∷ earlier)
-          ∙ sym (ap (λ o. option_or (option_and_then (broken_lines free e) o)
-          (first_answer (broken_at free) (places_after (e ∷ earlier) later))) (no_block earlier));
-    }
-  where
-    no_block : (earlier : List Stamped)
-        → block_at (record { earlier = earlier; here = e; later = later }) ≡ None
-    no_block earlier =
-        ap (λ b. cond b (option_map (events_of e.caller) (up_to_end e.caller later)) None) no_open
+marked free e later s no_open no_end mark is = grind (arith, is.few)
 
 -- what an opened block adds
 count_opened : (free : ℕ → Bool) (e : Stamped) (s : Surveyed) (a : Option Ahead)
@@ -173,23 +98,15 @@ count_opened : (free : ℕ → Bool) (e : Stamped) (s : Surveyed) (a : Option Ah
     → a ≡ option_map (keep free e.caller) o → s.blocks ≡ length rest
     → (opened_before s (line_of e) a).blocks
     ≡ length (cons_option (option_map (events_of e.caller) o) rest)
-count_opened free e s a None rest h count = ap (λ a. (opened_before s (line_of e) a).blocks) h
-    ∙ count
-count_opened free e s a (Some es) rest h count =
-    let more : s.blocks + 1 ≡ suc (length rest) = omega arith in
-    ap (λ a. (opened_before s (line_of e) a).blocks) h ∙ more
+count_opened free e s a None rest h count = cc
+count_opened free e s a (Some es) rest h count = grind arith
 
 broken_opened : (free : ℕ → Bool) (e : Stamped) (s : Surveyed) (a : Option Ahead)
     (o : Option (List Stamped)) (rest : Option (ℕ × ℕ))
     → a ≡ option_map (keep free e.caller) o → s.broken ≡ rest
     → (opened_before s (line_of e) a).broken
     ≡ option_or (option_and_then (broken_lines free e) (option_map (events_of e.caller) o)) rest
-broken_opened free e s a None rest h same = ap (λ a. (opened_before s (line_of e) a).broken) h
-    ∙ same
-broken_opened free e s a (Some es) rest h same =
-    ap (λ a. (opened_before s (line_of e) a).broken) h
-    ∙ ap (option_or (option_map (lines_from e) (break_line free (events_of e.caller es)))) same
-    ∙ ap (λ o. option_or o rest) (sym (broken_lines_is free e (events_of e.caller es)))
+broken_opened free e s a o rest h same = grind (arith, free, broken_lines_is)
 
 few_opened : (line : ℕ) (s : Surveyed) (a : Option Ahead) (n : ℕ) → s.blocks ≤ n
     → (opened_before s line a).blocks ≤ suc n
@@ -210,21 +127,18 @@ opened free e later s open_mark no_end mark is low =
       ahead = λ c low_c. ap (λ xs. get_or xs c None)
           (same_ahead (line_of e) s (ahead_at s e.caller))
           ∙ is.ahead c
-          (subst (λ xs. c < length xs) (same_ahead (line_of e) s (ahead_at s e.caller)) low_c)
+          (rw (← same_ahead (line_of e) s (ahead_at s e.caller)) low_c)
           ∙ sym (ahead_skip free c e later
-          (ap (λ b. (e.caller == c) && b) no_end ∙ and-false (e.caller == c))
-          (ap (λ b. (e.caller == c) && not b) mark ∙ and-false (e.caller == c)));
+          (cc (and-false (e.caller == c)))
+          (cc (and-false (e.caller == c))));
       blocks = λ earlier. count_opened free e s (ahead_at s e.caller) (up_to_end e.caller later)
           (filter_map block_at (places_after (e ∷ earlier) later)) known (is.blocks (e ∷ earlier))
-          ∙ sym (ap (λ o. length
-          (cons_option o (filter_map block_at (places_after (e ∷ earlier) later))))
-          (block earlier));
+          ∙ sym (cc (block earlier));
       few = few_opened (line_of e) s (ahead_at s e.caller) (length later) is.few;
       broken = λ earlier. broken_opened free e s (ahead_at s e.caller) (up_to_end e.caller later)
           (first_answer (broken_at free) (places_after (e ∷ earlier) later)) known
           (is.broken (e ∷ earlier))
-          ∙ sym (ap (λ o. option_or (option_and_then (broken_lines free e) o)
-          (first_answer (broken_at free) (places_after (e ∷ earlier) later))) (block earlier));
+          ∙ sym (cc (block earlier));
     }
   where
     known : ahead_at s e.caller ≡ option_map (keep free e.caller) (up_to_end e.caller later)
@@ -233,8 +147,7 @@ opened free e later s open_mark no_end mark is low =
     block : (earlier : List Stamped)
         → block_at (record { earlier = earlier; here = e; later = later })
         ≡ option_map (events_of e.caller) (up_to_end e.caller later)
-    block earlier =
-        ap (λ b. cond b (option_map (events_of e.caller) (up_to_end e.caller later)) None) open_mark
+    block earlier = cc
 
 -- an event, by what it does
 abbrev stamp : ℕ → ℕ → Did → Stamped
@@ -252,10 +165,8 @@ act_by free e later s no_mark no_open no_end is low =
     acted free e later s _ no_open is
     (λ l. ap (option_map (with_line (line_of e) (is_left_mover free e) (is_right_mover free e)))
     (is.ahead e.caller l)
-    ∙ sym (ahead_act free e.caller e later (ap (λ b. (e.caller == e.caller) && b) no_end
-    ∙ and-false (e.caller == e.caller))
-    (ap (λ b. (e.caller == e.caller) && not b) no_mark
-    ∙ ap (λ b. b && true) (same_number e.caller)))) low
+    ∙ sym (ahead_act free e.caller e later (cc (and-false (e.caller == e.caller)))
+    (cc (same_number e.caller)))) low
 
 end_by : (free : ℕ → Bool) (e : Stamped) (later : List Stamped) (s : Surveyed) → is_mark e.did
     ≡ true → is_block_open e.did ≡ false
@@ -270,28 +181,17 @@ step_by : (free : ℕ → Bool) (k c : ℕ) (did : Did) (later : List Stamped) (
     → HasSurveyed free later s → c < length s.ahead
     → HasSurveyed free (stamp k c did ∷ later)
     (preceded_by free s (line_of (stamp k c did)) c (role_of did))
-step_by free k c (Read cell value) later s is low = act_by free (stamp k c (Read cell value)) later
-    s refl refl refl is low
-step_by free k c (Wrote cell value) later s is low = act_by free (stamp k c (Wrote cell value))
-    later s refl refl refl is low
-step_by free k c (Took lock) later s is low = act_by free (stamp k c (Took lock)) later s refl refl
-    refl is low
-step_by free k c (Gave lock) later s is low = act_by free (stamp k c (Gave lock)) later s refl refl
-    refl is low
-step_by free k c (Marked BlockOpen) later s is low = opened free (stamp k c (Marked BlockOpen))
-    later s refl refl refl is low
-step_by free k c (Marked BlockClose) later s is low = end_by free (stamp k c (Marked BlockClose))
-    later s refl refl refl is low
-step_by free k c (Marked BlockCommit) later s is low = end_by free (stamp k c (Marked BlockCommit))
-    later s refl refl refl is low
-step_by free k c (Marked Commit) later s is low = marked free (stamp k c (Marked Commit)) later s
-    refl refl refl is
-step_by free k c (Marked (Call m args)) later s is low = marked free
-    (stamp k c (Marked (Call m args))) later s refl refl refl is
-step_by free k c (Marked (Return r)) later s is low = marked free (stamp k c (Marked (Return r)))
-    later s refl refl refl is
-step_by free k c (Marked (Write w v)) later s is low = marked free (stamp k c (Marked (Write w v)))
-    later s refl refl refl is
+step_by free k c (Read cell value) later s is low = search (act_by, free, arith)
+step_by free k c (Wrote cell value) later s is low = search (act_by, free, arith)
+step_by free k c (Took lock) later s is low = search (act_by, free, arith)
+step_by free k c (Gave lock) later s is low = search (act_by, free, arith)
+step_by free k c (Marked BlockOpen) later s is low = search (opened, free, arith)
+step_by free k c (Marked BlockClose) later s is low = search (end_by, free, arith)
+step_by free k c (Marked BlockCommit) later s is low = search (end_by, free, arith)
+step_by free k c (Marked Commit) later s is low = search (marked, free, arith)
+step_by free k c (Marked (Call m args)) later s is low = search (marked, free, arith)
+step_by free k c (Marked (Return r)) later s is low = search (marked, free, arith)
+step_by free k c (Marked (Write w v)) later s is low = search (marked, free, arith)
 
 -- one more event before the others
 pub surveyed_before : (free : ℕ → Bool) (e : Stamped) (later : List Stamped) (s : Surveyed)
@@ -312,12 +212,7 @@ surveyed_nothing free callers = record {
 
 preceded_callers : (free : ℕ → Bool) (s : Surveyed) (line caller : ℕ) (role : Role)
     → length (preceded_by free s line caller role).ahead ≡ length s.ahead
-preceded_callers free s line caller (Accesses cell) = length-set s.ahead caller _
-preceded_callers free s line caller Takes = length-set s.ahead caller _
-preceded_callers free s line caller Gives = length-set s.ahead caller _
-preceded_callers free s line caller Opens = ap length (same_ahead line s (ahead_at s caller))
-preceded_callers free s line caller Ends = length-set s.ahead caller _
-preceded_callers free s line caller Marks = refl
+preceded_callers free s line caller role = grind (arith, free, length-set, same_ahead)
 
 -- the events from a place on are surveyed, for that many callers
 pub record IsSurvey (free : ℕ → Bool) (callers : ℕ) (later : List Stamped) (s : Surveyed) : Type 0
@@ -327,16 +222,10 @@ pub record IsSurvey (free : ℕ → Bool) (callers : ℕ) (later : List Stamped)
 
 pub survey_begins : (free : ℕ → Bool) (callers : ℕ) → IsSurvey free callers []
     (record { ahead = replicate callers None; blocks = 0; broken = None })
-survey_begins free callers = record {
-  callers_are = length-replicate callers None;
-  surveyed = surveyed_nothing free callers;
-}
+survey_begins free callers = search (free, length-replicate, surveyed_nothing, arith)
 
 pub survey_goes_on : (free : ℕ → Bool) (callers : ℕ) (e : Stamped) (later : List Stamped)
     (s : Surveyed) → IsSurvey free callers later s → e.caller < callers
     → IsSurvey free callers (e ∷ later) (preceded_by free s (line_of e) e.caller (role_of e.did))
 survey_goes_on free callers e later s is low =
-    record {
-      callers_are = preceded_callers free s (line_of e) e.caller (role_of e.did) ∙ is.callers_are;
-      surveyed = surveyed_before free e later s is.surveyed (omega (arith, is.callers_are));
-    }
+    grind (arith, free, preceded_callers, surveyed_before)

@@ -3,14 +3,13 @@ use Rattle.std.proofs.Common.{◌≡◌, ℕ, ◌+◌, ◌≤◌, ◌^◌, Bool,
 use Rattle.std.proofs.Common.{◌∷◌, ◌++◌, map, length}
 use Rattle.std.proofs.Common.{Option, Some, None, Ok, refl, ap, subst, sym, ◌∙◌, arith}
 use Rattle.std.proofs.Common.{append_assoc}
-use Rattle.std.specs.Prelude.{◌==◌, nat_lt, codes, decimal}
+use Rattle.std.specs.Prelude.{nat_lt, codes, decimal}
 use Rattle.std.specs.List.{list_all, join_with_byte, AllByRecursion}
 use Rattle.std.specs.Str.{bytes_eq}
 use Rattle.std.proofs.lemmas.List.{append-nil}
 use Rattle.std.proofs.lemmas.List.Folds.{list_all-append, list_all-map}
 use Rattle.std.proofs.lemmas.Slice.Eq.{bytes_eq-Decides}
 use Rattle.std.proofs.lemmas.List.Splits.{join_with_byte-slice_split}
-use Rattle.std.proofs.lemmas.Bool.{not-true}
 use Rattle.vyrd_base.specs.declared.header.Header.{Header}
 use Rattle.vyrd_base.specs.declared.subject.Subject.{Subject}
 use Rattle.vyrd_base.specs.declared.history.Did.{Did}
@@ -29,8 +28,7 @@ use Rattle.vyrd_base.proofs.TestLaws.{both_true, first_true, second_true, same_o
 use Rattle.vyrd_base.proofs.TestLaws.{not_below_of, isnt_below}
 use Rattle.vyrd_base.proofs.ListLaws.{all_push}
 use Rattle.vyrd_mover.specs.declared.fault.HistoryRule.{HistoryRule}
-use Rattle.vyrd_mover.specs.declared.fault.HistoryRule.TheVariants.{TooManyLines, NotLegal}
-use Rattle.vyrd_mover.specs.declared.fault.HistoryRule.TheVariants.{BlockMark}
+use Rattle.vyrd_mover.specs.declared.fault.HistoryRule.TheVariants.{TooManyLines}
 use Rattle.vyrd_mover.specs.HistoryText.{Recorded, history_header_line, did_line, event_line}
 use Rattle.vyrd_mover.specs.HistoryText.{history_lines, history_text}
 use Rattle.vyrd_mover.specs.HistoryLines.{is_event_of, is_did_of, history_header_in, event_in}
@@ -69,8 +67,7 @@ all_split test back xs ys =
 pub all_more : (test : Place Stamped → Bool) → LooksBack test → (xs : List Stamped) (e : Stamped)
     → list_all test (places xs) ≡ true
     → test (next_place xs e) ≡ true → list_all test (places (xs ++ e ∷ [])) ≡ true
-all_more test back xs e before here =
-    all_split test back xs (e ∷ []) ∙ both_true _ _ before (both_true _ _ here refl)
+all_more test back xs e before here = search (all_split, back, both_true, here, arith)
 
 -- and of each event where it holds of all
 pub all_here : (test : Place Stamped → Bool) → LooksBack test → (xs : List Stamped) (e : Stamped)
@@ -92,25 +89,12 @@ turn_test place = not (is_misplaced place)
 pub no_rule : (r : Recorded) (e : Stamped) → broken_by r e ≡ None
     → (legal_test r.header (next_place r.history e) ≡ true)
     × (turn_test (next_place r.history e) ≡ true)
-no_rule r e none = go (legal_test r.header (next_place r.history e))
-    (is_misplaced (next_place r.history e)) refl refl none
-  where
-    go : (a b : Bool) → legal_test r.header (next_place r.history e) ≡ a
-        → is_misplaced (next_place r.history e) ≡ b
-        → cond (not a) (Some NotLegal) (cond b (Some BlockMark) None) ≡ None
-        → (legal_test r.header (next_place r.history e) ≡ true)
-        × (turn_test (next_place r.history e) ≡ true)
-    go true false ea eb none = (ea, ap not eb)
-    go true true ea eb none = cc
-    go false b ea eb none = cc
+no_rule r e none = grind arith
 
 breaks_none : (r : Recorded) (e : Stamped) → legal_test r.header (next_place r.history e) ≡ true
     → turn_test (next_place r.history e) ≡ true
     → broken_by r e ≡ None
-breaks_none r e legal turn =
-    ap (λ a. cond (not a) (Some NotLegal)
-    (cond (is_misplaced (next_place r.history e)) (Some BlockMark) None)) legal
-    ∙ ap (λ b. cond b (Some BlockMark) None) (not-true (is_misplaced (next_place r.history e)) turn)
+breaks_none r e legal turn = grind arith
 
 -- what is kept of a history while it is read
 record Keeps (r : Recorded) : Type 0 where
@@ -140,10 +124,7 @@ record Sound (r : Recorded) (n : ℕ) (lines : List (List ℕ)) (v : Recorded) :
 -- nothing follows `end`
 nothing_after : (r : Recorded) (n : ℕ) (lines : List (List ℕ)) (v : Recorded) → ended r n lines
     ≡ Ok v → (lines ≡ [] ∷ []) × (r ≡ v)
-nothing_after r n [] v e = cc
-nothing_after r n ([] ∷ []) v e = (refl, let same : r ≡ v = cc in same)
-nothing_after r n ([] ∷ line ∷ lines) v e = cc
-nothing_after r n ((b ∷ bs) ∷ lines) v e = cc
+nothing_after r n lines v e = grind arith
 
 lines_sound : (r : Recorded) (n : ℕ) (lines : List (List ℕ)) (v : Recorded) → Keeps r
     → lines_read r n lines ≡ Ok v → Sound r n lines v
@@ -212,9 +193,7 @@ all_lines r = history_header_line r.header.subject r.header.size r.header.caller
     ∷ map event_line r.history ++ end_line ∷ [] ∷ []
 
 all_lines_are : (r : Recorded) → history_lines r ++ [] ∷ [] ≡ all_lines r
-all_lines_are r = ap (λ rest. history_header_line r.header.subject r.header.size r.header.callers
-    ∷ rest)
-    (append_assoc (map event_line r.history) (end_line ∷ []) ([] ∷ []))
+all_lines_are r = grind (arith, append_assoc)
 
 -- what is read: a history's text, which keeps the limits
 pub record IsHistoryText (bytes : List ℕ) (r : Recorded) : Type 0 where
@@ -300,8 +279,7 @@ did_whole subject caller (Marked kind) low is =
 
 pub event_line_whole : (subject : Subject) (e : Stamped) → is_event_of subject e ≡ true
     → lacks 10 (event_line e) ≡ true
-event_line_whole subject e is = did_whole subject e.caller e.did (first_true _ _ is)
-    (second_true (nat_lt e.caller (2 ^ 32)) _ is)
+event_line_whole subject e is = search (did_whole, first_true, second_true, arith)
 
 -- a line with a space isn't the line `end`
 isnt_end : (caller : ℕ) (did : Did) (rest : List ℕ) → did_line caller did ≡ decimal caller
@@ -315,11 +293,7 @@ isnt_end caller did rest line = by_test (bytes_eq (did_line caller did) end_line
     by_test false same = refl
 
 pub did_isnt_end : (caller : ℕ) (did : Did) → bytes_eq (did_line caller did) end_line ≡ false
-did_isnt_end caller (Read cell value) = isnt_end caller (Read cell value) _ refl
-did_isnt_end caller (Wrote cell value) = isnt_end caller (Wrote cell value) _ refl
-did_isnt_end caller (Took lock) = isnt_end caller (Took lock) _ refl
-did_isnt_end caller (Gave lock) = isnt_end caller (Gave lock) _ refl
-did_isnt_end caller (Marked kind) = entry_line_isnt_end (record { caller = caller; kind = kind })
+did_isnt_end caller did = grind (arith, isnt_end, entry_line_isnt_end)
 
 abbrev of_parts : Header → List Stamped → Recorded
 of_parts h history = record { header = h; history = history }
@@ -330,19 +304,8 @@ event_step : (h : Header) (past : List Stamped) (n : ℕ) (e : Stamped) (rest : 
     → is_event_of h.subject e ≡ true → e.number ≡ length past → broken_by (of_parts h past) e ≡ None
     → lines_read (of_parts h past) n (event_line e ∷ rest)
     ≡ lines_read (of_parts h (past ++ e ∷ [])) (n + 1) rest
-event_step h past n e [] some low is number none = cc
-event_step h past n e (next ∷ lines) some low is number none =
-    let r = of_parts h past in
-    ap (λ b. cond b (refused n TooManyLines)
-    (cond (bytes_eq (event_line e) end_line) (ended r (n + 1) (next ∷ lines))
-    (then_lines n (next ∷ lines) (line_read r (event_line e)))))
-    (isnt_below 4000000 n low)
-    ∙ ap (λ b. cond b (ended r (n + 1) (next ∷ lines))
-    (then_lines n (next ∷ lines) (line_read r (event_line e)))) (did_isnt_end e.caller e.did)
-    ∙ ap (λ o. then_lines n (next ∷ lines) (event_read r o))
-    (ap (λ k. event_in h.subject k (event_line e)) (sym number)
-    ∙ event_in-event_line h.subject e is)
-    ∙ ap (λ o. then_lines n (next ∷ lines) (unless_broken r e o)) none
+event_step h past n e rest some low is number none =
+    grind (arith, past, refused, ended, isnt_below, did_isnt_end, event_in-event_line)
 
 some_lines : (es : List Stamped) (next : List ℕ) (lines : List (List ℕ))
     → has_any (map event_line es ++ next ∷ lines) ≡ true
@@ -355,11 +318,7 @@ end_step r n low = ap (λ b. cond b (refused n TooManyLines) (Ok r)) (isnt_below
 
 legal_number : (h : Header) (past : List Stamped) (e : Stamped) → legal_test h (next_place past e)
     ≡ true → e.number ≡ length past
-legal_number h past e legal =
-    same_of e.number (length (newest_first past))
-    (first_true _ _
-    (first_true (e.number == length (newest_first past) && nat_lt e.caller h.callers) _ legal))
-    ∙ length-newest_first past
+legal_number h past e legal = grind (arith, past, same_of, first_true, length-newest_first)
 
 -- the lines of events, and `end`
 events_read : (h : Header) (past todo : List Stamped) (n : ℕ)
@@ -369,8 +328,7 @@ events_read : (h : Header) (past todo : List Stamped) (n : ℕ)
     → lines_read (of_parts h past) n (map event_line todo ++ end_line ∷ [] ∷ [])
     ≡ Ok (of_parts h (past ++ todo))
 events_read h past [] n all legal turn few =
-    end_step (of_parts h past) n (omega arith) ∙ ap (λ es. Ok (of_parts h es))
-    (sym (append-nil past))
+    cc (end_step (of_parts h past) n (omega arith), append-nil past)
 events_read h past (e ∷ todo) n all legal turn few =
     let legal_here = all_here (legal_test h) (λ more place. refl) past e todo legal in
     let turn_here = all_here turn_test (λ more place. refl) past e todo turn in
@@ -378,8 +336,8 @@ events_read h past (e ∷ todo) n all legal turn few =
     (some_lines todo end_line ([] ∷ [])) (omega arith) all.0
     (legal_number h past e legal_here) (breaks_none (of_parts h past) e legal_here turn_here)
     ∙ events_read h (past ++ e ∷ []) todo (n + 1) all.1
-    (ap (λ es. list_all (legal_test h) (places es)) (append_assoc past (e ∷ []) todo) ∙ legal)
-    (ap (λ es. list_all turn_test (places es)) (append_assoc past (e ∷ []) todo) ∙ turn)
+    (cc (append_assoc past (e ∷ []) todo))
+    (cc (append_assoc past (e ∷ []) todo))
     (omega arith)
     ∙ ap (λ es. Ok (of_parts h es)) (append_assoc past (e ∷ []) todo)
 

@@ -1,9 +1,8 @@
 -- What tests joined by `or`, and tests of numbers in a row, tell.
-use Rattle.std.proofs.Common.{◌≡◌, ◌≢◌, ℕ, zero, suc, ◌+◌, ◌<◌, ◌≤◌, Bool, true, false, not, ◌||◌}
-use Rattle.std.proofs.Common.{◌⊎◌, inl, inr, refl, ap, ◌∙◌, arith}
+use Rattle.std.proofs.Common.{◌≡◌, ℕ, zero, suc, ◌+◌, ◌<◌, ◌≤◌, Bool, true, false, not, ◌||◌}
+use Rattle.std.proofs.Common.{◌⊎◌, inl, inr, refl, ap, arith}
 use Rattle.std.specs.List.{list_any}
 use Rattle.std.specs.Prelude.{◌==◌}
-use Rattle.std.proofs.lemmas.Bool.{or_left, or_right}
 use Rattle.vyrd_base.proofs.TestLaws.{same_of, apart_of}
 use Rattle.vyrd_base.specs.Places.{numbers_from}
 
@@ -46,10 +45,7 @@ here_or_later : (test : ℕ → Bool) (k n x : ℕ) → k ≤ x → x < k + suc 
     → (k + 1 ≤ x → x < k + 1 + n → list_any test (numbers_from (k + 1) n) ≡ true) → (b : Bool)
     → (k == x) ≡ b
     → list_any test (numbers_from k (suc n)) ≡ true
-here_or_later test k n x low high e later true same = or_left (test k) _
-    (ap test (same_of k x same) ∙ e)
-here_or_later test k n x low high e later false other =
-    let ne : k ≢ x = apart_of k x other in or_right (test k) _ (later (omega arith) (omega arith))
+here_or_later test k n x low high e later b same = grind (arith, same_of, apart_of)
 
 pub tells_any : (test : ℕ → Bool) (k n x : ℕ) → k ≤ x → x < k + n → test x ≡ true
     → list_any test (numbers_from k n) ≡ true

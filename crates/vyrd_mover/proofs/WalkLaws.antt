@@ -34,48 +34,31 @@ pub lines_step : (r : Recorded) (n : ℕ) (line more : List ℕ) → lacks 10 li
     ≡ cond (nat_lt 4000000 n) (refused n TooManyLines)
     (cond (bytes_eq line end_line) (ended r (n + 1) (cut more))
     (then_lines n (cut more) (line_read r line)))
-lines_step r n line more lack =
-    let p = parts_of more in
-    ap (lines_read r n) (split_at 10 line more lack ∙ ap (λ ps. line ∷ ps) p.2)
-    ∙ ap (λ ps. cond (nat_lt 4000000 n) (refused n TooManyLines)
-    (cond (bytes_eq line end_line) (ended r (n + 1) ps) (then_lines n ps (line_read r line))))
-    (sym p.2)
+lines_step r n line more lack = cc (split_at 10 line more lack, (parts_of more).2)
 
 -- a line too many
 pub too_many : (r : Recorded) (n : ℕ) (line more : List ℕ) → lacks 10 line ≡ true → 4000000 < n
     → lines_read r n (cut (line ++ 10 ∷ more)) ≡ refused n TooManyLines
-too_many r n line more lack high =
-    lines_step r n line more lack
-    ∙ ap (λ b. cond b (refused n TooManyLines)
-    (cond (bytes_eq line end_line) (ended r (n + 1) (cut more))
-    (then_lines n (cut more) (line_read r line)))) (is_below 4000000 n high)
+too_many r n line more lack high = cc (lines_step r n line more lack, is_below 4000000 n high)
 
 -- a line within the limit, then the others
 few_step : (r : Recorded) (n : ℕ) (line more : List ℕ) → lacks 10 line ≡ true → n ≤ 4000000
     → lines_read r n (cut (line ++ 10 ∷ more)) ≡ cond (bytes_eq line end_line)
     (ended r (n + 1) (cut more)) (then_lines n (cut more) (line_read r line))
-few_step r n line more lack low =
-    lines_step r n line more lack
-    ∙ ap (λ b. cond b (refused n TooManyLines)
-    (cond (bytes_eq line end_line) (ended r (n + 1) (cut more))
-    (then_lines n (cut more) (line_read r line)))) (isnt_below 4000000 n low)
+few_step r n line more lack low = cc (lines_step r n line more lack, isnt_below 4000000 n low)
 
 -- the line `end`, then the others
 pub end_found : (r : Recorded) (n : ℕ) (line more : List ℕ) → lacks 10 line ≡ true → n ≤ 4000000
     → line ≡ end_line
     → lines_read r n (cut (line ++ 10 ∷ more)) ≡ ended r (n + 1) (cut more)
-end_found r n line more lack low e =
-    few_step r n line more lack low
-    ∙ ap (λ b. cond b (ended r (n + 1) (cut more)) (then_lines n (cut more) (line_read r line)))
-    (ap (λ t. bytes_eq t end_line) e ∙ bytes_same end_line)
+end_found r n line more lack low e = cc (few_step r n line more lack low, bytes_same end_line)
 
 -- another line, then the others
 pub line_found : (r : Recorded) (n : ℕ) (line more : List ℕ) → lacks 10 line ≡ true → n ≤ 4000000
     → ¬ (line ≡ end_line)
     → lines_read r n (cut (line ++ 10 ∷ more)) ≡ then_lines n (cut more) (line_read r line)
-line_found r n line more lack low other = few_step r n line more lack low
-    ∙ ap (λ b. cond b (ended r (n + 1) (cut more)) (then_lines n (cut more) (line_read r line)))
-    (by_test (bytes_eq line end_line) refl)
+line_found r n line more lack low other =
+    cc (few_step r n line more lack low, by_test (bytes_eq line end_line) refl)
   where
     by_test : (b : Bool) → bytes_eq line end_line ≡ b → b ≡ false
     by_test true e = absurd (other ((bytes_eq-Decides line end_line).0 e))
@@ -85,8 +68,7 @@ line_found r n line more lack low other = few_step r n line more lack low
 pub refusal_at : (n : ℕ) (fault : HistoryFault) (read : Result Recorded HistoryRule)
     (lines : List (List ℕ)) (whole : Result Recorded Refusal)
     → whole ≡ then_lines n lines read → IsRefusedAt n fault read → IsRefusal fault whole
-refusal_at n (Refused line rule) read lines whole e is = e ∙ ap (then_lines n lines) is.1
-    ∙ ap (λ m. refused m rule) (sym is.0)
+refusal_at n (Refused line rule) read lines whole e is = cc (is.1, is.0)
 refusal_at n Memory read lines whole e is = tt
 
 -- the last bytes
@@ -117,8 +99,7 @@ pub refusal_first : (fault : HistoryFault) (line more : List ℕ) → lacks 10 l
     → IsRefusedAt 1 fault (first_read line)
     → IsRefusal fault (history_reading (line ++ 10 ∷ more))
 refusal_first (Refused n rule) line more lack is =
-    first_step line more lack ∙ ap (after_first (cut more)) is.1 ∙ ap (λ m. refused m rule)
-    (sym is.0)
+    cc (first_step line more lack, is.1, is.0)
 refusal_first Memory line more lack is = tt
 
 pub first_last : (bytes : List ℕ) → lacks 10 bytes ≡ true → history_reading bytes

@@ -22,9 +22,7 @@ insert_gives_up h memory state c x is e =
     says : (reply : ℕ) (after : Memory) → InsertDone h memory state x reply after
         → (reply ≡ 0 → free_slots_for h memory x ≡ 0) ×
         (free_slots_for h memory x ≡ 0 → reply ≡ 0)
-    says reply after (inl d) =
-        (λ none. absurd (omega (arith, none, d.0)), λ none. absurd (omega (arith, none, d.2)))
-    says reply after (inr d) = (λ none. d.2, λ none. d.0)
+    says reply after e2 = search (after, arith)
 
 pub insert_pair_gives_up : (h : Header) (memory : Memory) (state : Amounts) (c x y : ℕ) → h.subject
     ≡ Multiset → state_in h memory ≡ Some state
@@ -38,9 +36,5 @@ insert_pair_gives_up h memory state c x y is e =
     says : (reply : ℕ) (after : Memory) → PairDone h memory state x y reply after
         → (reply ≡ 0 → has_room_for_both h memory x y ≡ false) ×
         (has_room_for_both h memory x y ≡ false → reply ≡ 0)
-    says reply after (inl d) = (
-      λ none. absurd (omega (arith, none, d.0)),
-      λ full. let room = d.2 in
-          cc,
-    )
+    says reply after (inl d) = grind arith
     says reply after (inr d) = (λ none. d.2, λ full. d.0)

@@ -1,5 +1,5 @@
 -- What a step needs: what holds at a place, and the next slot that is looked at.
-use Rattle.std.proofs.Common.{◌≡◌, ◌≢◌, ℕ, suc, ◌+◌, ◌-◌, cond, Option, Some, ap, ◌∙◌, sym, subst}
+use Rattle.std.proofs.Common.{◌≡◌, ◌≢◌, ℕ, suc, ◌+◌, ◌-◌, Option, Some, subst}
 use Rattle.std.proofs.Common.{arith}
 use Rattle.vyrd_base.specs.declared.header.Header.{Header}
 use Rattle.vyrd_base.proofs.TestLaws.{isnt_same}
@@ -12,7 +12,7 @@ use Rattle.vyrd_multiset.specs.declared.place.Finding.{Finding}
 use Rattle.vyrd_multiset.specs.declared.place.Finding.TheVariants as finding
 use Rattle.vyrd_multiset.specs.declared.task.Task.{Task}
 use Rattle.vyrd_multiset.specs.Cells.{bucket_of}
-use Rattle.vyrd_multiset.specs.Procedures.{find_from, find_unlock, reserve, search_from}
+use Rattle.vyrd_multiset.specs.Procedures.{find_from, find_unlock, search_from}
 use Rattle.vyrd_multiset.specs.Rests.{finding_rest, rest_at}
 
 -- what is sound at a place is sound at the same place
@@ -27,9 +27,7 @@ one_fewer a b some e = omega arith
 pub search_next : (cursor : Cursor) (a s x : ℕ) (ended : Option ℕ → Script) → cursor.after ≢ 0
     → a ≡ cursor.after - 1 → s ≡ cursor.slot + 1
     → search_from (suc a) s x ended ≡ search_from cursor.after (cursor.slot + 1) x ended
-search_next cursor a s x ended some fewer next =
-    ap (λ n. search_from n s x ended) (one_fewer a cursor.after some fewer)
-    ∙ ap (λ n. search_from cursor.after n x ended) next
+search_next cursor a s x ended some fewer next = grind (arith, ended, fewer, one_fewer)
 
 -- where the slot isn't free, it is looked at the next one
 pub find_next : (h : Header) (variant : Variant) (value : ℕ) (found : Option ℕ → Script)
@@ -39,10 +37,4 @@ pub find_next : (h : Header) (variant : Variant) (value : ℕ) (found : Option �
     → find_from (suc a) s value (λ slot. find_unlock h variant (bucket_of h value) (found slot))
     ≡ after_answer (finding_rest h variant value found place) answer
 find_next h variant value found place cursor a s answer at taken some fewer next =
-    let on : Option ℕ → Script = λ slot. find_unlock h variant (bucket_of h value) (found slot) in
-    ap (λ n. find_from n s value on) (one_fewer a cursor.after some fewer)
-    ∙ ap (λ n. find_from cursor.after n value on) next
-    ∙ ap (λ b. cond b (reserve cursor.slot value (on (Some cursor.slot)))
-    (find_from cursor.after (cursor.slot + 1) value on))
-    (sym (isnt_same answer 0 taken))
-    ∙ ap (λ p. after_answer (finding_rest h variant value found p) answer) (sym at)
+    grind (arith, found, taken, fewer, one_fewer, isnt_same)

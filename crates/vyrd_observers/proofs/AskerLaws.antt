@@ -27,9 +27,7 @@ false_true is_false is_true = cc
 pub sum_set : {A : Type 0} (f : A → ℕ) (xs : List A) (c : ℕ) (x y : A) → slice_get xs c ≡ Some x
     → sum_by f (set xs c y) + f x ≡ sum_by f xs + f y
 sum_set f xs c x y here =
-    let is : get_or xs c x ≡ x = sym (unwrap_or-slice_get xs c x) ∙ ap (λ o. unwrap_or o x) here in
-    ap (λ z. sum_by f (set xs c y) + f z) (sym is)
-    ∙ sum_by-set f xs c y x (slice_get_within xs c x here)
+    cc (unwrap_or-slice_get xs c x, sum_by-set f xs c y x (slice_get_within xs c x here))
 
 count_set : (i c : ℕ) (watches : List (Option Watch)) (o p : Option Watch)
     → slice_get watches c ≡ Some o
@@ -48,10 +46,7 @@ zero_of is = ap (λ b. cond b 1 0) is
 pub counted_one : (i c : ℕ) (watches : List (Option Watch)) (w : Watch)
     → slice_get watches c ≡ Some (Some w) → w.trail ≡ i → 1 ≤ askers_of i watches
 counted_one i c watches w here same =
-    let out : askers_of i (set watches c None) + cond (w.trail == i) 1 0 ≡ askers_of i watches + 0
-    = count_set i c watches (Some w) None here in
-    let own : ◌≡◌ {A = ℕ} (cond (w.trail == i) 1 0) 1 = one_of (is_same w.trail i same) in
-    omega (arith, out, own)
+    grind (arith, count_set i c watches (Some w) None here, one_of (is_same w.trail i same))
 
 -- what is counted asks
 pub some_asks : (i : ℕ) (watches : List (Option Watch)) → 1 ≤ askers_of i watches
@@ -87,14 +82,7 @@ count_low i c watches here =
 
 -- dropped answers change no count
 asks_moved : (i j n : ℕ) (o : Option Watch) → asks i (moved j n o) ≡ asks i o
-asks_moved i j n None = refl
-asks_moved i j n (Some w) = by_test (w.trail == j)
-  where
-    by_test : (b : Bool)
-        → asks i (Some (cond b (record { trail = w.trail; since = w.since - n }) w))
-        ≡ asks i (Some w)
-    by_test true = refl
-    by_test false = refl
+asks_moved i j n o = grind arith
 
 askers_moved : (i j n : ℕ) (watches : List (Option Watch))
     → askers_of i (map (moved j n) watches) ≡ askers_of i watches
@@ -129,10 +117,8 @@ counted_moved trails watches i n t u here same counted =
 pub counted_without : (trails : List Asked) (watches : List (Option Watch)) (c : ℕ) (w : Watch)
     → slice_get watches c ≡ Some (Some w)
     → AreCounted trails watches → AreCountedBefore w.trail trails (set watches c None)
-counted_without trails watches c w here counted = λ i t there.
-    let out : askers_of i (set watches c None) + cond (w.trail == i) 1 0 ≡ askers_of i watches + 0
-    = count_set i c watches (Some w) None here in
-    omega (arith, out, counted i t there)
+counted_without trails watches c w here counted =
+    λ i t there. grind (arith, count_set i c watches (Some w) None here, counted i t there)
 
 -- What is left when an observer has returned, and its trail counts it no more.
 pub record HasLeft (i : ℕ) (old new : List Asked) (watches : List (Option Watch))
@@ -151,8 +137,7 @@ leaves : (trails : List Asked) (watches : List (Option Watch)) (i : ℕ) (t u : 
     → slice_get trails i ≡ Some t → u ≡ without_asker t
     → AreOn trails watches → OthersAreUsed trails watches i → AreCountedBefore i trails watches
     → HasLeft i trails (set trails i u) watches u
-leaves trails watches i t u here is on others counted =
-    subst (λ v. HasLeft i trails (set trails i v) watches v) (sym is) (by_last (t.askers == 1) refl)
+leaves trails watches i t u here is on others counted = grind (arith, by_last (t.askers == 1) refl)
   where
     within : i < length trails
     within = slice_get_within trails i t here
@@ -164,17 +149,11 @@ leaves trails watches i t u here is on others counted =
     fewer = record t { askers = t.askers - 1 }
 
     count : t.askers ≡ askers_of i watches + 1
-    count =
-        let one : ◌≡◌ {A = ℕ} (cond (i == i) 1 0) 1 = one_of (same_number i) in
-        let it : t.askers ≡ askers_of i watches + cond (i == i) 1 0 = counted i t here in
-        omega (arith, it, one)
+    count = cc (counted i t here, one_of (same_number i))
 
     rest : (j : ℕ) (v : Asked) → slice_get trails j ≡ Some v → i ≢ j
         → v.askers ≡ askers_of j watches
-    rest j v there other =
-        let it : v.askers ≡ askers_of j watches + cond (i == j) 1 0 = counted j v there in
-        let none : ◌≡◌ {A = ℕ} (cond (i == j) 1 0) 0 = zero_of (isnt_same i j other) in
-        omega (arith, it, none)
+    rest j v there other = grind (arith, counted j v there, zero_of (isnt_same i j other))
 
     by_last : (b : Bool) → (t.askers == 1) ≡ b
         → HasLeft i trails (set trails i (cond b freed fewer)) watches (cond b freed fewer)
@@ -259,11 +238,7 @@ used_left i old new watches u so empty =
 pub some_left : (i : ℕ) (old new : List Asked) (watches : List (Option Watch)) (u : Asked)
     → HasLeft i old new watches u → 0 < length u.others
     → SomeAsks i watches
-some_left i old new watches u so some = by_asked u.is_asked refl
-  where
-    by_asked : (b : Bool) → u.is_asked ≡ b → SomeAsks i watches
-    by_asked true e = so.some e
-    by_asked false e = absurd (omega (arith, ap length (so.nothing e), some))
+some_left i old new watches u so some = grind (arith, watches)
 
 -- a question is asked: nobody asks a trail that was free
 pub counted_asked : (old new : List Asked) (watches : List (Option Watch)) (i : ℕ)
@@ -335,9 +310,5 @@ free_closed reach old new stay long free = λ i u high there.
 pub free_begun : (reach far : ℕ) (old new : List Asked) (i : ℕ) (u : Asked) → AreOldExcept old new i
     → reach ≤ far → i < far → AreFreeFrom reach old
     → AreFreeFrom far (set new i u)
-free_begun reach far old new i u only more before free = λ j t high there.
-    let other : i ≡ j → ⊥ = λ same. absurd (omega (arith, before, high, same)) in
-    ⊎_elim
-    (λ was. free j t (omega (arith, more, high)) was)
-    (λ same. absurd (other (sym same)))
-    (only j t (sym (slice_get-set_other new i j u other) ∙ there))
+free_begun reach far old new i u only more before free =
+    λ j t high there. grind (arith, there, free, more, slice_get-set_other)

@@ -1,6 +1,6 @@
 -- What each caller sees of a state that comes, and of a call.
 use Rattle.std.proofs.Common.{◌≡◌, ℕ, zero, suc, ◌<◌, ◌≤◌, Bool, true, false, cond}
-use Rattle.std.proofs.Common.{◌&&◌, ◌||◌, List, [], ◌∷◌, ◌++◌, length}
+use Rattle.std.proofs.Common.{◌||◌, List, [], ◌∷◌, ◌++◌, length}
 use Rattle.std.proofs.Common.{drop, map, set, get_or, Option, Some, None, slice_get, refl, ap}
 use Rattle.std.proofs.Common.{subst, ◌∙◌, sym, arith, length-append}
 use Rattle.std.specs.Prelude.{◌==◌, option_map, unwrap_or, replicate}
@@ -19,18 +19,11 @@ use Rattle.vyrd_observers.specs.Trails.{AreOn, KeepsAsked}
 use Rattle.vyrd_observers.specs.Watching.{Seen, unwatched, has_answer, SeesAnswer, SeesState}
 use Rattle.vyrd_observers.proofs.SeeingLaws.{SeenBelow, knows_already}
 use Rattle.vyrd_base.proofs.ListLaws.{slice_get-is}
-use Rattle.vyrd_observers.proofs.TrailLaws.{false_true, seen_kept, seen_at_end}
+use Rattle.vyrd_observers.proofs.TrailLaws.{seen_kept, seen_at_end}
 
 -- what the next state makes of what an observer has seen
 or_last : (a b l : Bool) → (a || (b || (l || false))) ≡ ((l || b) || a)
-or_last true true true = refl
-or_last true true false = refl
-or_last true false true = refl
-or_last true false false = refl
-or_last false true true = refl
-or_last false true false = refl
-or_last false false true = refl
-or_last false false false = refl
+or_last a b l = grind arith
 
 sees_answer : (answer since : ℕ) (t : Asked) → since ≤ length t.others
     → SeesAnswer answer (seen_from since (Some t)) (seen_from since (Some (with_answer answer t)))
@@ -40,9 +33,7 @@ sees_answer answer since t within = by_answer (answer == t.latest) refl
         → SeesAnswer answer (seen_from since (Some t))
         (seen_from since
         (Some (cond b t (record t { latest = answer; others = t.others ++ t.latest ∷ [] }))))
-    by_answer true e = knows_already answer (seen_from since (Some t))
-        (ap (λ k. has_answer (t.latest ∷ drop since t.others) k) (same_of answer t.latest e)
-        ∙ ap (λ b. b || list_any (λ x. x == t.latest) (drop since t.others)) (same_number t.latest))
+    by_answer true e = search (knows_already, same_of, same_number, arith)
     by_answer false e = record {
       is_open = refl;
       method = refl;
@@ -63,10 +54,7 @@ sees_state : (affects : Method → Args → Bool) (told : Method → Args → �
     → SeesState told (seen_from since (Some t))
     (seen_from since (Some (after_state affects told t)))
 sees_state affects told since t is_asked within current =
-    subst (λ b. SeesState told (seen_from since (Some t))
-    (seen_from since (Some (cond (b && affects t.method t.args) (with_answer answer t) t))))
-    (sym is_asked)
-    (by_touched (affects t.method t.args) refl)
+    grind (arith, by_touched (affects t.method t.args) refl)
   where
     answer : ℕ
     answer = told t.method t.args
@@ -93,14 +81,7 @@ sees_state affects told since t is_asked within current =
           answers = λ is_open. sees;
           few = one_more_there (answer == t.latest);
         }
-    by_touched false e = let sees = knows_already answer (seen_from since (Some t)) (current e) in
-        record {
-          is_open = refl;
-          method = refl;
-          args = refl;
-          answers = λ is_open. sees;
-          few = omega arith;
-        }
+    by_touched false e = grind arith
 
 -- all callers see the state that all trails have the answer of
 pub callers_see : (affects : Method → Args → Bool) (told : Method → Args → ℕ) (trails : List Asked)
@@ -125,24 +106,22 @@ callers_see affects told trails watches on current = record {
     now = map (after_state affects told) trails
 
     closed : SeesState told unwatched unwatched
-    closed = record {
-      is_open = refl;
-      method = refl;
-      args = refl;
-      answers = λ is_open. absurd (false_true refl is_open);
-      few = omega arith;
-    }
+    closed = grind arith
 
     by_place : (k : ℕ) (seen : Seen) (o : Option (Option Watch)) → slice_get watches k ≡ o
         → option_map (seen_by trails) o ≡ Some seen
         → (next : Seen) × (slice_get (map (seen_by now) watches) k ≡ Some next)
         × SeesState told seen next
     by_place k seen None place is = absurd (none-some _ is)
-    by_place k seen (Some None) place is = (
-      unwatched,
-      slice_get-map (seen_by now) watches k ∙ ap (option_map (seen_by now)) place,
-      subst (λ s. SeesState told s unwatched) (same_Some _ _ is) closed,
-    )
+    by_place k seen (Some None) place is =
+        grind (
+          arith,
+          slice_get-map (seen_by now) watches k,
+          same_Some _ _ is,
+          watches,
+          told,
+          closed,
+        )
     by_place k seen (Some (Some w)) place is =
         let was = on k w place in
         let there : slice_get now w.trail ≡ Some (after_state affects told was.asked) =
@@ -172,16 +151,13 @@ pub watch_read : (trails : List Asked) (watches : List (Option Watch)) (seen : L
     (o p : Option Watch) → map (seen_by trails) watches ≡ seen
     → c < length seen → o ≡ get_or watches c o → o ≡ p → slice_get watches c ≡ Some p
 watch_read trails watches seen c o p is low read same =
-    let within : c < length watches =
-    omega (arith, low, ap length is, length-map watches (seen_by trails)) in
-    slice_get-is watches c o within read ∙ ap Some same
+    grind (arith, watches, read, slice_get-is, length-map)
 
 -- what a caller has seen
 pub seen_there : (trails : List Asked) (watches : List (Option Watch)) (c : ℕ) (o : Option Watch)
     → slice_get watches c ≡ Some o
     → slice_get (map (seen_by trails) watches) c ≡ Some (seen_by trails o)
-seen_there trails watches c o here = slice_get-map (seen_by trails) watches c
-    ∙ ap (option_map (seen_by trails)) here
+seen_there trails watches c o here = cc (slice_get-map (seen_by trails) watches c)
 
 -- an observer begins, on a trail whose latest answer is this
 pub begins_seen : (old new : List Asked) (watches : List (Option Watch)) (c i since : ℕ) (t : Asked)

@@ -1,9 +1,9 @@
 -- What is kept and what observers have seen, as the steps are paid by it.
-use Rattle.std.proofs.Common.{◌≡◌, ℕ, zero, suc, ◌+◌, ◌*◌, ◌<◌, ◌≤◌, Bool, true, false, cond, List}
-use Rattle.std.proofs.Common.{[], ◌∷◌, ◌++◌, length, drop, map, set, get_or, Option, Some, None}
-use Rattle.std.proofs.Common.{slice_get, refl, ap, ◌∙◌, arith, length-drop, length-append}
-use Rattle.std.specs.Prelude.{◌==◌, ◌&&◌, replicate}
-use Rattle.std.proofs.lemmas.List.Sums.{sum_by-cons, sum_by-append}
+use Rattle.std.proofs.Common.{◌≡◌, ℕ, zero, suc, ◌+◌, ◌*◌, ◌<◌, ◌≤◌, Bool, List}
+use Rattle.std.proofs.Common.{[], ◌∷◌, length, drop, map, set, get_or, Option, Some, None}
+use Rattle.std.proofs.Common.{slice_get, refl, ap, arith, length-drop, length-append}
+use Rattle.std.specs.Prelude.{replicate}
+use Rattle.std.proofs.lemmas.List.Sums.{sum_by-cons}
 use Rattle.std.proofs.lemmas.Option.{slice_get-get_or}
 use Rattle.vyrd_base.specs.declared.header.Header.{Header}
 use Rattle.vyrd_base.specs.declared.subject.Method.{Method}
@@ -35,34 +35,12 @@ pub kept_dropped : (trails : List Asked) (i n : ℕ) (d u : Asked) → i < lengt
     → u ≡ record (get_or trails i d) { others = drop n (get_or trails i d).others }
     → n ≤ length (get_or trails i d).others
     → kept_count (set trails i u) + n ≡ kept_count trails
-kept_dropped trails i n d u within is few =
-    let t = get_or trails i d in
-    let own : kept_by u ≡ length (drop n t.others) + cond t.is_asked 1 0 = ap kept_by is in
-    omega (arith, kept_at trails i d u within, own, length-drop n t.others, few)
-
--- a trail that keeps nothing is added
-pub kept_pushed : (trails : List Asked) (t : Asked) → t.is_asked ≡ false → t.others ≡ []
-    → kept_count (trails ++ t ∷ []) ≡ kept_count trails
-kept_pushed trails t free nothing =
-    let all = sum_by-append kept_by trails (t ∷ []) in
-    let one = sum_by-cons kept_by t [] in
-    let own : kept_by t ≡ length t.others + 0 = ap (λ b. length t.others + cond b 1 0) free in
-    let none : length t.others ≡ 0 = ap length nothing in
-    omega (arith, all, one, own, none)
+kept_dropped trails i n d u within is few = grind (arith, within, few, kept_at, length-drop)
 
 -- one more answer is kept at most
 kept_more : (affects : Method → Args → Bool) (told : Method → Args → ℕ) (t : Asked)
     → kept_by (after_state affects told t) ≤ kept_by t + 1
-kept_more affects told t =
-    by_test (t.is_asked && affects t.method t.args) (told t.method t.args == t.latest)
-  where
-    longer : Asked
-    longer = record t { latest = told t.method t.args; others = t.others ++ t.latest ∷ [] }
-
-    by_test : (a b : Bool) → kept_by (cond a (cond b t longer) t) ≤ kept_by t + 1
-    by_test false b = omega arith
-    by_test true true = omega arith
-    by_test true false = omega (arith, length-append t.others (t.latest ∷ []))
+kept_more affects told t = grind (arith, told, length-append)
 
 pub kept_changed : (affects : Method → Args → Bool) (told : Method → Args → ℕ) (n : ℕ)
     (trails : List Asked)
@@ -87,23 +65,7 @@ kept_changed affects told (suc n) (t ∷ ts) =
 seen_more : (affects : Method → Args → Bool) (told : Method → Args → ℕ) (since : ℕ) (t : Asked)
     → seen_count (seen_from since (Some (after_state affects told t)))
     ≤ seen_count (seen_from since (Some t)) + 1
-seen_more affects told since t =
-    by_test (t.is_asked && affects t.method t.args) (told t.method t.args == t.latest)
-  where
-    longer : Asked
-    longer = record t { latest = told t.method t.args; others = t.others ++ t.latest ∷ [] }
-
-    by_test : (a b : Bool) → seen_count (seen_from since (Some (cond a (cond b t longer) t)))
-        ≤ seen_count (seen_from since (Some t)) + 1
-    by_test false b = omega arith
-    by_test true true = omega arith
-    by_test true false =
-        omega (
-          arith,
-          length-append t.others (t.latest ∷ []),
-          length-drop since t.others,
-          length-drop since (t.others ++ t.latest ∷ []),
-        )
+seen_more affects told since t = grind (arith, told, length-append, length-drop)
 
 seen_changed : (affects : Method → Args → Bool) (told : Method → Args → ℕ) (since n : ℕ)
     (trails : List Asked) (i : ℕ)
@@ -141,9 +103,7 @@ answers_changed affects told n trails (o ∷ os) =
 -- an observer returns, and its answers are no longer counted
 pub answers_closed : (watches : List Seen) (c : ℕ) (seen : Seen) → slice_get watches c ≡ Some seen
     → answer_count (set watches c unwatched) + length seen.answers ≡ answer_count watches
-answers_closed watches c seen here =
-    let out = sum_set seen_count watches c seen unwatched here in
-    omega (arith, out)
+answers_closed watches c seen here = grind (arith, watches, here, sum_set)
 
 -- an observer's answers give way to others
 pub answers_set : (watches : List Seen) (c : ℕ) (seen : Seen)
@@ -166,9 +126,7 @@ pub owed_closed : (h : Header) (caller : ℕ) (old new : List Asked)
     → s1 + 2 * kept_count new ≤ s0 + 2 * kept_count old + 2 * length watches + length old
     → s1 + owed_by new closed ≤ s0 + owed_by old watches + 3 * h.callers
 owed_closed h caller old new watches closed far reach s0 s1 so was paid =
-    let less = answers_set (map (seen_by old) watches) caller unwatched in
-    let same = ap answer_count so.seen in
-    omega (arith, less, same, paid, was.few, was.callers)
+    grind (arith, watches, closed, paid, answers_set)
 
 -- an observer returns, and all its answers are looked at
 pub owed_ended : (h : Header) (caller : ℕ) (old new : List Asked)
@@ -179,9 +137,7 @@ pub owed_ended : (h : Header) (caller : ℕ) (old new : List Asked)
     → s2 + 2 * kept_count new ≤ s1 + 2 * kept_count old + 2 * length watches + length old
     → s2 + owed_by new closed ≤ s0 + owed_by old watches + 3 * h.callers
 owed_ended h caller old new watches closed far reach s0 s1 s2 seen so was here looked paid =
-    let less = answers_closed (map (seen_by old) watches) caller seen here in
-    let same = ap answer_count so.seen in
-    omega (arith, less, same, looked, paid, was.few, was.callers)
+    grind (arith, watches, closed, here, looked, paid, answers_closed)
 
 -- at first nothing is owed
 none_seen : (n : ℕ) (trails : List Asked)
@@ -194,7 +150,4 @@ none_seen (suc n) trails =
 
 pub nothing_owed : (n : ℕ) (trails : List Asked) (watches : List (Option Watch)) → trails ≡ []
     → watches ≡ replicate n None → owed_by trails watches ≡ 0
-nothing_owed n trails watches nothing none =
-    let seen = ap (λ ws. answer_count (map (seen_by trails) ws)) none ∙ none_seen n trails in
-    let kept : kept_count trails ≡ 0 = ap kept_count nothing in
-    omega (arith, seen, kept)
+nothing_owed n trails watches nothing none = cc (none_seen n trails)

@@ -1,11 +1,10 @@
 -- Watches that see a state one after the other.
 use Rattle.std.proofs.Common.{◌≡◌, ℕ, zero, suc, ◌<◌, ◌≤◌, Bool, true, false, ◌||◌, List, [], ◌∷◌}
 use Rattle.std.proofs.Common.{length, Some, slice_get, refl, ap, ◌∙◌, sym, arith}
-use Rattle.std.specs.Prelude.{◌==◌}
 use Rattle.std.proofs.lemmas.Option.{slice_get_within}
 use Rattle.std.proofs.lemmas.Option.{same_Some}
-use Rattle.std.proofs.Math.Bool.{or-true, or-false}
-use Rattle.vyrd_base.proofs.TestLaws.{same_number, same_of}
+use Rattle.std.proofs.Math.Bool.{or-true}
+use Rattle.vyrd_base.proofs.TestLaws.{same_number}
 use Rattle.vyrd_observers.specs.Watching.{Seen, has_answer, SeesAnswer, SeesState}
 use Rattle.vyrd_base.specs.declared.subject.Method.{Method}
 use Rattle.vyrd_base.specs.declared.subject.Args.{Args}
@@ -48,21 +47,7 @@ seen_current told i old new past long so = λ c seen here open_now.
 -- a watch that knows the answer already needn't be told
 pub knows_already : (answer : ℕ) (seen : Seen) → has_answer seen.answers answer ≡ true
     → SeesAnswer answer seen seen
-knows_already answer seen knows = record {
-  is_open = refl;
-  method = refl;
-  args = refl;
-  answers = λ reply. by_reply reply (answer == reply) refl;
-}
-  where
-    by_reply : (reply : ℕ) (b : Bool) → (answer == reply) ≡ b → has_answer seen.answers reply
-        ≡ (has_answer seen.answers reply || answer == reply)
-    by_reply reply true e =
-        let it : has_answer seen.answers reply ≡ true = ap (has_answer seen.answers)
-        (sym (same_of answer reply e)) ∙ knows in
-        it ∙ sym (ap (λ b. b || answer == reply) it)
-    by_reply reply false e = sym (or-false (has_answer seen.answers reply))
-        ∙ ap (λ b. has_answer seen.answers reply || b) (sym e)
+knows_already answer seen knows = grind arith
 
 -- after a step that doesn't affect its answer an observer knows the answer already
 pub still_current : (before after : Method → Args → ℕ) (watches : List Seen)

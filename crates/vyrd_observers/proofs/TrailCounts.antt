@@ -31,8 +31,7 @@ pub matched : {X : Type 0} (f : X → ℕ) (g : Option Watch → ℕ) → g None
     → sum_by f xs ≤ sum_by g watches
 matched f g none k [] watches all = omega arith
 matched {X} f g none k (x ∷ xs) watches all =
-    subst (λ n. n ≤ sum_by g watches) (sym (sum_by-cons f x xs))
-    (by_size (f x) refl (matched f g none (suc k) xs))
+    grind (arith, sum_by-cons f x xs, by_size (f x) refl (matched f g none (suc k) xs))
   where
     by_size : (n : ℕ) → f x ≡ n
         → ((others : List (Option Watch)) → ((i : ℕ) (y : X) → slice_get xs i ≡ Some y → 1 ≤ f y
@@ -83,8 +82,7 @@ sum_doubled f (x ∷ xs) =
 seen_on : (trails : List Asked) (w : Watch) (t : Asked) (i : ℕ) → slice_get trails i ≡ Some t
     → w.trail ≡ i
     → seen_by trails (Some w) ≡ seen_from w.since (Some t)
-seen_on trails w t i there same = ap (λ k. seen_from w.since (slice_get trails k)) same
-    ∙ ap (seen_from w.since) there
+seen_on trails w t i there same = cc
 
 -- no more trails are asked than there are open observers
 pub asked_few : (trails : List Asked) (watches : List (Option Watch)) → AreUsed trails watches
@@ -106,12 +104,10 @@ asked_few trails watches used =
     (sym (sum_mapped (λ (s : Seen). cond s.is_open 1 0) (seen_by trails) watches)) few
   where
     is_asked : (b : Bool) → 1 ≤ cond b 1 0 → b ≡ true
-    is_asked true some = refl
-    is_asked false some = absurd (omega (arith, some))
+    is_asked b some = search arith
 
     small : (b : Bool) (n : ℕ) → n ≡ 1 → cond b 1 0 ≤ n
-    small true n is = omega (arith, is)
-    small false n is = omega arith
+    small b n is = search arith
 
 -- and they keep at most twice what these have
 pub kept_few : (trails : List Asked) (watches : List (Option Watch)) → AreUsed trails watches
@@ -140,9 +136,7 @@ kept_few trails watches used =
         omega (arith, own, kept, length-drop one.1.since t.others, one.4) in
         let there_now : one.1.trail ≡ 0 + i = omega (arith, one.3) in
         (one.0, one.1, one.2, there_now, low)
-    by_asked i t there false is some =
-        let kept : kept_by t ≡ length t.others + 0 = ap (λ b. length t.others + cond b 1 0) is in
-        absurd (omega (arith, kept, some, ap length ((used i t there).nothing is)))
+    by_asked i t there false is some = grind (arith, (used i t there).nothing is)
 
 -- all in order
 pub keeps_few : (h : Header) (reach : ℕ) (trails : List Asked) (watches : List (Option Watch))
@@ -154,11 +148,7 @@ pub keeps_few : (h : Header) (reach : ℕ) (trails : List Asked) (watches : List
       asked = asked_count trails;
       kept = kept_count trails;
     })
-keeps_few h reach trails watches so = record {
-  few = omega (arith, so.few, so.callers);
-  asked = asked_few trails watches so.used;
-  kept = kept_few trails watches so.used;
-}
+keeps_few h reach trails watches e4 = search (watches, asked_few, kept_few, arith)
 
 pub order_closed : (h : Header) (caller : ℕ) (old new : List Asked)
     → (watches closed : List (Option Watch)) (far reach : ℕ)
@@ -176,9 +166,7 @@ order_closed h caller old new watches closed far reach so was = record {
 }
   where
     long : length closed ≡ length watches
-    long = sym (length-map closed (seen_by new)) ∙ ap length so.seen
-        ∙ length-set (map (seen_by old) watches) caller unwatched
-        ∙ length-map watches (seen_by old)
+    long = search (length-map, closed, length-set, watches, arith)
 
 -- some trail is free, or all are asked
 pub free_or_full : (trails : List Asked)
@@ -205,11 +193,7 @@ free_or_full (t ∷ ts) = by_asked t.is_asked refl (free_or_full ts)
 pub one_more_open : (watches : List Seen) (c : ℕ) (seen : Seen) → slice_get watches c
     ≡ Some unwatched → seen.is_open ≡ true
     → open_count (set watches c seen) ≡ open_count watches + 1
-one_more_open watches c seen closed is_open =
-    let out : open_count (set watches c seen) + 0 ≡ open_count watches + cond seen.is_open 1 0
-    = sum_set (λ (s : Seen). cond s.is_open 1 0) watches c unwatched seen closed in
-    let one : ◌≡◌ {A = ℕ} (cond seen.is_open 1 0) 1 = ap (λ b. cond b 1 0) is_open in
-    omega (arith, out, one)
+one_more_open watches c seen closed is_open = grind (arith, watches, closed, is_open, sum_set)
 
 -- If one more trail is made only where all are asked, there are no more than before, or no more
 -- than open observers.

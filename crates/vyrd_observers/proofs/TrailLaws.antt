@@ -17,7 +17,7 @@ use Rattle.vyrd_base.proofs.BlockLaws.{by_same}
 use Rattle.vyrd_base.proofs.TestLaws.{same_number, same_of, apart_of, isnt_same}
 use Rattle.vyrd_observers.specs.declared.watch.Watch.{Watch}
 use Rattle.vyrd_base.specs.Entries.{has_method}
-use Rattle.vyrd_observers.specs.Trails.{Asked, with_answer, after_state, seen_from, seen_by, IsOn}
+use Rattle.vyrd_observers.specs.Trails.{Asked, after_state, seen_from, seen_by, IsOn}
 use Rattle.vyrd_observers.specs.Trails.{AreOn, AreAsking, KeepsAsked, IsTrailOf, IsUsed, AreUsed}
 use Rattle.vyrd_observers.specs.Trails.{OthersAreUsed, AreOldExcept, StaysOrEnds, StayOrEnd, moved}
 use Rattle.vyrd_observers.specs.Order.{AreCounted, AreFreeFrom, AreInOrder}
@@ -75,8 +75,7 @@ pub changed_there : {A : Type 0} (Q : A → A → Type 0) (f : A → A) → ((x 
     → slice_get xs i ≡ Some x → (y : A) × (slice_get (changed_below f n xs) i ≡ Some y) × Q x y
 changed_there Q f stays steps zero xs i x is = (x, is, stays x)
 changed_there Q f stays steps (suc n) [] i x is = absurd (none-some _ is)
-changed_there Q f stays steps (suc n) (z ∷ xs) zero x is =
-    (f x, ap (λ o. option_map f o) is, steps x)
+changed_there Q f stays steps (suc n) (z ∷ xs) zero x is = grind (arith, f x, steps x)
 changed_there Q f stays steps (suc n) (z ∷ xs) (suc i) x is = changed_there Q f stays steps n xs i x
     is
 
@@ -85,8 +84,7 @@ pub changed_from : {A : Type 0} (Q : A → A → Type 0) (f : A → A) → ((x :
     → slice_get (changed_below f n xs) i ≡ Some y → (x : A) × (slice_get xs i ≡ Some x) × Q x y
 changed_from Q f stays steps zero xs i y is = (y, is, stays y)
 changed_from Q f stays steps (suc n) [] i y is = absurd (none-some _ is)
-changed_from Q f stays steps (suc n) (z ∷ xs) zero y is =
-    (z, refl, subst (Q z) (same_Some _ _ is) (steps z))
+changed_from Q f stays steps (suc n) (z ∷ xs) zero y is = grind (arith, same_Some _ _ is, steps z)
 changed_from Q f stays steps (suc n) (z ∷ xs) (suc i) y is = changed_from Q f stays steps n xs i y
     is
 
@@ -161,9 +159,7 @@ on_set trails watches c o within own on = λ d w here. by_same c d
 -- what an observer has seen that begins now
 pub seen_at_end : (t : Asked) → seen_from (length t.others) (Some t)
     ≡ record { is_open = true; method = t.method; args = t.args; answers = t.latest ∷ [] }
-seen_at_end t =
-    ap (λ xs. record { is_open = true; method = t.method; args = t.args; answers = t.latest ∷ xs })
-    (drop-length t.others)
+seen_at_end t = cc (drop-length t.others)
 
 -- the same question, which as many ask, and which has as many answers or more
 pub record SameQuestion (t new : Asked) : Type 0 where
@@ -174,41 +170,15 @@ pub record SameQuestion (t new : Asked) : Type 0 where
   pub grown : length t.others ≤ length new.others
 
 question_stays : (t : Asked) → SameQuestion t t
-question_stays t = record {
-  is_asked = refl;
-  askers = refl;
-  method = refl;
-  args = refl;
-  grown = omega arith;
-}
+question_stays t = grind arith
 
 length-pushed : {A : Type 0} (xs : List A) (y : A) → length (xs ++ y ∷ []) ≡ length xs + 1
 length-pushed [] y = refl
-length-pushed (x ∷ xs) y = let rest : length (xs ++ y ∷ []) ≡ length xs + 1 = length-pushed xs y in
-    omega (arith, rest)
+length-pushed (x ∷ xs) y = grind (arith, length-pushed xs y)
 
 question_after : (affects : Method → Args → Bool) (told : Method → Args → ℕ) (t : Asked)
     → SameQuestion t (after_state affects told t)
-question_after affects told t = by_touched (t.is_asked && affects t.method t.args)
-  where
-    answer : ℕ
-    answer = told t.method t.args
-
-    by_answer : (b : Bool)
-        → SameQuestion t
-        (cond b t (record t { latest = answer; others = t.others ++ t.latest ∷ [] }))
-    by_answer true = question_stays t
-    by_answer false = record {
-      is_asked = refl;
-      askers = refl;
-      method = refl;
-      args = refl;
-      grown = omega (arith, length-pushed t.others t.latest);
-    }
-
-    by_touched : (b : Bool) → SameQuestion t (cond b (with_answer answer t) t)
-    by_touched true = by_answer (answer == t.latest)
-    by_touched false = question_stays t
+question_after affects told t = grind (arith, told, question_stays, length-pushed)
 
 -- a trail that is asked has as many answers or more, and one that isn't has none if it had none
 record UsesAsMany (t new : Asked) : Type 0 where
@@ -218,23 +188,11 @@ record UsesAsMany (t new : Asked) : Type 0 where
   pub grown : length t.others ≤ length new.others
 
 as_many : (t : Asked) → UsesAsMany t t
-as_many t = record {
-  is_asked = refl;
-  askers = refl;
-  nothing = λ not_asked empty. empty;
-  grown = omega arith;
-}
+as_many t = grind arith
 
 as_many_after : (affects : Method → Args → Bool) (told : Method → Args → ℕ) (t : Asked)
     → UsesAsMany t (after_state affects told t)
-as_many_after affects told t = let same = question_after affects told t in record {
-  is_asked = same.is_asked;
-  askers = same.askers;
-  nothing = λ not_asked empty.
-      ap (λ b. (cond (b && affects t.method t.args) (with_answer (told t.method t.args) t)
-      t).others) (sym same.is_asked ∙ not_asked) ∙ empty;
-  grown = same.grown;
-}
+as_many_after affects told t = grind (arith, told, question_after)
 
 -- some trails have the next state's answer
 pub asking_after : (h : Header) (affects : Method → Args → Bool) (told : Method → Args → ℕ) (n : ℕ)
@@ -291,9 +249,7 @@ seen_without trails watches i t none = map_alike (seen_by (set trails i t)) (see
   where
     by_watch : (c : ℕ) (o : Option Watch) → slice_get watches c ≡ Some o
         → seen_by (set trails i t) o ≡ seen_by trails o
-    by_watch c None here = refl
-    by_watch c (Some w) here = ap (seen_from w.since)
-        (slice_get-set_other trails i w.trail t (λ same. none c w here (sym same)))
+    by_watch c o here = search (here, slice_get-set_other, arith)
 
 pub on_without : (trails : List Asked) (watches : List (Option Watch)) (i : ℕ) (t : Asked)
     → NoneOn i watches → AreOn trails watches
@@ -370,10 +326,7 @@ Uncounted i n watches = (c : ℕ) (w : Watch) → slice_get watches c ≡ Some (
 seen_shorter : (n since : ℕ) (t : Asked) → n ≤ since
     → seen_from (since - n) (Some (record t { others = drop n t.others })) ≡ seen_from since
     (Some t)
-seen_shorter n since t low =
-    let count : n + (since - n) ≡ since = omega (arith, low) in
-    ap (λ xs. record { is_open = true; method = t.method; args = t.args; answers = t.latest ∷ xs })
-    (drop-drop (since - n) n t.others ∙ ap (λ k. drop k t.others) count)
+seen_shorter n since t low = grind (arith, drop-drop (since - n) n t.others)
 
 pub seen_moved : (trails : List Asked) (watches : List (Option Watch)) (i n : ℕ) (t : Asked)
     → slice_get trails i ≡ Some t → Uncounted i n watches
@@ -390,16 +343,13 @@ seen_moved trails watches i n t here low =
         → seen_by (set trails i new)
         (Some (cond b (record { trail = w.trail; since = w.since - n }) w)) ≡ seen_by trails
         (Some w)
-    by_test w true e counts = let same : w.trail ≡ i = same_of w.trail i e in
-        ap (λ k. seen_from (w.since - n) (slice_get (set trails i new) k)) same
-        ∙ ap (seen_from (w.since - n))
-        (slice_get-set_same trails i new (slice_get_within trails i t here))
-        ∙ seen_shorter n w.since t (counts same)
-        ∙ ap (seen_from w.since) (sym here)
-        ∙ ap (λ k. seen_from w.since (slice_get trails k)) (sym same)
-    by_test w false e counts =
-        ap (seen_from w.since)
-        (slice_get-set_other trails i w.trail new (λ same. apart_of w.trail i e (sym same)))
+    by_test w true e counts =
+        cc (
+          same_of w.trail i e,
+          slice_get-set_same trails i new (slice_get_within trails i t here),
+          seen_shorter n w.since t (counts (same_of w.trail i e)),
+        )
+    by_test w false e counts = search (slice_get-set_other, apart_of, arith)
 
     by_watch : (c : ℕ) (o : Option Watch) → slice_get watches c ≡ Some o
         → seen_by (set trails i new) (moved i n o) ≡ seen_by trails o
@@ -471,21 +421,16 @@ trail_of_seen trails watches c seen before method args answer on here is_open sa
         ≡ Some seen
         → (i : ℕ) × (t : Asked) × (slice_get trails i ≡ Some t) × IsTrailOf method args answer t
     by_place None place is = absurd (none-some _ is)
-    by_place (Some None) place is = absurd
-        (false_true (sym (ap (λ (s : Seen). s.is_open) (same_Some _ _ is))) is_open)
+    by_place (Some None) place is = cc
     by_place (Some (Some w)) place is =
-        let was = on c w place in
-        let same : seen_from w.since (Some was.asked) ≡ seen = ap (seen_from w.since)
-        (sym was.there) ∙ same_Some _ _ is in (
+        grind (
+          arith,
           w.trail,
-          was.asked,
-          was.there,
-          (
-            was.is_asked,
-            ap (λ (s : Seen). s.method) same ∙ same_method,
-            ap (λ (s : Seen). s.args) same ∙ same_args,
-            first_same (ap (λ (s : Seen). s.answers) same ∙ same_answers),
-          ),
+          (on c w place).asked,
+          (on c w place).there,
+          (on c w place).is_asked,
+          same_Some _ _ is,
+          first_same,
         )
 
 -- an observer is closed, and all trails except its own are used by others
@@ -520,8 +465,7 @@ used_except old new watches i only others own = λ j t there. by_same j i
 
 pub others_set : (trails : List Asked) (watches : List (Option Watch)) (i : ℕ) (t : Asked)
     → OthersAreUsed trails watches i → OthersAreUsed (set trails i t) watches i
-others_set trails watches i t others = λ j u there other.
-    others j u (sym (slice_get-set_other trails i j t (λ same. other (sym same))) ∙ there) other
+others_set trails watches i t others = λ j u there other. grind (arith, there, slice_get-set_other)
 
 pub old_except_set : (trails : List Asked) (i : ℕ) (t : Asked)
     → AreOldExcept trails (set trails i t) i
@@ -532,18 +476,7 @@ old_except_set trails i t = λ j u there. by_same j i
 
 pub old_except_then : (old trails : List Asked) (i : ℕ) → AreOldExcept old trails i → (t : Asked)
     → AreOldExcept old (set trails i t) i
-old_except_then old trails i only t = λ j u there. ⊎_elim (λ was. only j u was) (λ same. inr same)
-    (old_except_set trails i t j u there)
-
-pub used_freed : (trails : List Asked) (watches : List (Option Watch)) (i : ℕ) (t : Asked)
-    → i < length trails → t.is_asked ≡ false → t.others ≡ []
-    → OthersAreUsed trails watches i → AreUsed (set trails i t) watches
-used_freed trails watches i t within free nothing others =
-    used_except trails (set trails i t) watches i (old_except_set trails i t) others (λ u there.
-    let it : t ≡ u = same_Some _ _ (sym (slice_get-set_same trails i t within) ∙ there) in record {
-      nothing = λ not_asked. ap (λ v. v.others) (sym it) ∙ nothing;
-      by = λ is_asked. absurd (false_true free (ap (λ v. v.is_asked) it ∙ is_asked));
-    })
+old_except_then old trails i only t = λ j u there. grind (arith, there, old_except_set)
 
 -- a trail that an observer is on is asked
 asked_on : (trails : List Asked) (watches : List (Option Watch)) (i n c : ℕ) (t : Asked)
@@ -554,9 +487,7 @@ asked_on trails watches i n c t here on there =
     ap (λ u. u.is_asked) (same_Some _ _ (sym there ∙ was.there)) ∙ was.is_asked
 
 moved_other : (i n : ℕ) (w : Watch) → w.trail ≢ i → moved i n (Some w) ≡ Some w
-moved_other i n w other =
-    ap (λ b. Some (cond b (record { trail = w.trail; since = w.since - n }) w))
-    (isnt_same w.trail i other)
+moved_other i n w other = grind (arith, isnt_same)
 
 pub used_moved : (old new : List Asked) (watches : List (Option Watch)) (i n c : ℕ)
     → slice_get watches c ≡ Some (Some (record { trail = i; since = n })) → AreOldExcept old new i
@@ -583,10 +514,7 @@ used_moved old new watches i n c here only on others = used_except old new (map 
     })
   where
     now : slice_get (map (moved i n) watches) c ≡ Some (Some (record { trail = i; since = n - n }))
-    now = slice_get-map (moved i n) watches c ∙ ap (option_map (moved i n)) here
-        ∙ ap (λ b. Some
-        (Some (cond b (record { trail = i; since = n - n }) (record { trail = i; since = n }))))
-        (same_number i)
+    now = cc (slice_get-map (moved i n) watches c, same_number i)
 
 pub used_still : (trails : List Asked) (watches : List (Option Watch)) (i n c : ℕ)
     → slice_get watches c ≡ Some (Some (record { trail = i; since = n }))
@@ -717,14 +645,12 @@ changed_none f (suc n) (x ∷ xs) same =
 pub unaffected_stays : (affects : Method → Args → Bool) (told : Method → Args → ℕ) (t : Asked)
     → (t.is_asked && affects t.method t.args) ≡ false
     → after_state affects told t ≡ t
-unaffected_stays affects told t none =
-    ap (λ b. cond b (with_answer (told t.method t.args) t) t) none
+unaffected_stays affects told t none = cc
 
 -- what isn't asked has no next state's answer
 pub free_stays : (affects : Method → Args → Bool) (told : Method → Args → ℕ) (t : Asked)
     → t.is_asked ≡ false → after_state affects told t ≡ t
-free_stays affects told t free =
-    unaffected_stays affects told t (ap (λ b. b && affects t.method t.args) free)
+free_stays affects told t free = cc
 
 -- a trail stays as it is, or ends
 pub stay_all : (trails : List Asked) → StayOrEnd trails trails
@@ -732,14 +658,12 @@ stay_all trails = λ i t there. (t, there, λ is_asked. (is_asked, refl, refl, r
 
 pub stay_then : (old now new : List Asked) → StayOrEnd old now → StayOrEnd now new
     → StayOrEnd old new
-stay_then old now new first second = λ i t there.
-    let one = first i t there in
-    let two = second i one.0 one.1 in (
-      two.0,
-      two.1,
-      λ is_asked. let later = two.2 is_asked in
-          let sooner = one.2 later.0 in
-          (sooner.0, later.1 ∙ sooner.1, later.2 ∙ sooner.2, later.3 ∙ sooner.3),
+stay_then old now new first second =
+    λ i t there. grind (
+      arith,
+      (second i (first i t there).0 (first i t there).1).0,
+      (second i
+          (first i t there).0 (first i t there).1).1,
     )
 
 pub stay_set : (trails : List Asked) (i : ℕ) (t new : Asked) → slice_get trails i ≡ Some t
@@ -764,22 +688,7 @@ pub trail_stays : (old new : List Asked) (i : ℕ) (t : Asked) (method : Method)
     → IsTrailOf method args answer t
     → (u : Asked) × (slice_get new i ≡ Some u)
     × ((u.is_asked ≡ false) ⊎ IsTrailOf method args answer u)
-trail_stays old new i t method args answer stay here is = let now = stay i t here in (
-  now.0,
-  now.1,
-  by_asked now.0 now.0.is_asked refl now.2,
-)
-  where
-    by_asked : (u : Asked) (b : Bool) → u.is_asked ≡ b → StaysOrEnds t u → (u.is_asked ≡ false)
-        ⊎ IsTrailOf method args answer u
-    by_asked u true e same = let more = same e in inr (
-      e,
-      more.1 ∙ is.1,
-      more.2 ∙ is.2,
-      more.3
-          ∙ is.3,
-    )
-    by_asked u false e same = inl e
+trail_stays old new i t method args answer stay here is = search (here, arith)
 
 pub counted_within : (trails : List Asked) (watches : List (Option Watch)) (i n c : ℕ)
     → slice_get watches c ≡ Some (Some (record { trail = i; since = n })) → AreOn trails watches

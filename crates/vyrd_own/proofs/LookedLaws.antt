@@ -1,5 +1,5 @@
 -- How many nodes are looked at for the value of an expression.
-use Rattle.std.proofs.Common.{◌≡◌, ℕ, Bool, true, false, List, [], ◌∷◌, ◌++◌, length, ap, ◌∙◌}
+use Rattle.std.proofs.Common.{◌≡◌, ℕ, Bool, true, false, List, [], ◌∷◌, ◌++◌, length, ap}
 use Rattle.std.proofs.Common.{◌+◌, ◌≤◌, arith, length-append}
 use Rattle.std.specs.Prelude.{if◌then◌else◌}
 use Rattle.vyrd_base.specs.States.{State}
@@ -14,23 +14,7 @@ one_more parts e = omega (arith, length-append parts (e ∷ []))
 
 pub of_infix : (left right : List Expr) (e : Expr) → length (left ++ right ++ e ∷ [])
     ≡ length left + length right + 1
-of_infix left right e =
-    omega (arith, length-append (left ++ right) (e ∷ []), length-append left right)
-
--- of a choice, the part that its test leads to
-pub of_second : (s : State) (values : List ℕ) (test a b : Expr) → holds (value s values test) ≡ true
-    → looked_at s values (choice test a b) ≡ looked_at s values test + looked_at s values a + 1
-of_second s values test a b is =
-    ap (λ (says : Bool). length (counted s values test
-    ++ (if says then counted s values a else counted s values b) ++ choice test a b ∷ [])) is
-    ∙ of_infix (counted s values test) (counted s values a) (choice test a b)
-
-pub of_third : (s : State) (values : List ℕ) (test a b : Expr) → holds (value s values test) ≡ false
-    → looked_at s values (choice test a b) ≡ looked_at s values test + looked_at s values b + 1
-of_third s values test a b is =
-    ap (λ (says : Bool). length (counted s values test
-    ++ (if says then counted s values a else counted s values b) ++ choice test a b ∷ [])) is
-    ∙ of_infix (counted s values test) (counted s values b) (choice test a b)
+of_infix left right e = search (length-append, left, arith)
 
 -- no more nodes are looked at than there are
 pub looked_few : (s : State) (values : List ℕ) (e : Expr) → looked_at s values e ≤ nodes_of e
@@ -66,7 +50,5 @@ looked_few s values (choice test a b) =
         → length (counted s values test
         ++ (if says then counted s values a else counted s values b) ++ choice test a b ∷ [])
         ≤ 1 + nodes_of test + nodes_of a + nodes_of b
-    by_test true t l r =
-        omega (arith, t, l, of_infix (counted s values test) (counted s values a) (choice test a b))
-    by_test false t l r =
-        omega (arith, t, r, of_infix (counted s values test) (counted s values b) (choice test a b))
+    by_test true t l r = search (of_infix, counted, values, arith)
+    by_test false t l r = search (of_infix, counted, values, arith)

@@ -1,6 +1,6 @@
 -- Laws of keys that are marked.
-use Rattle.std.proofs.Common.{◌≡◌, ℕ, Bool, true, false, cond, ◌&&◌, T, [], ◌∷◌, Some}
-use Rattle.std.proofs.Common.{refl, ap, ◌∙◌, sym, subst, arith, length}
+use Rattle.std.proofs.Common.{◌≡◌, ℕ, Bool, true, false, cond, ◌&&◌, [], ◌∷◌, Some}
+use Rattle.std.proofs.Common.{refl, ap, ◌∙◌, sym, arith}
 use Rattle.std.specs.Prelude.{◌≢◌, ◌==◌, unwrap_or, min}
 use Rattle.std.specs.Ordering.{nat_cmp, eq_by_cmp, is_lt}
 use Rattle.std.specs.FinMap.Entries.{find, is_sorted, below_all}
@@ -24,8 +24,7 @@ amount_of-marked (e ∷ s) q =
 
 -- a key that isn't marked isn't there
 pub unmarked : (s m : Amounts) (q : ℕ) → m ≡ marked s → amount_of m q ≡ 0 → amount_of s q ≡ 0
-unmarked s m q is none = let marks = ap (λ t. amount_of t q) is ∙ amount_of-marked s q in
-    omega (arith, marks, none)
+unmarked s m q is none = grind (arith, amount_of-marked s q)
 
 below-marked : (x : ℕ) (s : Amounts) → below_all nat_cmp x (marked s) ≡ below_all nat_cmp x s
 below-marked x [] = refl
@@ -33,28 +32,19 @@ below-marked x (e ∷ s) = ap (λ b. is_lt (nat_cmp x e.0) && b) (below-marked x
 
 rising-marked : (s : Amounts) → is_sorted nat_cmp (marked s) ≡ is_sorted nat_cmp s
 rising-marked [] = refl
-rising-marked (e ∷ s) =
-    ap (λ b. b && is_sorted nat_cmp (marked s)) (below-marked e.0 s)
-    ∙ ap (λ b. below_all nat_cmp e.0 s && b) (rising-marked s)
+rising-marked (e ∷ s) = cc (below-marked e.0 s, rising-marked s)
 
 some-marked : (s : Amounts) → AllSome s → AllSome (marked s)
 some-marked [] all = tt
 some-marked (e ∷ s) all = (λ none. omega (arith, none, all.0), some-marked s all.1)
 
 pub IsAmounts-marked : (s : Amounts) → IsAmounts s → IsAmounts (marked s)
-IsAmounts-marked s is = record {
-  rising = subst T (sym (rising-marked s)) is.rising;
-  some = some-marked s is.some;
-}
+IsAmounts-marked s is = grind (arith, rising-marked s, is.rising, some-marked s is.some)
 
 -- the keys are the same, as many, and with the same neighbours
 pub keys_of-marked : (s : Amounts) → keys_of (marked s) ≡ keys_of s
 keys_of-marked [] = refl
 keys_of-marked (e ∷ s) = ap (λ ks. e.0 ∷ ks) (keys_of-marked s)
-
-pub length-marked : (s : Amounts) → length (marked s) ≡ length s
-length-marked [] = refl
-length-marked (e ∷ s) = omega (arith, length-marked s)
 
 -- a key has another amount
 pub marked_with : (s : Amounts) (k a : ℕ) → IsAmounts s → with_amount (marked s) k (min a 1)

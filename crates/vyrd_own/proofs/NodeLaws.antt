@@ -97,8 +97,7 @@ take_to : (front : List Node) (i : ℕ) (other node : Node) → i < length front
     → get_or front i other ≡ node → take (suc i) front ≡ take i front ++ node ∷ []
 take_to [] i other node low is = absurd (omega arith)
 take_to (n ∷ front) zero other node low is = ap (λ x. x ∷ []) is
-take_to (n ∷ front) (suc i) other node low is =
-    ap (λ ns. n ∷ ns) (take_to front i other node (omega arith) is)
+take_to (n ∷ front) (suc i) other node low is = cc (take_to front i other node (omega arith) is)
 
 -- an earlier expression is that of its node
 pub earlier_at : (front : List Node) (i : ℕ) (other node : Node) → i < length front

@@ -45,20 +45,17 @@ greatest-keys key es found is =
 pub least_none : (key : ℕ) (es found : Amounts)
     → found ≡ filter (λ e. is_le (nat_cmp key e.0) && true) es → found ≡ []
     → most ≡ least_from key es
-least_none key es found is none =
-    sym (least-keys key es found is ∙ ap (λ f. slice_index_or (keys_of f) 0 most) none)
+least_none key es found is none = cc (least-keys key es found is)
 
 pub least_found : (key : ℕ) (es found rest : Amounts) (k a : ℕ)
     → found ≡ filter (λ e. is_le (nat_cmp key e.0) && true) es → found ≡ (k, a) ∷ rest
     → k ≡ least_from key es
-least_found key es found rest k a is some =
-    sym (least-keys key es found is ∙ ap (λ f. slice_index_or (keys_of f) 0 most) some)
+least_found key es found rest k a is some = cc (least-keys key es found is)
 
 pub greatest_none : (key : ℕ) (es found : Amounts)
     → found ≡ filter (λ e. not (is_lt (nat_cmp key e.0))) es → found ≡ []
     → most ≡ greatest_to key es
-greatest_none key es found is none =
-    sym (greatest-keys key es found is ∙ ap (λ f. slice_index_or (reverse (keys_of f)) 0 most) none)
+greatest_none key es found is none = cc (greatest-keys key es found is)
 
 last-key : (rest : Amounts) (k a : ℕ) → slice_index_or (reverse (keys_of (rest ++ (k, a) ∷ []))) 0
     most ≡ k
@@ -70,6 +67,4 @@ last-key rest k a =
 pub greatest_found : (key : ℕ) (es found rest : Amounts) (k a : ℕ)
     → found ≡ filter (λ e. not (is_lt (nat_cmp key e.0))) es → found ≡ rest ++ (k, a) ∷ []
     → k ≡ greatest_to key es
-greatest_found key es found rest k a is some =
-    sym (greatest-keys key es found is ∙ ap (λ f. slice_index_or (reverse (keys_of f)) 0 most) some
-    ∙ last-key rest k a)
+greatest_found key es found rest k a is some = grind (arith, found, greatest-keys, last-key)

@@ -1,6 +1,6 @@
 -- What counts for an expression, by what counts for its parts.
 use Rattle.std.proofs.Common.{◌≡◌, ◌≢◌, ℕ, Bool, true, false, List, [], ◌∷◌, ◌++◌, map}
-use Rattle.std.proofs.Common.{refl, ap, ◌∙◌, sym, subst, ◌⊎◌, inl, inr}
+use Rattle.std.proofs.Common.{refl, ap, ◌∙◌, sym, ◌⊎◌, inl, inr}
 use Rattle.std.specs.Prelude.{if◌then◌else◌}
 use Rattle.std.proofs.lemmas.List.{map-append, append_assoc}
 use Rattle.vyrd_base.specs.States.{State}
@@ -39,8 +39,7 @@ two_parts s values a b before middle found first second =
 -- the parts of the same expression
 pub same_parts : (s : State) (values : List ℕ) (e same : Expr) (parts : List Expr) → e ≡ same
     → counted s values same ≡ parts ++ same ∷ [] → counted s values e ≡ parts ++ e ∷ []
-same_parts s values e same parts is all =
-    subst (λ x. counted s values x ≡ parts ++ x ∷ []) (sym is) all
+same_parts s values e same parts is all = cc
 
 -- a node that is no amount
 pub reads_nothing : (s : State) (values : List ℕ) (exprs : List Expr) (node : Node)

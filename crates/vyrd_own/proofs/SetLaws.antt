@@ -1,8 +1,7 @@
 -- Pairs that set amounts, and what is added and taken back.
 use Rattle.std.proofs.Common.{◌≡◌, ℕ, Bool, true, false, cond, List, [], ◌∷◌, ◌++◌, refl, ap, ◌∙◌}
-use Rattle.std.proofs.Common.{sym, subst, arith, ◌<◌, ◌≤◌, ◌+◌, length, drop, inl, inr, zero, suc}
+use Rattle.std.proofs.Common.{sym, subst, arith, ◌<◌, ◌+◌, length, drop, inl, inr, zero, suc}
 use Rattle.std.proofs.Common.{add-one, drop-cons}
-use Rattle.std.proofs.Math.ListN.{drop_of_length-le}
 use Rattle.std.specs.Prelude.{◌≢◌, ◌==◌, ◌||◌, slice_index_or, ◌⊎◌}
 use Rattle.vyrd_base.specs.Amounts.{Amounts, IsAmounts, amount_of, with_amount}
 use Rattle.vyrd_base.proofs.AmountLaws.{amount_of-with_amount, IsAmounts-with_amount, same_amounts}
@@ -269,11 +268,6 @@ no_room_yet s pairs = λ q some away. absurd
     not_both : (b : Bool) → b ≡ true → b ≡ false → ⊥
     not_both b e f = cc
 
-pub room_for_all : (s : Amounts) (pairs : List (ℕ × ℕ)) (i : ℕ) → length pairs ≤ i
-    → HaveRoomTo s pairs i → HasKeys s pairs
-room_for_all s pairs i past room = λ q some. room q some
-    (ap (λ ps. is_set ps q) (drop_of_length-le pairs past))
-
 -- the key of a pair
 abbrev pub key_at : List (ℕ × ℕ) → ℕ → ℕ
 key_at pairs i = (slice_index_or pairs i (0, 0)).0
@@ -314,15 +308,6 @@ step_added before s t added keys pairs i x low was none some is_t is_keys = (
   where
     k : ℕ
     k = key_at pairs i
-
--- a key was named, and couldn't be added
-pub named_only : (before s t : Amounts) (added keys : List ℕ) (pairs : List (ℕ × ℕ)) (k : ℕ)
-    → AreAdded before s added pairs
-    → amount_of s k ≡ 0 → t ≡ s → keys ≡ added ++ k ∷ [] → AreAdded before t keys pairs
-named_only before s t added keys pairs k was none is_t is_keys =
-    subst (λ y. AreAdded before y keys pairs) (sym is_t)
-    (subst (λ ks. AreAdded before s ks pairs) (sym is_keys)
-    (named_too before s added pairs k was none))
 
 -- one key more is set
 pub set_step : (s t : Amounts) (pairs : List (ℕ × ℕ)) (i : ℕ) (end : Amounts) → i < length pairs

@@ -10,17 +10,16 @@ use Rattle.vyrd_base.specs.declared.log.Entry.{Entry}
 use Rattle.vyrd_base.specs.declared.log.StartWord.{StartWord}
 use Rattle.vyrd_base.specs.declared.verdict.Verdict.{Verdict}
 use Rattle.vyrd_base.specs.Reading.{has_any}
-use Rattle.vyrd_base.specs.Rules.{Charter, own, rules_by}
+use Rattle.vyrd_base.specs.Rules.{Charter, own}
 use Rattle.vyrd_base.specs.Own.Log.{OwnReading, own_reading}
 use Rattle.vyrd_base.specs.Limits.{IsLimit}
 use Rattle.vyrd_own_log.specs.Grown.{has_begun, IsGrown}
 use Rattle.vyrd_own_log.proofs.GrownLaws.{reading_grown}
-use Rattle.vyrd_words.specs.Costs.{entry_price}
-use Rattle.vyrd_judge.specs.Costs.{each_entry, callers_of, judge_debt, log_cost}
+use Rattle.vyrd_judge.specs.Costs.{callers_of, judge_debt, log_cost}
 use Rattle.vyrd_judge.specs.Following.{JudgeView}
 use Rattle.vyrd_own_spec.specs.Effects.{most_touched}
 use Rattle.vyrd_own_check.specs.LogReadings.{read_so_far}
-use Rattle.vyrd_own_check.specs.Costs.{word_price, entry_cost, starting_cost, headed_cost}
+use Rattle.vyrd_own_check.specs.Costs.{entry_cost, starting_cost, headed_cost}
 use Rattle.vyrd_own_check.specs.Costs.{reading_cost, bytes_cost, end_cost}
 use Rattle.vyrd_own_check.specs.Checking.{IsAt, IsJudging, IsReady, IsBegun}
 use Rattle.vyrd_own_check.specs.Checking.{OwnCheckerKept}
@@ -48,11 +47,7 @@ cost_unbegun h read none = by_parts read.entries read.ended none
     by_parts (x ∷ es) ended e = never (sym e)
 
 pub unbegun_free : (read : OwnReading) → has_begun read ≡ false → reading_cost read ≡ 0
-unbegun_free read none = by_header read.header
-  where
-    by_header : (o : Option Header) → option_map_or (λ h. headed_cost h read) o 0 ≡ 0
-    by_header None = refl
-    by_header (Some h) = cost_unbegun h read none
+unbegun_free read none = grind (arith, read, cost_unbegun)
 
 -- what was read after it had begun, with more entries
 cost_begun : (h : Header) (old new : OwnReading) (more : List Entry) → has_begun old ≡ true
@@ -62,15 +57,11 @@ cost_begun : (h : Header) (old new : OwnReading) (more : List Entry) → has_beg
     + (sum_by (entry_cost h new.lines) old.entries + sum_by (entry_cost h new.lines) more)
     + cond new.ended h.callers 0
 cost_begun h old new more was is lines starting entries =
-    (λ i. cost_of h new.lines new.starting (is i) (entries i) new.ended)
-    ∙ ap (λ n. starting_cost h new.lines new.starting + n + cond new.ended h.callers 0)
-    (sum_by-append (entry_cost h new.lines) old.entries more)
+    cc (sum_by-append (entry_cost h new.lines) old.entries more)
 
 at_end : (h : Header) (a b : Bool) → (a ≡ true → b ≡ true)
     → cond a h.callers 0 ≤ cond b h.callers 0
-at_end h false b stays = omega arith
-at_end h true b stays =
-    subst (λ d. h.callers ≤ cond d h.callers 0) (sym (stays refl)) (omega arith)
+at_end h a b stays = grind (arith, stays)
 
 more_of : (s a m x y was is : ℕ) → was ≡ s + a + x → is ≡ s + (a + m) + y → x ≤ y → was ≤ is
 more_of s a m x y was is before after ends = omega (arith, before, after, ends)
@@ -84,8 +75,7 @@ cost_grows old new g = by_begun (has_begun old) refl
   where
     by_header : (o : Option Header) → old.header ≡ o → has_begun old ≡ true
         → reading_cost old ≤ reading_cost new
-    by_header None has begun = none_of (reading_cost old) (reading_cost new)
-        (ap (λ o. option_map_or (λ h. headed_cost h old) o 0) has)
+    by_header None has begun = search (none_of, arith)
     by_header (Some h) has begun =
         let same = g.begun begun in
         let was : reading_cost old ≡ starting_cost h new.lines new.starting
@@ -107,9 +97,7 @@ cost_grows old new g = by_begun (has_begun old) refl
 
 pub bytes_more : (max : ℕ) (bytes more : List ℕ) → IsLimit max
     → bytes_cost max bytes ≤ bytes_cost max (bytes ++ more)
-bytes_more max bytes more limit = cost_grows (read_so_far max bytes)
-    (read_so_far max (bytes ++ more))
-    (reading_grown max false bytes more limit.low limit.high)
+bytes_more max bytes more limit = grind (arith, more, cost_grows, reading_grown)
 
 -- the header by which a charter goes
 pub header_of_charter : (o : Option Header) (lines : List (List ℕ)) (l : Charter)
@@ -122,18 +110,12 @@ following_is : (j : JudgeView) (h : Header) (lines : List (List ℕ)) (more : Li
     (done : Bool) → own h lines ≡ j.kept.charter
     → following_cost (Some j) more done
     ≡ sum_by (entry_cost h lines) more + cond done h.callers 0
-following_is j h lines more done rules =
-    λ i. sum_by (λ (e : Entry). each_entry (rules_by (sym rules i)).header.callers
-    (most_touched (sym rules i)) + entry_price word_price e.kind) more
-    + cond done (rules_by (sym rules i)).header.callers 0
+following_is j h lines more done rules = search (more, arith)
 
 -- to look for an open call at `end` is what the header says
 pub end_is : (j : JudgeView) (read : OwnReading) (log : List Entry) → IsAt j read log
     → read.ended ≡ true → callers_of j.kept ≡ end_cost read
-end_is j read log at done =
-    let h = header_of_charter read.header read.lines j.kept.charter at.charter in
-    ap (λ l. (rules_by l).header.callers) (sym h.2)
-    ∙ sym ((λ i. option_map_or (λ (k : Header). cond (done i) k.callers 0) (h.1 i) 0))
+end_is j read log at done = grind (arith, read, header_of_charter)
 
 paid_on : (d f s e m n was is : ℕ) → f ≡ m + n → was ≡ s + e + 0 → is ≡ s + (e + m) + n
     → d + f + was ≤ d + is
@@ -183,32 +165,13 @@ piece_paid None after old new more done judging g going ready begun =
     was : reading_cost old ≡ 0
     was = unbegun_free old (λ i. has_any (judging.0 i) || judging.1 i)
 
-    owed : (b : Bool) (o : Option Header) (j : JudgeView) (h : Header) → o ≡ Some h
-        → IsBegun b o new.lines new.starting None (Some j)
-        → judge_debt price_by most_touched j [] ≡ starting_cost h new.lines new.starting
-    owed false o j h has b = cc
-    owed true None j h has b = cc
-    owed true (Some k) j h has b =
-        let same : k ≡ h = cc in
-        b.3 ∙ ap (λ x. starting_cost x new.lines new.starting) same
-
     by_judge : (o : Option JudgeView) → IsReady o new old.entries more done
         → IsBegun (has_any more || new.ended) new.header new.lines new.starting None o
         → judge_owes o old.entries + following_cost o more done + reading_cost old
         ≤ judge_owes None old.entries + reading_cost new
     by_judge None r b = still (reading_cost old) (reading_cost new) was
     by_judge (Some j) r b =
-        let h = header_of_charter new.header new.lines j.kept.charter r.before.charter in
-        let is : reading_cost new ≡ starting_cost h.0 new.lines new.starting
-        + sum_by (entry_cost h.0 new.lines) more + cond done h.0.callers 0 =
-        ap (λ o. option_map_or (λ k. headed_cost k new) o 0) h.1
-        ∙ (λ i. cost_of h.0 new.lines new.starting (r.before.begun i)
-        ((r.entries ∙ ap (λ es. es ++ more) judging.0) i) (r.ended i)) in
-        paid_made (judge_debt price_by most_touched j old.entries) _ _ _ _ (reading_cost old)
-        (reading_cost new)
-        (ap (judge_debt price_by most_touched j) judging.0
-        ∙ owed (has_any more || new.ended) new.header j h.0 h.1 b)
-        (following_is j h.0 new.lines more done h.2) was is
+        search (header_of_charter, more, paid_made, has_any, following_is, arith)
 
 -- what is owed once a verdict stands, or none
 pub after_at_most : (o : Option Verdict) (k : OwnCheckerKept) (bytes : List ℕ)
@@ -239,10 +202,7 @@ pub followed_paid : (j k : JudgeView) (read : OwnReading) (log more : List Entry
     ≤ m + judge_debt price_by most_touched j log + log_cost price_by most_touched j.kept more
     → n + judge_owes (Some k) read.entries
     ≤ m + judge_owes (Some j) log + following_cost (Some j) more done
-followed_paid j k read log more done m n ready paid =
-    subst (λ es. n + judge_debt price_by most_touched k es
-    ≤ m + judge_owes (Some j) log + following_cost (Some j) more done) (sym ready.entries)
-    (more_held _ (m + judge_owes (Some j) log) _ _ paid)
+followed_paid j k read log more done m n ready paid = grind (arith, read, more, paid, more_held)
 
 asked : (last n a b c callers : ℕ) → last ≤ n + callers → n + a ≤ b + c
     → last + a ≤ b + (c + callers)
@@ -257,20 +217,13 @@ pub open_paid : (j k : JudgeView) (read : OwnReading) (log more : List Entry) (d
     → last + judge_owes (Some k) read.entries
     ≤ m + judge_owes (Some j) log + following_cost (Some j) more done
 open_paid j k read log more done m n last ready is rules one paid =
-    subst (λ es. last + judge_debt price_by most_touched k es
-    ≤ m + judge_owes (Some j) log + following_cost (Some j) more done) (sym ready.entries)
-    (subst (λ d. last + judge_debt price_by most_touched k (log ++ more)
-    ≤ m + judge_owes (Some j) log + following_cost (Some j) more d) (sym is)
-    (asked last n _ (m + judge_owes (Some j) log) _ (callers_of j.kept)
-    (subst (λ l. last ≤ n + (rules_by l).header.callers) rules one) paid))
+    grind (arith, read, more, paid, asked)
 
 -- without a judge nothing costs a step
 pub still_none : (o : Option JudgeView) (read : OwnReading) (log more : List Entry) (done : Bool)
     (n : ℕ) → o ≡ None
     → n + judge_owes o read.entries ≤ n + judge_owes o log + following_cost o more done
-still_none o read log more done n is =
-    subst (λ x. n + judge_owes x read.entries ≤ n + judge_owes x log + following_cost x more done)
-    (sym is) (omega arith)
+still_none o read log more done n is = grind (arith, read, more)
 
 grown_more : (a b c d e f : ℕ) → a + b + c ≤ d + e + f → (g : ℕ) → g ≤ b → a + g + c ≤ d + e + f
 grown_more a b c d e f paid g less = omega (arith, paid, less)
@@ -283,11 +236,7 @@ pub part_paid : (c : CheckerState) (k : OwnCheckerKept) (v : Option Verdict) (by
     ≤ m + kept_debt c.kept bytes + bytes_cost (limit_of c.kept) (bytes ++ part)
     → n + debt_after v k (bytes ++ part) + bytes_cost (limit_of c.kept) bytes
     ≤ m + checker_debt c bytes + bytes_cost (limit_of c.kept) (bytes ++ part)
-part_paid c k v bytes part m n none paid =
-    subst (λ o. n + debt_after v k (bytes ++ part) + bytes_cost (limit_of c.kept) bytes
-    ≤ m + debt_after o c.kept bytes + bytes_cost (limit_of c.kept) (bytes ++ part))
-    (sym none)
-    (grown_more n _ _ m _ _ paid _ (after_at_most v k (bytes ++ part)))
+part_paid c k v bytes part m n none paid = grind (arith, paid, grown_more, after_at_most)
 
 two_parts : (l m n a b c x y z : ℕ) → m + b + x ≤ l + a + y → n + c + y ≤ m + b + z
     → n + c + x ≤ l + a + z
@@ -306,12 +255,7 @@ pub parts_paid : (first before after : CheckerState) (bytes read part all : List
     → n + checker_debt after (bytes ++ all) + bytes_cost (limit_of first.kept) bytes
     ≤ l + checker_debt first bytes + bytes_cost (limit_of first.kept) (bytes ++ all)
 parts_paid first before after bytes read part all l m n limit parted one two =
-    subst (λ xs. n + checker_debt after xs + bytes_cost (limit_of first.kept) bytes
-    ≤ l + checker_debt first bytes + bytes_cost (limit_of first.kept) xs) parted
-    (two_parts l m n _ _ _ _ _ _ one
-    (subst (λ max. n + checker_debt after ((bytes ++ read) ++ part) + bytes_cost max (bytes ++ read)
-    ≤ m + checker_debt before (bytes ++ read) + bytes_cost max ((bytes ++ read) ++ part))
-    limit two))
+    grind (arith, after, read, parted, two_parts)
 
 settled : (l m a b c x y z : ℕ) → m + b + x ≤ l + a + y → y ≤ z → c ≡ 0 → m + c + x ≤ l + a + z
 settled l m a b c x y z paid more none = omega (arith, paid, more, none)
@@ -348,7 +292,4 @@ pub all_paid : (first now : CheckerState) (bytes read rest piece : List ℕ) (l 
     ≤ l + checker_debt first bytes + bytes_cost (limit_of first.kept) (bytes ++ read)
     → m + checker_debt now (bytes ++ piece) + bytes_cost (limit_of first.kept) bytes
     ≤ l + checker_debt first bytes + bytes_cost (limit_of first.kept) (bytes ++ piece)
-all_paid first now bytes read rest piece l m parted none paid =
-    let same : read ≡ piece = sym (parted ∙ ap (λ xs. read ++ xs) none ∙ append-nil read) in
-    subst (λ xs. m + checker_debt now (bytes ++ xs) + bytes_cost (limit_of first.kept) bytes
-    ≤ l + checker_debt first bytes + bytes_cost (limit_of first.kept) (bytes ++ xs)) same paid
+all_paid first now bytes read rest piece l m parted none paid = grind (arith, append-nil read)

@@ -1,15 +1,14 @@
 -- After `end` nothing more is read, so that only the text can be wrong.
-use Rattle.std.proofs.Common.{◌≡◌, ℕ, ◌+◌, ◌≤◌, true, false, cond, ◌||◌, List, ◌++◌, Option, Some}
+use Rattle.std.proofs.Common.{◌≡◌, ℕ, ◌+◌, ◌≤◌, true, false, ◌||◌, List, ◌++◌, Option, Some}
 use Rattle.std.proofs.Common.{None, refl, ap, subst, ◌∙◌, sym, arith}
-use Rattle.std.specs.Prelude.{option_map, option_and_then}
-use Rattle.std.specs.Option.{option_or}
+use Rattle.std.specs.Prelude.{option_map}
 use Rattle.std.proofs.lemmas.Bool.{or_right}
 use Rattle.vyrd_base.specs.declared.header.Header.{Header}
 use Rattle.vyrd_base.specs.declared.verdict.Verdict.{Verdict}
 use Rattle.vyrd_base.specs.declared.verdict.Verdict.TheVariants.{Malformed}
 use Rattle.vyrd_base.specs.Reading.{has_any}
-use Rattle.vyrd_base.specs.Rules.{own, rules_by}
-use Rattle.vyrd_base.specs.Verdicts.{verdict_so_far, end_verdict}
+use Rattle.vyrd_base.specs.Rules.{own}
+use Rattle.vyrd_base.specs.Verdicts.{verdict_so_far}
 use Rattle.vyrd_base.specs.Own.Log.{OwnReading}
 use Rattle.vyrd_base.specs.Own.LogVerdicts.{own_text_verdict_so_far}
 use Rattle.vyrd_base.specs.Limits.{IsLimit}
@@ -36,10 +35,7 @@ record IsSameLog (old new : OwnReading) : Type 0 where
 
 -- so its entries are as right as before
 same_untold : (old new : OwnReading) → IsSameLog old new → untold_in new ≡ untold_in old
-same_untold old new s = λ i. option_and_then (λ l.
-    option_or (verdict_so_far (rules_by l) (s.starting i) (s.entries i))
-    (cond (s.ended i) (end_verdict (rules_by l) (s.starting i) (s.entries i)) None))
-    (option_map (λ h. own h (s.lines i)) (s.header i))
+same_untold old new s = grind arith
 
 -- and the judge has followed them
 same_judging : (judge : Option JudgeView) (old new : OwnReading) → IsSameLog old new

@@ -7,7 +7,6 @@ use Rattle.std.proofs.Math.Logic.{∥∥₁_elim}
 use Rattle.std.proofs.Math.Bool.{Bool-set}
 use Rattle.vyrd_base.specs.declared.header.Header.{Header}
 use Rattle.vyrd_base.specs.declared.subject.Subject.{Subject}
-use Rattle.vyrd_base.specs.declared.subject.Subject.TheVariants.{Multiset, Cache, Tree, Buffers}
 use Rattle.vyrd_base.specs.declared.subject.Subject.TheVariants.{Own}
 use Rattle.vyrd_base.specs.declared.log.Entry.{Entry}
 use Rattle.vyrd_base.specs.declared.verdict.Verdict.{Verdict}
@@ -55,8 +54,7 @@ pub record Fed (old : OwnCheckerKept) (reader : ReaderState) (begun : Option Jud
 -- what grew from nothing, behind what was there
 pub grown_on : {A : Type 0} (old brought all : List A) {x y : List A} → all ≡ old ++ brought
     → IsGrownBy [] x brought y → IsGrownBy old x all y
-grown_on old brought all is grown =
-    record { more = grown.more; one = is ∙ ap (λ xs. old ++ xs) grown.one; other = grown.other }
+grown_on old brought all is grown = grind (arith, grown.more, grown.one, grown.other)
 
 -- there is room for the numbers of lines that the piece brings
 pub numbers_room : (old : OwnCheckerKept) (piece brought : List ℕ) → IsLimit (limit_of old)
@@ -84,11 +82,7 @@ numbers_room old piece brought limit grows somewhere = at_most_of _ _
         )
 
 own_of : (s : Subject) → is_built_in s ≡ false → s ≡ Own
-own_of Multiset e = cc
-own_of Cache e = cc
-own_of Tree e = cc
-own_of Buffers e = cc
-own_of Own e = refl
+own_of s e = grind arith
 
 module _ (old : OwnCheckerKept) (reader : ReaderState) (piece : List ℕ)
     (limit : IsLimit (limit_of old))
@@ -123,15 +117,12 @@ record IsReadTo (reader : ReaderState) (bytes : List ℕ) (max : ℕ) : Type 0 w
 
 read_to : (reader : ReaderState) (bytes : List ℕ) (max : ℕ) → reader.kept.lines.max_lines ≡ max
     → HasRead reader bytes → IsReadTo reader bytes max
-read_to reader bytes max limit read =
-    subst (IsReadTo reader bytes) limit
-    (record { header = read.header; lines = read.lines; start = read.start; ended = read.ended })
+read_to reader bytes max limit read = grind (arith, read.header, read.lines, read.start, read.ended)
 
 paid_then : (owes begun moves before was now n m later : ℕ) → later ≡ owes
     → begun + moves + was ≤ before + now → n + owes ≤ m + begun + moves
     → n + later + was ≤ m + before + now
-paid_then owes begun moves before was now n m later same paid taken =
-    omega (arith, same, paid, taken)
+paid_then owes begun moves before was now n m later same paid taken = grind arith
 
 module _ (old : OwnCheckerKept) (reader : ReaderState) (begun : Option JudgeView) (piece : List ℕ)
     (entries : List Entry) (numbers : List ℕ)

@@ -3,7 +3,6 @@ use Rattle.std.proofs.Common.{◌≡◌, ℕ, ◌+◌, Bool, true, false, cond, 
 use Rattle.std.proofs.Common.{length, Option, Some, None, refl, ap, ◌∙◌, sym, subst, arith}
 use Rattle.std.specs.Prelude.{unwrap_or, option_map, option_and_then}
 use Rattle.std.specs.Option.{option_or}
-use Rattle.vyrd_base.specs.declared.header.Header.{Header}
 use Rattle.vyrd_base.specs.declared.log.Entry.{Entry}
 use Rattle.vyrd_base.specs.declared.verdict.Verdict.{Verdict}
 use Rattle.vyrd_base.specs.declared.verdict.Verdict.TheVariants.{Malformed}
@@ -24,31 +23,17 @@ use Rattle.vyrd_own_check.proofs.PlaceLaws.{so_far_within, end_within}
 -- what is wrong with what was read is told by the lines of the text
 pub told_is : (read : OwnReading) → option_and_then (own_entries_verdict read) read.header
     ≡ option_map (told_in_text read.numbers) (untold_in read)
-told_is read = by_header read.header
-  where
-    by_header : (o : Option Header) → option_and_then (own_entries_verdict read) o
-        ≡ option_map (told_in_text read.numbers)
-        (option_and_then (untold_by read) (option_map (λ h. own h read.lines) o))
-    by_header None = refl
-    by_header (Some h) = refl
+told_is read = grind (arith, read)
 
 pub known_is : (read : OwnReading) → known_own_verdict read
     ≡ option_or (option_map (told_in_text read.numbers) (untold_in read))
     (option_map (λ fault. Malformed fault.line fault.rule) read.fault)
-known_is read =
-    ap (λ o. option_or o (option_map (λ fault. Malformed fault.line fault.rule) read.fault))
-    (told_is read)
+known_is read = grind (arith, read, told_is)
 
 -- a charter that is known stays
 pub charter_stays : (old new : OwnReading) (l : Charter) → IsGrown old new → has_begun old ≡ true
     → charter_in old ≡ Some l → charter_in new ≡ Some l
-charter_stays old new l g begun is = by_header old.header refl is
-  where
-    by_header : (o : Option Header) → old.header ≡ o → option_map (λ h. own h old.lines) o ≡ Some l
-        → charter_in new ≡ Some l
-    by_header None has e = cc
-    by_header (Some h) has e =
-        (λ i. option_map (λ k. own k ((g.begun begun).0 i)) (g.header h has i)) ∙ e
+charter_stays old new l g begun is = grind (arith, begun)
 
 -- something wrong was read
 module _ (old : OwnReading) (l : Charter) (w : Verdict) (wrong : untold_by old l ≡ Some w) where
@@ -128,16 +113,15 @@ known_stays max old new v formed g found = by_fault old.fault refl
             → option_map (told_in_text old.numbers) o ≡ Some v → known_own_verdict new ≡ Some v
         by_verdict None wrong f = cc
         by_verdict (Some w) wrong f =
-            let begun = some_begun old l w wrong in
-            let named = charter_stays old new l g begun is in
-            let now : untold_in new ≡ Some w = ap (option_and_then (untold_by new)) named
-            ∙ wrong_stays old l w wrong new g in
-            known_is new
-            ∙ ap (λ o. option_or (option_map (told_in_text new.numbers) o)
-            (option_map (λ fault. Malformed fault.line fault.rule) new.fault)) now
-            ∙ ap (λ ns. Some (told_in_text ns w)) g.numbers.1
-            ∙ ap Some (told_stays old.numbers g.numbers.0 w (wrong_within old l w wrong max formed))
-            ∙ f
+            cc (
+              known_is new,
+              charter_stays old new l g (some_begun old l w wrong) is,
+              wrong_stays
+                  old l w wrong new g,
+              g.numbers.1,
+              told_stays old.numbers g.numbers.0 w (wrong_within old
+                  l w wrong max formed),
+            )
 
     by_fault : (o : Option TextFault) → old.fault ≡ o → known_own_verdict new ≡ Some v
     by_fault (Some f) e = ap known_own_verdict (g.fault f e) ∙ found

@@ -15,8 +15,7 @@ pub number_last : (found place : ℕ) (runs : List Run) (i : ℕ) (d : Run) → 
     → (get_or runs i d).place ≤ place
     → number_from found runs place ≡ number_in (get_or runs i d) place
 number_last found place [] i d last low = absurd (omega (arith, last))
-number_last found place (run ∷ []) zero d last low =
-    ap (λ b. cond b (number_in run place) found) (is_at_most run.place place low)
+number_last found place (run ∷ []) zero d last low = cc (is_at_most run.place place low)
 number_last found place (run ∷ []) (suc i) d last low = absurd (omega (arith, last))
 number_last found place (run ∷ next ∷ runs) zero d last low = absurd (omega (arith, last))
 number_last found place (run ∷ next ∷ runs) (suc i) d last low =
@@ -33,17 +32,11 @@ number_push found place (x ∷ runs) run = number_push
 
 pub number_before : (place : ℕ) (runs : List Run) (run : Run) → place < run.place
     → number_from 0 (runs ++ run ∷ []) place ≡ number_from 0 runs place
-number_before place runs run low =
-    number_push 0 place runs run ∙ ap (λ b. cond b (number_in run place) (number_from 0 runs place))
-    (isnt_at_most run.place place low)
+number_before place runs run low = grind (arith, number_push, isnt_at_most)
 
 pub number_begun : (runs : List Run) (place line : ℕ)
     → number_from 0 (runs ++ record { place = place; line = line } ∷ []) place ≡ line
-number_begun runs place line =
-    number_push 0 place runs (record { place = place; line = line })
-    ∙ ap (λ b. cond b (line + (place - place)) (number_from 0 runs place))
-    (is_at_most place place (omega arith))
-    ∙ omega arith
+number_begun runs place line = grind (arith, number_push, is_at_most)
 
 -- one number more
 module _ (runs after : List Run) (count line : ℕ) (before : (place : ℕ) → place < count
@@ -69,8 +62,7 @@ module _ (runs after : List Run) (count line : ℕ) (before : (place : ℕ) → 
 -- the number at a place
 pub number_there : (runs : List Run) (count place other : ℕ) → place < count
     → number_from 0 runs place ≡ get_or (numbers_by runs count) place other
-number_there runs count place other low =
-    sym (element_below (number_from 0 runs) count place other low)
+number_there runs count place other low = search (element_below, count, arith)
 
 pub number_past : (runs : List Run) (count place other : ℕ) → count ≤ place
     → other ≡ get_or (numbers_by runs count) place other

@@ -1,12 +1,11 @@
 -- How what is kept goes on with a piece of the text.
 use Rattle.std.proofs.Common.{◌≡◌, ℕ, ◌≤◌, Bool, true, false, cond, ◌||◌, List, [], ◌∷◌, ◌++◌}
-use Rattle.std.proofs.Common.{length, Option, Some, None, refl, ap, subst, ◌∙◌, sym, arith}
+use Rattle.std.proofs.Common.{length, Option, Some, None, refl, ap, ◌∙◌, sym, arith}
 use Rattle.std.proofs.Common.{length-append, option_map}
 use Rattle.std.specs.Prelude.{option_and_then, is_none}
 use Rattle.std.specs.Bool.{then_some}
 use Rattle.std.specs.Option.{option_or}
-use Rattle.std.proofs.lemmas.Bool.{or_left, or_right}
-use Rattle.vyrd_base.specs.Rules.{Charter, own, Rules, rules_by}
+use Rattle.vyrd_base.specs.Rules.{own, Rules, rules_by}
 use Rattle.vyrd_base.specs.declared.header.Header.{Header}
 use Rattle.vyrd_base.specs.declared.log.Entry.{Entry}
 use Rattle.vyrd_base.specs.declared.log.StartWord.{StartWord}
@@ -25,7 +24,7 @@ use Rattle.vyrd_own_log.specs.Grown.{has_begun, IsGrown}
 use Rattle.vyrd_own_log.specs.Readers.{ReaderState, HasRead}
 use Rattle.vyrd_judge.specs.Following.{JudgeView, HasFollowed}
 use Rattle.vyrd_judge.proofs.OnlineLaws.{faultless_of}
-use Rattle.vyrd_own_check.specs.Checking.{charter_in, untold_by, untold_in, IsJudging, IsBefore}
+use Rattle.vyrd_own_check.specs.Checking.{untold_by, untold_in, IsJudging, IsBefore}
 use Rattle.vyrd_own_check.specs.Checking.{IsReady, HasRoom, IsMade, IsBegun, IsUndecided}
 use Rattle.vyrd_own_check.proofs.PlaceLaws.{nothing_so_far}
 use Rattle.vyrd_own_check.proofs.LastLaws.{charter_stays}
@@ -44,18 +43,7 @@ any_more (x ∷ xs) more e = refl
 -- what has begun goes on
 pub begun_on : (old new : OwnReading) → IsGrown old new → has_begun old ≡ true → has_begun new
     ≡ true
-begun_on old new g begun = by_end old.ended refl begun
-  where
-    by_end : (b : Bool) → old.ended ≡ b → (has_any old.entries || b) ≡ true → has_begun new ≡ true
-    by_end true e f = or_right (has_any new.entries) new.ended (g.ended e).0
-    by_end false e f = by_entries (has_any old.entries) refl f
-      where
-        by_entries : (a : Bool) → has_any old.entries ≡ a → (a || false) ≡ true
-            → has_begun new ≡ true
-        by_entries false is h = cc
-        by_entries true is h =
-            or_left (has_any new.entries) new.ended
-            (ap has_any g.entries.1 ∙ any_more old.entries g.entries.0 is)
+begun_on old new g begun = grind (arith, begun, has_any, any_more)
 
 -- Once an entry or `end` may have been read, the judge has followed the entries from before.
 pub judge_before : (before after : Option JudgeView) (old new : OwnReading) (more : List Entry)
@@ -64,13 +52,7 @@ pub judge_before : (before after : Option JudgeView) (old new : OwnReading) (mor
     → IsBegun (has_any more || new.ended) new.header new.lines new.starting before after
     → IsBefore after new old.entries
 judge_before (Some j) after old new more judging g headed all begun =
-    subst (λ o. IsBefore o new old.entries) (sym begun) (record {
-      charter = charter_stays old new j.kept.charter g judging.begun judging.charter;
-      followed = subst (λ ss. HasFollowed j ss old.entries) (sym (g.begun judging.begun).1)
-          judging.followed;
-      so_far = judging.so_far;
-      begun = begun_on old new g judging.begun;
-    })
+    search (begun, charter_stays, begun_on, arith)
 judge_before None after old new more judging g headed all begun =
     by_test (has_any more || new.ended) refl begun
   where
@@ -81,12 +63,7 @@ judge_before None after old new more judging g headed all begun =
         → IsMade h new.lines new.starting o → IsBefore o new old.entries
     by_made h None has now made =
         (judging.0, λ f. (own h new.lines, ap (option_map (λ k. own k new.lines)) has, made))
-    by_made h (Some j) has now made = record {
-      charter = ap (option_map (λ k. own k new.lines)) has ∙ ap Some (sym made.0);
-      followed = subst (HasFollowed j new.starting) (sym judging.0) made.1;
-      so_far = made.2;
-      begun = now;
-    }
+    by_made h (Some j) has now made = grind (arith, made.0, judging.0, made.1, made.2)
 
     by_header : (o : Option Header) → new.header ≡ o → has_begun new ≡ true
         → IsBegun true o new.lines new.starting None after → IsBefore after new old.entries
@@ -98,11 +75,7 @@ judge_before None after old new more judging g headed all begun =
 
     by_test : (b : Bool) → (has_any more || new.ended) ≡ b
         → IsBegun b new.header new.lines new.starting None after → IsBefore after new old.entries
-    by_test false e b = subst (λ o. IsBefore o new old.entries) (sym b)
-        (judging.0, λ f. absurd (never (sym (same ∙ e) ∙ f)))
-      where
-        never : false ≡ true → ⊥
-        never x = cc
+    by_test false e b = grind (arith, judging.0)
     by_test true e b = by_header new.header refl (same ∙ e) b
 
 -- there is room for the entries of a log that keeps the limit of lines
@@ -120,23 +93,15 @@ pub wrong_by : (j : JudgeView) (read : OwnReading) (log more : List Entry) (done
     → untold_in read
     ≡ option_or (verdict_so_far (rules_by j.kept.charter) read.starting (log ++ more))
     (cond done (end_verdict (rules_by j.kept.charter) read.starting (log ++ more)) None)
-wrong_by j read log more done ready =
-    ap (option_and_then (untold_by read)) ready.before.charter
-    ∙ (λ i. option_or (verdict_so_far (rules_by j.kept.charter) read.starting (ready.entries i))
-    (cond (ready.ended i) (end_verdict (rules_by j.kept.charter) read.starting (ready.entries i))
-    None))
+wrong_by j read log more done ready = grind (arith, read, more)
 
 -- a judge that has followed the last entries, with no verdict
 pub judging_on : (old new : JudgeView) (read : OwnReading) (log more : List Entry) (done : Bool)
     → IsReady (Some old) read log more done
     → new.kept.charter ≡ old.kept.charter → HasFollowed new read.starting (log ++ more)
     → new.so_far ≡ None → IsJudging (Some new) read
-judging_on old new read log more done ready same followed none = record {
-  charter = ready.before.charter ∙ ap Some (sym same);
-  followed = subst (HasFollowed new read.starting) (sym ready.entries) followed;
-  so_far = none;
-  begun = ready.before.begun;
-}
+judging_on old new read log more done ready same followed none =
+    grind (arith, ready.before.charter, ready.entries, ready.before.begun)
 
 -- If the starting words stand for no state, that is what is wrong once an entry or `end` was read.
 start_wrong : (r : Rules) (starting : List StartWord) (entries : List Entry) (done : Bool)
@@ -168,23 +133,11 @@ unread (x ∷ entries) done e = cc
 only_last : (read : OwnReading) (log more : List Entry) (done : Bool)
     → IsReady None read log more done
     → has_begun read ≡ (has_any more || done)
-only_last read log more done ready =
-    λ i. has_any ((ready.entries ∙ ap (λ es. es ++ more) ready.before.0) i) || ready.ended i
+only_last read log more done ready = search (has_any, more, arith)
 
 -- where nothing was read nothing is wrong
 nothing_wrong : (read : OwnReading) → has_begun read ≡ false → untold_in read ≡ None
-nothing_wrong read e =
-    let none = unread read.entries read.ended e in
-    ap (λ f. option_and_then f (charter_in read))
-    (λ i. λ l. option_or (verdict_so_far (rules_by l) read.starting (none.0 i))
-    (cond (none.1 i) (end_verdict (rules_by l) read.starting (none.0 i)) None))
-    ∙ by_charter (charter_in read)
-  where
-    by_charter : (o : Option Charter)
-        → option_and_then (λ l. option_or (verdict_so_far (rules_by l) read.starting []) None) o
-        ≡ None
-    by_charter None = refl
-    by_charter (Some l) = ap (λ o. option_or o None) (nothing_so_far (rules_by l) read.starting)
+nothing_wrong read e = grind (arith, read, unread, nothing_so_far)
 
 -- what is wrong if there is no judge
 pub wrong_without : (read : OwnReading) (log more : List Entry) (done : Bool)
@@ -207,12 +160,7 @@ wrong_without read log more done ready = by_test (has_any more || done) refl
 pub still_without : (read : OwnReading) (log more : List Entry) (done : Bool)
     → IsReady None read log more done
     → then_some (has_any more || done) (Malformed 2 StartState) ≡ None → IsJudging None read
-still_without read log more done ready none = by_test (has_any more || done) refl none
-  where
-    by_test : (b : Bool) → (has_any more || done) ≡ b → then_some b (Malformed 2 StartState) ≡ None
-        → IsJudging None read
-    by_test false e f = unread read.entries read.ended (only_last read log more done ready ∙ e)
-    by_test true e f = cc
+still_without read log more done ready none = grind (arith, read, more, has_any, unread, only_last)
 
 -- before the first byte
 pub undecided_first : (reader : ReaderState) (numbers : List ℕ) → HasRead reader [] → numbers ≡ []

@@ -33,9 +33,7 @@ IsWithin n (Violation line why) = line - 2 < n
 IsWithin n (Malformed line rule) = line - 2 < n
 
 pub within_more : (m n : ℕ) (v : Verdict) → m ≤ n → IsWithin m v → IsWithin n v
-within_more m n (Accepted entries commits observers) low is = tt
-within_more m n (Violation line why) low is = omega (arith, low, is)
-within_more m n (Malformed line rule) low is = omega (arith, low, is)
+within_more m n v low is = grind arith
 
 -- it is told the same by more lines
 pub told_stays : (numbers more : List ℕ) (v : Verdict) → IsWithin (length numbers) v
@@ -69,10 +67,8 @@ fault_within r starting states earlier (e ∷ later) v found =
         → (o : Option Why)
         → option_or (option_map (Violation (length starting + length earlier + 2)) o) rest ≡ Some v
         → IsWithin n v
-    by_fault on (Some why) f = found_within n (Violation (length starting + length earlier + 2) why)
-        v f (omega arith)
-    by_fault on None f = within_more (length starting + suc (length earlier) + length later) n v
-        (omega arith) (on f)
+    by_fault on (Some why) f = search (found_within, starting, arith)
+    by_fault on None f = search (within_more, starting, arith)
 
 -- a front is no longer than its log, and shorter where the log breaks a rule
 front_short : (h : Header) (earlier xs : List Entry) → length (front_after h earlier xs) ≤ length xs

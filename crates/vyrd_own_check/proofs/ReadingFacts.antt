@@ -30,10 +30,6 @@ pub first_none : {A : Type 0} (a b : Option A) → option_or a b ≡ None → a 
 first_none None b e = refl
 first_none (Some x) b e = cc
 
-second_none : {A : Type 0} (a b : Option A) → option_or a b ≡ None → b ≡ None
-second_none None b e = e
-second_none (Some x) b e = cc
-
 -- nothing that is told is nothing
 pub none_told : (f : Verdict → Verdict) (o : Option Verdict) → option_map f o ≡ None → o ≡ None
 none_told f None e = refl

@@ -14,7 +14,6 @@ use Rattle.vyrd_base.specs.Own.Reading.{Taken, Found, is_word_byte, word_of, aft
 use Rattle.vyrd_base.specs.Own.Programs.{Method, Written}
 use Rattle.vyrd_base.specs.Own.Lines as lines
 use Rattle.vyrd_base.specs.Own.Lines.{Inner, Line, has_any, with_inner, change_last, with_line}
-use Rattle.vyrd_base.specs.Own.Lines.{naming, answering, allowing, changing}
 use Rattle.vyrd_base.specs.Own.Names.{is_name, is_known, is_among, new_name}
 use Rattle.vyrd_base.specs.Own.Pieces.{taken_with, last_number, named_number, two_numbers, two_read}
 use Rattle.vyrd_base.specs.Own.Outer.{is_list, is_part, is_past_constants, part_of, part_scope}
@@ -93,10 +92,7 @@ new_name_short taken text name rest h = by_name (is_name (word_of text)) refl h
 few_parameters : (w : Written) (left : ℕ) (names : List (List ℕ)) (text : List ℕ)
     (all : List (List ℕ))
     → parameters_read w left names text ≡ Ok all → length all ≤ length names + left
-few_parameters w left names [] all h =
-    let is : names ≡ all = cc in
-    let same : length names ≡ length all = ap length is in
-    omega (arith, same)
+few_parameters w left names [] all h = grind arith
 few_parameters w zero names (b ∷ text) all h = cc
 few_parameters w (suc left) names (b ∷ text) all h =
     let a = after_inv (codes " ") (b ∷ text) _ _ all h in
@@ -238,10 +234,7 @@ module _ (w : Written) (name : List ℕ) (parameters : List (List ℕ)) where
 
 -- a line of a method changes nothing that a call looks at
 inner_callable : (m : Method) (i : Inner) → is_callable (with_inner m i) ≡ is_callable m
-inner_callable m (naming name e) = refl
-inner_callable m (answering e) = refl
-inner_callable m (allowing e) = refl
-inner_callable m (changing c) = refl
+inner_callable m i = grind arith
 
 last_length : (change : Method → Method) (methods : List Method)
     → length (change_last change methods) ≡ length methods
@@ -254,8 +247,7 @@ last_callable : (i : Inner) (methods : List Method)
     ≡ list_all is_callable methods
 last_callable i [] = refl
 last_callable i (m ∷ []) = ap (λ b. b && true) (inner_callable m i)
-last_callable i (m ∷ next ∷ methods) = ap (λ b. is_callable m && b)
-    (last_callable i (next ∷ methods))
+last_callable i (m ∷ next ∷ methods) = cc (last_callable i (next ∷ methods))
 
 -- the methods with one more line
 line_callable : (w : Written) (below : Last) (line : List ℕ) (says : Line) → line_read w below line
@@ -269,9 +261,7 @@ line_callable w below line (lines.holds n) h all = all
 line_callable w below line (lines.hidden key much) h all = all
 line_callable w below line (lines.part k) h all = all
 line_callable w below line (lines.shows key much) h all = all
-line_callable w below line (lines.inner i) h all =
-    (λ j. nat_le (last_length (λ m. with_inner m i) w.methods j) 64 && last_callable i w.methods j)
-    ∙ all
+line_callable w below line (lines.inner i) h all = search (last_length, last_callable, arith)
 line_callable w below line (lines.method name parameters) h all =
     let is = method_line w name parameters below line h in
     let m : Method = record {

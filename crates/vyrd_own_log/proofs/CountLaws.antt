@@ -1,6 +1,6 @@
 -- What whole lines bring, counted.
 use Rattle.std.proofs.Common.{◌≡◌, ℕ, ◌+◌, ◌≤◌, Bool, true, false, cond, List, [], ◌∷◌, ◌++◌}
-use Rattle.std.proofs.Common.{length, Option, Some, None, refl, ap, sym, ◌∙◌, subst, arith}
+use Rattle.std.proofs.Common.{length, Option, Some, None, refl, ap, arith}
 use Rattle.std.proofs.Common.{length-append}
 use Rattle.std.specs.Prelude.{nat_lt, is_some}
 use Rattle.std.specs.Str.{bytes_eq}
@@ -55,14 +55,7 @@ record Counts (st : Stage) (n : ℕ) (s : LineState × Found) : Type 0 where
 -- nothing, where nothing moves
 left : (st : Stage) (n : ℕ) (t : LineState) → t.stage ≡ st → t.line ≡ n
     → Counts st n (t, found.Nothing)
-left st n t same here =
-    let all : ends (has_ended t.stage) ≡ ends (has_ended st) = ap (λ s. ends (has_ended s)) same in
-    record {
-      past = λ e. ap is_past same ∙ e;
-      begun = λ e. cc;
-      numbered = omega (arith, all);
-      few = omega (arith, here);
-    }
+left st n t same here = grind arith
 
 -- something, and the next line
 moved : (st to : Stage) (n : ℕ) (x : Found) (t : LineState) → t.stage ≡ to → t.line ≡ n + 1
@@ -71,13 +64,7 @@ moved : (st to : Stage) (n : ℕ) (x : Found) (t : LineState) → t.stage ≡ to
     → length (numbers_of n x) + ends (has_ended st) ≡ length (starts_of x) + length (entries_of x)
     + ends (has_ended to)
     → length (numbers_of n x) ≤ 1 → Counts st n (t, x)
-moved st to n x t same here past begun numbered one = record {
-  past = λ e. ap is_past same ∙ past e;
-  begun = λ e. ap is_past same ∙ begun e;
-  numbered = numbered ∙ ap (λ s. length (starts_of x) + length (entries_of x) + ends (has_ended s))
-      (sym same);
-  few = omega (arith, here, one);
-}
+moved st to n x t same here past begun numbered one = grind arith
 
 module _ (r : LineState) (line : List ℕ) where
   broken_counts : (st : Stage) (rule : Rule) → r.stage ≡ st → Counts st r.line (broken r rule)
@@ -190,10 +177,4 @@ module _ (r : LineState) (line : List ℕ) where
 pub same_counted : (r n : LineState) (b : Brought) → n.stage ≡ r.stage → n.line ≡ r.line
     → IsCounted r b
     → IsCounted n (brought_then b nothing_brought)
-same_counted r n b stage line counted =
-    subst (IsCounted n) (sym (and_nothing b)) (record {
-      past = λ e. ap is_past stage ∙ counted.past e;
-      numbered = counted.numbered
-          ∙ ap (λ s. length b.starting + length b.entries + ends (has_ended s)) (sym stage);
-      few = omega (arith, counted.few, line);
-    })
+same_counted r n b stage line counted = grind (arith, and_nothing b, counted.numbered, counted.few)

@@ -1,8 +1,8 @@
 -- An entry's line has one reading, by a specification whose methods can be called.
-use Rattle.std.proofs.Common.{◌≡◌, ℕ, suc, zero, ◌<◌, ◌≤◌, ◌^◌, Bool, true, false, cond, ◌&&◌, ◌||◌}
+use Rattle.std.proofs.Common.{◌≡◌, ℕ, suc, zero, ◌<◌, ◌≤◌, ◌^◌, Bool, true, false, cond, ◌&&◌}
 use Rattle.std.proofs.Common.{List, [], ◌∷◌, ◌++◌, map, take, get_or, Option, Some, None, refl, ap}
 use Rattle.std.proofs.Common.{sym, ◌∙◌, subst, arith, zero-add}
-use Rattle.std.specs.Prelude.{◌==◌, nat_lt, codes, decimal, option_map}
+use Rattle.std.specs.Prelude.{nat_lt, codes, decimal, option_map}
 use Rattle.std.specs.Option.{option_and_then}
 use Rattle.std.specs.List.{list_all}
 use Rattle.std.specs.Char.{digit_value}
@@ -12,7 +12,6 @@ use Rattle.std.proofs.lemmas.Slice.Eq.{bytes_eq-Decides}
 use Rattle.vyrd_base.specs.declared.own.method.OwnMethod.{OwnMethod}
 use Rattle.vyrd_base.specs.declared.subject.Method.{Method}
 use Rattle.vyrd_base.specs.declared.subject.Commits.{Commits}
-use Rattle.vyrd_base.specs.declared.subject.Commits.TheVariants.{Never, AtMostOnce, Once}
 use Rattle.vyrd_base.specs.declared.subject.Args.{Args}
 use Rattle.vyrd_base.specs.declared.log.Kind.{Kind}
 use Rattle.vyrd_base.specs.declared.log.Kind.TheVariants.{Call, Return, Write, Commit, BlockOpen}
@@ -52,14 +51,7 @@ pub record IsEntryLine (w : Written) (line : List ℕ) (e : Entry) : Type 0 wher
 kind_of : (w : Written) (fields : List (List ℕ)) (kind : Kind) → AllCallable w
     → guessed_own_kind w fields ≡ Some kind → IsOf w kind
 kind_of w [] kind all e = cc
-kind_of w (word ∷ []) kind all e = by_tests (bytes_eq word (codes "commit"))
-    (bytes_eq word (codes "open")) e
-  where
-    by_tests : (a b : Bool) → cond a (Some Commit) (cond b (Some BlockOpen) (Some BlockClose))
-        ≡ Some kind → IsOf w kind
-    by_tests true b f = let same : Commit ≡ kind = cc in subst (IsOf w) same tt
-    by_tests false true f = let same : BlockOpen ≡ kind = cc in subst (IsOf w) same tt
-    by_tests false false f = let same : BlockClose ≡ kind = cc in subst (IsOf w) same tt
+kind_of w (word ∷ []) kind all e = search arith
 kind_of w (word ∷ x ∷ more) kind all e =
     by_tests (bytes_eq word (codes "call")) (bytes_eq word (codes "return"))
     (bytes_eq word (codes "write")) e
@@ -68,15 +60,13 @@ kind_of w (word ∷ x ∷ more) kind all e =
         → option_map (λ m. Call (own_call m) (args_from more)) o ≡ Some kind → IsOf w kind
     by_name None is f = cc
     by_name (Some m) is f =
-        let same : Call (own_call m) (args_from more) ≡ kind = cc in
-        let n = named_is 0 w.methods x m all is in
-        subst (IsOf w) same (record {
-          named = m;
-          is = refl;
-          found = ap (λ k. named_from 0 w.methods (name_in w.methods k))
-              (n.number ∙ zero-add n.place)
-              ∙ ap (named_from 0 w.methods) n.called ∙ is;
-        })
+        grind (
+          arith,
+          (named_is 0 w.methods x m all is).number,
+          zero-add (named_is 0 w.methods x m
+              all is).place,
+          (named_is 0 w.methods x m all is).called,
+        )
 
     by_tests : (a b c : Bool)
         → cond a (option_map (λ m. Call (own_call m) (args_from more)) (named_from 0 w.methods x))
@@ -85,22 +75,12 @@ kind_of w (word ∷ x ∷ more) kind all e =
         → IsOf w kind
     by_tests true b c f = by_name (named_from 0 w.methods x) refl f
     by_tests false true c f = let same : Return (number_of x) ≡ kind = cc in subst (IsOf w) same tt
-    by_tests false false true f = let same : Write (number_of x) (args_from more).a ≡ kind = cc in
-        subst (IsOf w) same tt
+    by_tests false false true f = grind arith
     by_tests false false false f = let same : BlockCommit ≡ kind = cc in subst (IsOf w) same tt
 
 entry_of : (w : Written) (fields : List (List ℕ)) (e : Entry) → AllCallable w
     → guessed_own_entry w fields ≡ Some e → IsOf w e.kind
-entry_of w [] e all f = cc
-entry_of w (caller ∷ fields) e all f = by_kind (guessed_own_kind w fields) refl f
-  where
-    by_kind : (o : Option Kind) → guessed_own_kind w fields ≡ o
-        → option_map (λ kind. record { caller = number_of caller; kind = kind }) o ≡ Some e
-        → IsOf w e.kind
-    by_kind None is g = cc
-    by_kind (Some kind) is g =
-        let same : ◌≡◌ {A = Entry} (record { caller = number_of caller; kind = kind }) e = cc in
-        subst (IsOf w) (ap (λ x. x.kind) same) (kind_of w fields kind all is)
+entry_of w fields e all f = grind (arith, kind_of)
 
 -- an entry that is read is spelled by the line
 pub entry_sound : (w : Written) (line : List ℕ) (e : Entry) → AllCallable w → own_entry_in w line
@@ -154,15 +134,11 @@ module _ (padded : Bool) (args : Args)
 pub ranged_call : (padded : Bool) (args : Args) → padded ≡ true → args.a < 2 ^ 32 → args.b < 2 ^ 32
     → args.c < 2 ^ 32
     → (padded && nat_lt args.a (2 ^ 32) && nat_lt args.b (2 ^ 32) && nat_lt args.c (2 ^ 32)) ≡ true
-ranged_call padded args p a b c =
-    both_true _ _ (both_true _ _ (both_true _ _ p (is_below args.a (2 ^ 32) a))
-    (is_below args.b (2 ^ 32) b)) (is_below args.c (2 ^ 32) c)
+ranged_call padded args p a b c = grind (arith, padded, both_true, is_below)
 
 -- the number of a method that is called
 numbered_is : (i : ℕ) (commits : Commits) → own_number (own_numbered i commits) ≡ Some i
-numbered_is i Never = refl
-numbered_is i AtMostOnce = refl
-numbered_is i Once = refl
+numbered_is i commits = grind arith
 
 module _ (w : Written) (all : AllCallable w) (method : Method) (of : IsCalled w method) where
   called_number : own_number method ≡ Some of.named.number
@@ -195,44 +171,16 @@ below_64 n low = omega arith
 
 -- as many arguments as there are, read from their fields
 b_is_0 : (n : ℕ) (args : Args) → are_padded n args ≡ true → nat_lt 1 n ≡ false → args.b ≡ 0
-b_is_0 n args e few = by_test (args.b == 0) refl (first_true _ _ e)
-  where
-    by_test : (t : Bool) → (args.b == 0) ≡ t → (t || nat_lt 1 n) ≡ true → args.b ≡ 0
-    by_test true is f = same_of args.b 0 is
-    by_test false is f = cc
+b_is_0 n args e few = grind (arith, few, first_true, same_of)
 
 c_is_0 : (n : ℕ) (args : Args) → are_padded n args ≡ true → nat_lt 2 n ≡ false → args.c ≡ 0
-c_is_0 n args e few = by_test (args.c == 0) refl (second_true (args.b == 0 || nat_lt 1 n) _ e)
-  where
-    by_test : (t : Bool) → (args.c == 0) ≡ t → (t || nat_lt 2 n) ≡ true → args.c ≡ 0
-    by_test true is f = same_of args.c 0 is
-    by_test false is f = cc
+c_is_0 n args e few = grind (arith, few, second_true, same_of)
 
 args_guess : (n : ℕ) (args : Args) → n ≤ 3 → (n ≡ 0 → args.a ≡ 0) → are_padded n args ≡ true
     → AreSmall args
     → args_from (map decimal (take n (args.a ∷ args.b ∷ args.c ∷ []))) ≡ args
-args_guess zero args few other e small =
-    λ i. record {
-      a = sym (other refl) i;
-      b = sym (b_is_0 0 args e refl) i;
-      c = sym (c_is_0 0 args e refl) i;
-    }
-args_guess (suc zero) args few other e small = λ i. record {
-  a = number_of_decimal args.a (below_64 args.a small.a) i;
-  b = sym (b_is_0 1 args e refl) i;
-  c = sym (c_is_0 1 args e refl) i;
-}
-args_guess (suc (suc zero)) args few other e small = λ i. record {
-  a = number_of_decimal args.a (below_64 args.a small.a) i;
-  b = number_of_decimal args.b (below_64 args.b small.b) i;
-  c = sym (c_is_0 2 args e refl) i;
-}
-args_guess (suc (suc (suc zero))) args few other e small = λ i. record {
-  a = number_of_decimal args.a (below_64 args.a small.a) i;
-  b = number_of_decimal args.b (below_64 args.b small.b) i;
-  c = number_of_decimal args.c (below_64 args.c small.c) i;
-}
-args_guess (suc (suc (suc (suc n)))) args few other e small = absurd (omega (arith, few))
+args_guess n args few other e small =
+    search (few, small, b_is_0, c_is_0, number_of_decimal, below_64, arith)
 
 pub below_most : (n : ℕ) → nat_lt n most ≡ true → n < 2 ^ 64
 below_most n e = let h = below_of n most e in omega (arith, h)
@@ -254,13 +202,9 @@ kind_guess w (Call method args) all e of other =
     (λ x. Call (own_call x)
     (args_from (map decimal (take m.arity (args.a ∷ args.b ∷ args.c ∷ [])))))) of.found
     ∙ (λ i. Some (Call (of.is i) (read i)))
-kind_guess w (Return reply) all e of other = ap (λ r. Some (Return r))
-    (number_of_decimal reply (below_most reply e))
+kind_guess w (Return reply) all e of other = cc (number_of_decimal reply (below_most reply e))
 kind_guess w (Write word value) all e of other =
-    let x = number_of_decimal word (below_64 word (below_of word (2 ^ 32) (first_true _ _ e))) in
-    let v = number_of_decimal value
-    (below_of value (2 ^ 64) (second_true (nat_lt word (2 ^ 32)) _ e)) in
-    λ i. Some (Write (x i) (v i))
+    search (number_of_decimal, below_64, below_of, first_true, second_true, arith)
 kind_guess w Commit all e of other = refl
 kind_guess w BlockOpen all e of other = refl
 kind_guess w BlockClose all e of other = refl
@@ -383,16 +327,7 @@ entry_complete w e all ranged of other =
 pub own_line_is : (w : Written) (caller : ℕ) (kind : Kind) → AllCallable w → IsOf w kind
     → own_entry_line w (record { caller = caller; kind = kind }) ≡ decimal caller
     ++ 32 ∷ own_kind_text w kind
-own_line_is w caller (Call method args) all of =
-    let fields = called_fields w all method of args in
-    ap (λ f. spaced (decimal caller ∷ f)) fields ∙ ap (λ f. decimal caller ++ 32 ∷ spaced f)
-    (sym fields)
-own_line_is w caller (Return reply) all of = refl
-own_line_is w caller (Write word value) all of = refl
-own_line_is w caller Commit all of = refl
-own_line_is w caller BlockOpen all of = refl
-own_line_is w caller BlockClose all of = refl
-own_line_is w caller BlockCommit all of = refl
+own_line_is w caller kind all of = grind arith
 
 module _ (w : Written) (line : List ℕ) (all : AllCallable w) where
   -- a line that isn't an entry's
@@ -469,42 +404,31 @@ no_value text n r low e none w (Write word value) ok of f =
     let is = one_before_space n word r (decimal value) low (omega arith)
     (sym e ∙ append_cancel_left (codes "write ") text (decimal word ++ 32 ∷ decimal value) f) in
     none value fits is.1
-no_value text n r low e none w (Call method args) ok of f =
-    absurd (let h : 119 ≡ 99 = ap (λ t. get_or t 0 0) f ∙ call_begins w method args ok in
-    omega (arith, h))
-no_value text n r low e none w (Return reply) ok of f = absurd
-    (let h : 119 ≡ 114 = ap (λ t. get_or t 0 0) f in omega (arith, h))
-no_value text n r low e none w Commit ok of f = absurd
-    (let h : 119 ≡ 99 = ap (λ t. get_or t 0 0) f in omega (arith, h))
-no_value text n r low e none w BlockOpen ok of f = absurd
-    (let h : 119 ≡ 111 = ap (λ t. get_or t 0 0) f in omega (arith, h))
-no_value text n r low e none w BlockClose ok of f = absurd
-    (let h : 119 ≡ 99 = ap (λ t. get_or t 0 0) f in omega (arith, h))
-no_value text n r low e none w BlockCommit ok of f = absurd
-    (let h : 119 ≡ 99 = ap (λ t. get_or t 0 0) f in omega (arith, h))
+no_value text n r low e none w (Call method args) ok of f = search (call_begins, arith)
+no_value text n r low e none w (Return reply) ok of f = grind arith
+no_value text n r low e none w Commit ok of f = grind arith
+no_value text n r low e none w BlockOpen ok of f = grind arith
+no_value text n r low e none w BlockClose ok of f = grind arith
+no_value text n r low e none w BlockCommit ok of f = grind arith
 
 -- the greatest number isn't a reply
 pub no_reply : (text : List ℕ) (n : ℕ) → n < 2 ^ 64 → n ≡ most → text ≡ decimal n → (w : Written)
     → IsOwnKindRead w (codes "return " ++ text) None
 no_reply text n low is e w (Return reply) ok of f =
-    let less : reply < most = below_of reply most ok in
-    let same : n ≡ reply = sym (number_of_decimal n low)
-    ∙ ap number_of (sym e ∙ append_cancel_left (codes "return ") text (decimal reply) f)
-    ∙ number_of_decimal reply (below_most reply ok) in
-    omega (arith, same, less, is)
-no_reply text n low is e w (Call method args) ok of f =
-    absurd (let h : 114 ≡ 99 = ap (λ t. get_or t 0 0) f ∙ call_begins w method args ok in
-    omega (arith, h))
-no_reply text n low is e w (Write word value) ok of f = absurd
-    (let h : 114 ≡ 119 = ap (λ t. get_or t 0 0) f in omega (arith, h))
-no_reply text n low is e w Commit ok of f = absurd
-    (let h : 114 ≡ 99 = ap (λ t. get_or t 0 0) f in omega (arith, h))
-no_reply text n low is e w BlockOpen ok of f = absurd
-    (let h : 114 ≡ 111 = ap (λ t. get_or t 0 0) f in omega (arith, h))
-no_reply text n low is e w BlockClose ok of f = absurd
-    (let h : 114 ≡ 99 = ap (λ t. get_or t 0 0) f in omega (arith, h))
-no_reply text n low is e w BlockCommit ok of f = absurd
-    (let h : 114 ≡ 99 = ap (λ t. get_or t 0 0) f in omega (arith, h))
+    grind (
+      arith,
+      number_of_decimal n low,
+      append_cancel_left (codes "return ") text (decimal reply)
+          f,
+      number_of_decimal reply (below_most reply ok),
+      below_of reply most ok,
+    )
+no_reply text n low is e w (Call method args) ok of f = grind (arith, call_begins w method args ok)
+no_reply text n low is e w (Write word value) ok of f = grind arith
+no_reply text n low is e w Commit ok of f = grind arith
+no_reply text n low is e w BlockOpen ok of f = grind arith
+no_reply text n low is e w BlockClose ok of f = grind arith
+no_reply text n low is e w BlockCommit ok of f = grind arith
 
 -- a call: its name and what follows it are those of the text
 module _ (w : Written) (all : AllCallable w) (text name : List ℕ) (rest : Option (List ℕ))

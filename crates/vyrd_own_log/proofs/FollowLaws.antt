@@ -5,7 +5,6 @@ use Rattle.std.specs.Prelude.{◌==◌, nat_lt}
 use Rattle.std.specs.List.{slice_split}
 use Rattle.std.specs.Str.{bytes_eq}
 use Rattle.vyrd_base.specs.declared.header.Header.{Header}
-use Rattle.vyrd_base.specs.declared.subject.Subject.{Subject}
 use Rattle.vyrd_base.specs.declared.subject.Subject.TheVariants.{Own}
 use Rattle.vyrd_base.specs.declared.log.Entry.{Entry}
 use Rattle.vyrd_base.specs.declared.log.StartWord.{StartWord}
@@ -13,12 +12,11 @@ use Rattle.vyrd_base.specs.declared.own.line.SpecificationLine.{SpecificationLin
 use Rattle.vyrd_base.specs.declared.own.line.SpecificationLine.TheVariants as said
 use Rattle.vyrd_base.specs.declared.verdict.Rule.TheVariants.{TooManyLines, BadHeader}
 use Rattle.vyrd_base.specs.declared.verdict.Rule.TheVariants.{Specification, StartRange, StartOrder}
-use Rattle.vyrd_base.specs.Limits.{is_own_sized}
 use Rattle.vyrd_base.specs.Subjects.{limits_of}
 use Rattle.vyrd_base.specs.Shape.{◌breaks◌, first_broken}
 use Rattle.vyrd_base.specs.Spelling.{end_line}
 use Rattle.vyrd_base.specs.Starts.{is_out_of_range, is_out_of_order, start_rule, do_follow}
-use Rattle.vyrd_base.specs.Lines.{start_in, header_if, header_of}
+use Rattle.vyrd_base.specs.Lines.{start_in, header_if}
 use Rattle.vyrd_base.specs.Reading.{Input, after_end_rule}
 use Rattle.vyrd_base.specs.Own.Programs.{Written}
 use Rattle.vyrd_base.specs.Own.Reader.{SoFar, nothing_read, read_next}
@@ -33,9 +31,6 @@ use Rattle.vyrd_own_log.proofs.HeaderLaws.{header_sound, header_complete}
 pub record IsBare (read : OwnReading) : Type 0 where
   pub lines : read.lines ≡ []
   pub starting : read.starting ≡ []
-
-stopped_bare : (read : OwnReading) → read.lines ≡ [] → read.starting ≡ [] → IsBare read
-stopped_bare read lines starting = record { lines = lines; starting = starting }
 
 pub entries_bare : (input : Input) (w : Written) (n : ℕ) (lines : List (List ℕ))
     → IsBare (entries_read input w n lines)
@@ -94,8 +89,7 @@ starts_follow input h w last n (line ∷ next ∷ lines) =
 
     by_start : Follow → (past : Bool) (o : Option StartWord)
         → do_follow h last (at_start past o).starting ≡ true
-    by_start follow past None = ap (do_follow h last)
-        (entries_bare input w n (line ∷ next ∷ lines)).starting
+    by_start follow past None = cc ((entries_bare input w n (line ∷ next ∷ lines)).starting)
     by_start follow true (Some s) = refl
     by_start follow false (Some s) = by_rule follow s (is_out_of_range h s) (is_out_of_order last s)
         refl refl
@@ -136,10 +130,7 @@ specification_follow input h s n (line ∷ next ∷ lines) =
 made_own : (words callers : ℕ) (b : Bool) (e : limits_of Own 3 words callers ≡ b) (h : Header)
     → header_if 3 Own words callers b e ≡ Some h
     → h.subject ≡ Own
-made_own words callers true e h is =
-    let same : record { version = 3; subject = Own; size = words; callers = callers; within = e }
-    ≡ h = cc in
-    sym (ap (λ (x : Header). x.subject) same)
+made_own words callers true e h is = cc
 made_own words callers false e h is = cc
 
 line_own : (line : List ℕ) (h : Header) → own_header_in line ≡ Some h → h.subject ≡ Own

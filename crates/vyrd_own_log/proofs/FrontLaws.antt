@@ -1,5 +1,5 @@
 -- What a reader makes of entries that are read where they lie: what it makes of their lines.
-use Rattle.std.proofs.Common.{◌≡◌, ℕ, ◌+◌, ◌<◌, ◌≤◌, ◌^◌, Bool, true, false, cond, not, ◌&&◌, List}
+use Rattle.std.proofs.Common.{◌≡◌, ℕ, ◌+◌, ◌<◌, ◌≤◌, ◌^◌, Bool, true, false, cond, not, List}
 use Rattle.std.proofs.Common.{[], ◌∷◌, ◌++◌, length, None, refl, ap, sym, ◌∙◌, arith, append_assoc}
 use Rattle.std.proofs.Common.{length-append}
 use Rattle.std.specs.Prelude.{◌==◌, nat_lt, decimal, is_some}
@@ -31,14 +31,11 @@ use Rattle.vyrd_own_log.proofs.ReadLaws.{nothing_fed, fed_then, line_fed, line_k
 -- a line that begins with a caller is neither a note nor the end
 not_note : (digits rest : List ℕ) → lacks 35 digits ≡ true → is_note (digits ++ 32 ∷ rest) ≡ false
 not_note [] rest lack = refl
-not_note (d ∷ digits) rest lack =
-    ap (λ b. b && nat_lt (length (digits ++ 32 ∷ rest)) 200)
-    (not-true (d == 35) (first_true _ _ lack))
+not_note (d ∷ digits) rest lack = cc (not-true (d == 35) (first_true _ _ lack))
 
 has_space : (digits rest : List ℕ) → lacks 32 (digits ++ 32 ∷ rest) ≡ false
 has_space [] rest = refl
-has_space (d ∷ digits) rest = ap (λ b. not (d == 32) && b) (has_space digits rest)
-    ∙ and-false (not (d == 32))
+has_space (d ∷ digits) rest = cc (has_space digits rest, and-false (not (d == 32)))
 
 not_end : (digits rest : List ℕ) → bytes_eq (digits ++ 32 ∷ rest) end_line ≡ false
 not_end digits rest = by_test (bytes_eq (digits ++ 32 ∷ rest) end_line) refl
@@ -46,9 +43,7 @@ not_end digits rest = by_test (bytes_eq (digits ++ 32 ∷ rest) end_line) refl
     by_test : (b : Bool) → bytes_eq (digits ++ 32 ∷ rest) end_line ≡ b → b ≡ false
     by_test false e = refl
     by_test true e =
-        let same : digits ++ 32 ∷ rest ≡ end_line =
-        (bytes_eq-Decides (digits ++ 32 ∷ rest) end_line).0 e in
-        sym (ap (lacks 32) same) ∙ has_space digits rest
+        cc ((bytes_eq-Decides (digits ++ 32 ∷ rest) end_line).0 e, has_space digits rest)
 
 -- the step over an entry's line
 module _ (r : LineState) (h : Header) (e : entries.Entry) (text rest : List ℕ)
@@ -134,16 +129,13 @@ one_more_fed k h n e piece rest after es fs gs ms ns os safe empty fine stage wi
 pub behind_shorter : (k : OwnReaderKept) (e : entries.Entry) (rest after : List ℕ)
     → IsOwnEntryAtFront k.lines.said.specification rest e after
     → length after < length rest
-behind_shorter k e rest after at =
-    let line = own_entry_line k.lines.said.specification e in
-    omega (arith, ap length at.spelled, length-append line (10 ∷ after))
+behind_shorter k e rest after at = grind (arith, after, length-append)
 
 -- nothing was read
 pub nothing_front : (k : OwnReaderKept) (piece : List ℕ) (es : List entries.Entry) (ns : List ℕ)
     → IsSound k
     → IsFedFront k piece piece es es ns ns k
-nothing_front k piece es ns sound =
-    record { read = []; parted = refl; fed = nothing_fed k es ns; sound = sound }
+nothing_front k piece es ns sound = grind (arith, nothing_fed k es ns)
 
 -- the front of a piece, and then the front of what stands behind it
 pub front_then : (k m n : OwnReaderKept) (piece rest after : List ℕ) (es fs gs : List entries.Entry)
@@ -162,9 +154,5 @@ front_then k m n piece rest after es fs gs ms ns os first second = record {
 pub line_front : (k n : OwnReaderKept) (line piece after : List ℕ) (es fs : List entries.Entry)
     (ms ns : List ℕ) → piece ≡ line ++ 10 ∷ after
     → IsFed k (line ++ 10 ∷ []) es fs ms ns n → IsSound n → IsFedFront k piece after es fs ms ns n
-line_front k n line piece after es fs ms ns is fed sound = record {
-  read = line ++ 10 ∷ [];
-  parted = is ∙ sym (append_assoc line (10 ∷ []) after);
-  fed = fed;
-  sound = sound;
-}
+line_front k n line piece after es fs ms ns is fed sound =
+    grind (arith, line ++ 10 ∷ [], append_assoc line (10 ∷ []) after)

@@ -147,24 +147,7 @@ record IsOver (read : OwnReading) : Type 0 where
 -- where something past the starting words was read, none of them comes any more
 pub past_of : (k : OwnReaderKept) (b : Brought) → IsCounted k.lines b
     → (has_any b.entries || has_ended k.lines.stage) ≡ true → is_past k.lines.stage ≡ true
-past_of k b counted e = by_stage k.lines.stage refl e
-  where
-    by_any : (any : Bool) → has_any b.entries ≡ any → any || false ≡ true → is_past k.lines.stage
-        ≡ true
-    by_any true is f = counted.past is
-    by_any false is f = cc
-
-    past : has_ended k.lines.stage ≡ false → (has_any b.entries || has_ended k.lines.stage) ≡ true
-        → is_past k.lines.stage ≡ true
-    past none f = by_any (has_any b.entries) refl (ap (λ t. has_any b.entries || t) (sym none) ∙ f)
-
-    by_stage : (st : Stage) → k.lines.stage ≡ st → (has_any b.entries || has_ended k.lines.stage)
-        ≡ true → is_past k.lines.stage ≡ true
-    by_stage stages.Header is f = past (ap has_ended is) f
-    by_stage (stages.Specification h) is f = past (ap has_ended is) f
-    by_stage (stages.Starts h last) is f = past (ap has_ended is) f
-    by_stage (stages.Entries h) is f = ap is_past is
-    by_stage (stages.End h) is f = ap is_past is
+past_of k b counted e = grind (arith, counted, has_any)
 
 -- what is read on keeps the header and the end
 module _ (k : OwnReaderKept) (w : Bool) (more : List ℕ) where
@@ -290,8 +273,7 @@ reading_grown max w bytes more low high = record {
     on = goes_on k.lines k.unfinished w more
 
     old : own_reading (to_go_on max) bytes ≡ with_read b (known k.lines k.lines.fault)
-    old = ap (λ m. own_reading (to_go_on m) bytes) (sym at.limit)
-        ∙ read_now k b bytes at.sound at.reached
+    old = cc (at.limit, read_now k b bytes at.sound at.reached)
 
     begun_is : has_begun (own_reading (to_go_on max) bytes) ≡ true
         → (has_any b.entries || has_ended k.lines.stage) ≡ true
@@ -299,8 +281,7 @@ reading_grown max w bytes more low high = record {
         (append-nil b.entries)) ∙ e
 
     new : own_reading (input_of max w) (bytes ++ more) ≡ with_read b on
-    new = ap (λ m. own_reading (input_of m w) (bytes ++ more)) (sym at.limit)
-        ∙ at.reached.follows w more
+    new = cc (at.limit, at.reached.follows w more)
 
 pub reading_callable : (max : ℕ) (bytes : List ℕ) → 1 ≤ max → max ≤ most_lines
     → are_callable (written_in (own_reading (to_go_on max) bytes).lines).methods ≡ true
@@ -344,8 +325,7 @@ reading_formed max bytes low high = record {
     b = at.brought
 
     old : own_reading (to_go_on max) bytes ≡ with_read b (known k.lines k.lines.fault)
-    old = ap (λ m. own_reading (to_go_on m) bytes) (sym at.limit)
-        ∙ read_now k b bytes at.sound at.reached
+    old = cc (at.limit, read_now k b bytes at.sound at.reached)
 
     read : OwnReading
     read = own_reading (to_go_on max) bytes
@@ -353,9 +333,7 @@ reading_formed max bytes low high = record {
     by_parts : read.numbers ≡ b.numbers → read.starting ≡ b.starting → read.entries ≡ b.entries
         → read.ended ≡ has_ended k.lines.stage
         → length read.numbers ≡ length read.starting + length read.entries + ends read.ended
-    by_parts numbers starting entries ended =
-        ap length numbers ∙ at.counted.numbered
-        ∙ (λ i. length (sym starting i) + length (sym entries i) + ends (sym ended i))
+    by_parts numbers starting entries ended = cc (at.counted.numbered)
 
     begun_is : has_begun read ≡ (has_any b.entries || has_ended k.lines.stage)
     begun_is = ap has_begun old ∙ ap (λ es. has_any es || has_ended k.lines.stage)

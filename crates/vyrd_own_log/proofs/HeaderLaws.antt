@@ -1,7 +1,7 @@
 -- The first line has one reading.
 use Rattle.std.proofs.Common.{◌≡◌, ℕ, ◌<◌, ◌^◌, Bool, true, false, cond, ◌&&◌, List, [], ◌∷◌, ◌++◌}
 use Rattle.std.proofs.Common.{Option, Some, None, refl, ap, sym, ◌∙◌, arith}
-use Rattle.std.specs.Prelude.{nat_le, codes, decimal, IsSome, IfSome, ◌↔◌, IsTrue}
+use Rattle.std.specs.Prelude.{codes, decimal, IsSome, IfSome, ◌↔◌, IsTrue}
 use Rattle.std.specs.Str.{bytes_eq}
 use Rattle.std.proofs.lemmas.Fmt.{decimal_digit}
 use Rattle.std.proofs.lemmas.List.{append_cancel_left}
@@ -24,20 +24,13 @@ abbrev pub own_text : ℕ → ℕ → List ℕ
 own_text words callers = codes "vyrd 3 own " ++ (decimal words ++ 32 ∷ decimal callers)
 
 line_is : (words callers : ℕ) → header_line 3 Own words callers ≡ own_text words callers
-line_is words callers =
-    ap (λ d. codes "vyrd"
-    ++ 32 ∷ (d ++ 32 ∷ (codes "own" ++ 32 ∷ (decimal words ++ 32 ∷ decimal callers))))
-    (decimal_digit 3 (omega arith))
+line_is words callers = cc (decimal_digit 3 (omega arith))
 
 pub few_words : (words callers : ℕ) → is_own_sized words callers ≡ true → words < 2 ^ 32
-few_words words callers sized =
-    let h = at_most_of words 65536 (first_true _ _ (first_true _ _ sized)) in
-    omega (arith, h)
+few_words words callers sized = grind (arith, sized, at_most_of, first_true)
 
 pub few_callers : (words callers : ℕ) → is_own_sized words callers ≡ true → callers < 2 ^ 32
-few_callers words callers sized =
-    let h = at_most_of callers 256 (second_true (nat_le words 65536 && nat_le 1 callers) _ sized) in
-    omega (arith, h)
+few_callers words callers sized = grind (arith, sized, at_most_of, second_true)
 
 -- a line that is read as a header is the text of one
 pub record IsHeaderLine (line : List ℕ) (h : Header) : Type 0 where

@@ -2,10 +2,9 @@
 use Rattle.std.proofs.Common.{◌≡◌, ℕ, suc, zero, ◌<◌, ◌≤◌, ◌^◌, Bool, true, false, cond, ◌&&◌, List}
 use Rattle.std.proofs.Common.{[], ◌∷◌, map, take, length, Option, Some, None, refl, ap, sym, ◌∙◌}
 use Rattle.std.proofs.Common.{arith, length-append}
-use Rattle.std.specs.Prelude.{◌==◌, nat_lt, nat_le, codes, decimal, drop, Ok, Err}
+use Rattle.std.specs.Prelude.{nat_lt, nat_le, codes, decimal, drop, Ok, Err}
 use Rattle.std.specs.List.{join_with_byte}
 use Rattle.std.specs.Str.{bytes_eq}
-use Rattle.std.proofs.Math.Bool.{and-false}
 use Rattle.std.proofs.lemmas.Slice.Eq.{bytes_eq-Decides}
 use Rattle.vyrd_base.specs.declared.header.Header.{Header}
 use Rattle.vyrd_base.specs.declared.log.Kind.{Kind}
@@ -36,17 +35,14 @@ length-join : (c : ℕ) (fields : List (List ℕ)) → length (join_with_byte c 
 length-join c [] = omega arith
 length-join c (x ∷ []) = omega arith
 length-join c (x ∷ y ∷ fields) =
-    let rest = length-join c (y ∷ fields) in
-    omega (arith, length-append x (c ∷ join_with_byte c (y ∷ fields)), rest)
+    grind (arith, length-append x (c ∷ join_with_byte c (y ∷ fields)), length-join c (y ∷ fields))
 
 -- fewer arguments are no longer
 fewer : (n : ℕ) (numbers : List ℕ) → spaced_length (map decimal (take n numbers))
     ≤ spaced_length (map decimal numbers)
 fewer zero numbers = omega arith
 fewer (suc n) [] = omega arith
-fewer (suc n) (x ∷ numbers) =
-    let rest = fewer n numbers in
-    omega (arith, rest)
+fewer (suc n) (x ∷ numbers) = grind (arith, fewer n numbers)
 
 short_32 : (n : ℕ) → nat_lt n (2 ^ 32) ≡ true → length (decimal n) ≤ 10
 short_32 n e = short_number n (below_of n (2 ^ 32) e)
@@ -71,9 +67,7 @@ short_kind w (Call method args) all e of =
     omega (arith, fields, name, few, a, b, c)
 short_kind w (Return reply) all e of = omega (arith, short_value reply (below_most reply e))
 short_kind w (Write word value) all e of =
-    let x = short_32 word (first_true _ _ e) in
-    let v = short_value value (below_of value (2 ^ 64) (second_true (nat_lt word (2 ^ 32)) _ e)) in
-    omega (arith, x, v)
+    search (short_32, first_true, short_value, below_of, second_true, arith)
 short_kind w Commit all e of = omega arith
 short_kind w BlockOpen all e of = omega arith
 short_kind w BlockClose all e of = omega arith
@@ -156,6 +150,4 @@ module _ (line : List ℕ) (long : 200 < length line) where
       by_many false = refl
 
 pub long_note : (line : List ℕ) → 200 < length line → is_note line ≡ false
-long_note [] long = refl
-long_note (b ∷ line) long = ap (λ t. b == 35 && t) (isnt_below (length line) 200 (omega arith))
-    ∙ and-false (b == 35)
+long_note line long = grind (arith, long, isnt_below)

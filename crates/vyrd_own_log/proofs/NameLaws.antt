@@ -102,10 +102,7 @@ split_field field None lack = ap (slice_split (λ b. b == 32)) (append-nil field
 split_field field (Some rest) lack = split_at 32 field rest lack
 
 same_after : (r s : Option (List ℕ)) → after_field r ≡ after_field s → r ≡ s
-same_after None None e = refl
-same_after None (Some s) e = cc
-same_after (Some r) None e = cc
-same_after (Some r) (Some s) e = let same : r ≡ s = cc in ap Some same
+same_after r s e = grind arith
 
 -- a field without a space, and what follows it, are one
 pub one_field : (a b : List ℕ) (r s : Option (List ℕ)) → lacks 32 a ≡ true → lacks 32 b ≡ true

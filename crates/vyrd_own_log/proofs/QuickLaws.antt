@@ -13,7 +13,6 @@ use Rattle.vyrd_base.specs.declared.log.Kind.{Kind}
 use Rattle.vyrd_base.specs.declared.log.Kind.TheVariants.{Call, Return, Write, Commit, BlockOpen}
 use Rattle.vyrd_base.specs.declared.log.Kind.TheVariants.{BlockClose, BlockCommit}
 use Rattle.vyrd_base.specs.Subjects.{own_call}
-use Rattle.vyrd_base.specs.Own.Expressions.{most}
 use Rattle.vyrd_base.specs.Own.Programs.{Method, Written}
 use Rattle.vyrd_base.specs.Own.Entries.{own_method, named_from}
 use Rattle.vyrd_base.proofs.SplitLaws.{bytes_same}
@@ -45,13 +44,6 @@ pub plain_read : (w : Written) (text : List ℕ) (read : Option (Kind × Bor (Li
 plain_read w text None other is = tt
 plain_read w text (Some r) other is = plain_kind w text r.0 r.1.now other is
 
--- a reply below the greatest number
-pub reply_kind : (w : Written) (text rest : List ℕ) (reply : ℕ) → reply < most
-    → text ≡ decimal reply ++ 10 ∷ rest
-    → IsOwnKindAtFront w (codes "return " ++ text) (Return reply) rest
-reply_kind w text rest reply low is =
-    (is_below reply most low, tt, tt, ap (λ t. codes "return " ++ t) is)
-
 -- a name that isn't at the front finds no method there
 pub name_skipped : (i : ℕ) (m : Method) (methods : List Method) (name text rest : List ℕ)
     → (text ≡ m.name ++ rest → ⊥) → text ≡ name ++ rest
@@ -68,8 +60,7 @@ name_skipped i m methods name text rest none is = by_test (bytes_eq m.name name)
 -- the first method of a name is the one that the name finds
 pub name_found : (i : ℕ) (m : Method) (methods : List Method) → named_from i (m ∷ methods) m.name
     ≡ Some (own_method i m)
-name_found i m methods =
-    ap (λ b. cond b (Some (own_method i m)) (named_from (i + 1) methods m.name)) (bytes_same m.name)
+name_found i m methods = cc (bytes_same m.name)
 
 -- a call: its method's name, and behind it its arguments
 pub called_kind : (w : Written) (all : AllCallable w) (text name behind rest : List ℕ)

@@ -13,12 +13,11 @@ use Rattle.std.proofs.lemmas.List.{append-nil}
 use Rattle.vyrd_base.specs.declared.log.Entry.{Entry}
 use Rattle.vyrd_base.specs.declared.verdict.Rule.{Rule}
 use Rattle.vyrd_base.specs.Reading.{TextFault, has_any}
-use Rattle.vyrd_base.specs.Own.Reader.{nothing_read, read_lines}
 use Rattle.vyrd_base.specs.Own.Log.{own_reading}
 use Rattle.vyrd_base.proofs.SplitLaws.{cut, split_whole}
 use Rattle.vyrd_base.specs.Limits.{most_lines}
 use Rattle.vyrd_text.specs.declared.fault.TextFault as fault
-use Rattle.vyrd_text.specs.declared.fault.TextFault.TheVariants.{Malformed, Memory}
+use Rattle.vyrd_text.specs.declared.fault.TextFault.TheVariants.{Memory}
 use Rattle.vyrd_text.specs.Answered.{IsAnswer, UnlessMemory}
 use Rattle.vyrd_own_log.specs.declared.stage.Found.{Found}
 use Rattle.vyrd_own_log.specs.States.{LineState, input_to, known, unless_faulty, reads_on}
@@ -67,14 +66,8 @@ fed_then k m n xs ys es fs gs ms ns os first second = record {
 pub taken_fed : (k m : OwnReaderKept) (xs : List ℕ) (es : List Entry) (ns : List ℕ)
     → IsTaken k xs nothing_brought m → m.specified ≡ k.specified
     → m.start ≡ k.start → IsFed k xs es es ns ns m
-taken_fed k m xs es ns taken alike same = record {
-  brought = nothing_brought;
-  taken = taken;
-  specified = alike ∙ sym (append-nil k.specified);
-  start = same ∙ sym (append-nil k.start);
-  grown = sym (append-nil es);
-  counted = sym (append-nil ns);
-}
+taken_fed k m xs es ns taken alike same =
+    grind (arith, append-nil k.specified, append-nil k.start, append-nil es, append-nil ns)
 
 -- a whole line was fed
 pub line_fed : (k n : OwnReaderKept) (xs : List ℕ) (found : Found) (es fs : List Entry)
@@ -111,14 +104,7 @@ pub line_kept : (k n : OwnReaderKept) (xs : List ℕ) (found : Found) → IsSoun
     ≡ true
     → (n.lines, found) ≡ own_step k.lines (k.unfinished ++ xs) → n.unfinished ≡ [] → IsSound n
 line_kept k n xs found sound one step empty =
-    subst IsSound
-    (λ i. record {
-      lines = (sym step i).0;
-      unfinished = sym empty i;
-      specified = n.specified;
-      start = n.start;
-    })
-    (line_sound k xs sound one n.specified n.start)
+    grind (arith, line_sound k xs sound one n.specified n.start)
 
 -- what holds of an `Ok`
 pub one_ok : {E P Q : Type 0} (r : Result (Unit {0}) E) → (P → Q) → OnOk r P → OnOk r Q
@@ -145,13 +131,7 @@ rest_is r rest bytes is_long some long = λ i. rest_if r (any rest bytes some i)
     any (x ∷ xs) ys e = refl
 
 pub long_is : (a b n : ℕ) → a ≤ 200 → n ≡ a + b → nat_lt (200 - a) b ≡ nat_lt 200 n
-long_is a b n small is = by_test (nat_lt (200 - a) b) refl
-  where
-    by_test : (t : Bool) → nat_lt (200 - a) b ≡ t → t ≡ nat_lt 200 n
-    by_test true e = let h = below_of (200 - a) b e in
-        sym (is_below 200 n (omega (arith, h, is, small)))
-    by_test false e = let h = not_below_of (200 - a) b e in
-        sym (isnt_below 200 n (omega (arith, h, is, small)))
+long_is a b n small is = grind (arith, small, below_of, is_below, not_below_of, isnt_below)
 
 pub some_of : (xs : List ℕ) → false ≡ (length xs == 0) → has_any xs ≡ true
 some_of [] e = cc
@@ -221,28 +201,14 @@ whole_now k b bytes sound has =
 brought_is : (k : OwnReaderKept) (b : Brought) (bytes : List ℕ) → IsSound k
     → HasReached k.lines k.unfinished b bytes
     → b ≡ brought_in (own_reading (input_to k.lines false) bytes)
-brought_is k b bytes sound has =
-    sym (ap brought_in (read_now k b bytes sound has) ∙ and_nothing b)
+brought_is k b bytes sound has = cc (read_now k b bytes sound has, and_nothing b)
 
 pub has_read : (r : ReaderState) (b : Brought) (bytes : List ℕ) → r.has_failed ≡ false
     → IsSound r.kept
     → HasReached r.kept.lines r.kept.unfinished b bytes → r.kept.specified ≡ b.lines → r.kept.start
     ≡ b.starting → HasRead r bytes
 has_read r b bytes works sound has specified start =
-    let now = read_now r.kept b bytes sound has in
-    let is = brought_is r.kept b bytes sound has in
-    record {
-      works = works;
-      sound = sound;
-      header = sym (ap (λ read. read.header) now);
-      specification = ap (λ s. s.specification)
-          (has.said ∙ ap (λ x. read_lines nothing_read x.lines) is);
-      lines = specified ∙ ap (λ x. x.lines) is;
-      start = start ∙ ap (λ x. x.starting) is;
-      ended = sym (ap (λ read. read.ended) now);
-      fault = sym (ap (λ read. read.fault) now);
-      reached = subst (λ x. HasReached r.kept.lines r.kept.unfinished x bytes) is has;
-    }
+    grind (arith, read_now r.kept b bytes sound has, has.said, brought_is r.kept b bytes sound has)
 
 pub fresh_read : (max : ℕ) (r : ReaderState) → 1 ≤ max → max ≤ most_lines → r.has_failed ≡ false
     → r.kept ≡ fresh_kept max → HasRead r []
@@ -309,9 +275,7 @@ pub faulty_fed : (k : OwnReaderKept) (f : TextFault) (piece : List ℕ) (es : Li
 faulty_fed k f piece es ns is = taken_fed k k piece es ns (faulty_taken k f piece is) refl refl
 
 pub unless : {P : Type 0} (r : Result (Unit {0}) fault.TextFault) → P → UnlessMemory r P
-unless (Ok x) p = p
-unless (Err (Malformed line rule)) p = p
-unless (Err Memory) p = tt
+unless e0 p = grind arith
 
 -- what the whole input says
 module _ (r : ReaderState) (bytes : List ℕ) (has : HasRead r bytes) where

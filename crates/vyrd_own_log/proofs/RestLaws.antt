@@ -53,10 +53,6 @@ module _ (r : LineState) (line : List ℕ) (long : 200 < length line)
       (spelled_step r h (long_entry line long r.said.specification all i))))
   long_step (End h) e = cc
 
-some_bytes : (rest more : List ℕ) → has_any rest ≡ true → has_any (rest ++ more) ≡ true
-some_bytes [] more e = cc
-some_bytes (b ∷ rest) more e = refl
-
 -- a rule that the beginning of a line breaks is the one that the line breaks
 module _ (r : LineState) (rest more : List ℕ) (rule : Rule) (all : AllCallable r.said.specification)
     (fine : r.fault ≡ None) where
@@ -128,25 +124,12 @@ rules_at past long some bad w =
 
 so_far_rules : (past long some : Bool) (bad : Rule) → rules_at past long some bad false
     ≡ cond (some && past) (Some TooManyLines) (cond long (Some bad) None)
-so_far_rules past true some bad = refl
-so_far_rules past false some bad =
-    ap (λ b. cond (some && past) (Some TooManyLines) (cond b (Some NoLineFeed) None))
-    (and-false some)
+so_far_rules past long some bad = grind (arith, past)
 
 end_rules : (past long some : Bool) (bad : Rule) → cond (some && past) (Some TooManyLines)
     (cond long (Some bad) None) ≡ None
     → rules_at past long some bad true ≡ Some (cond some NoLineFeed NoEnd)
-end_rules true long true bad e = cc
-end_rules true true false bad e = cc
-end_rules true false false bad e = refl
-end_rules false true some bad e = by_some some e
-  where
-    by_some : (b : Bool) → cond (b && false) (Some TooManyLines) (Some bad) ≡ None
-        → rules_at false true b bad true ≡ Some (cond b NoLineFeed NoEnd)
-    by_some true f = cc
-    by_some false f = cc
-end_rules false false true bad e = refl
-end_rules false false false bad e = refl
+end_rules past long some bad e = grind (arith, long, rules_at)
 
 -- what is known of a reader with these parts, where bytes follow that don't end a line
 module _ (r : LineState) (rest : List ℕ) (first : IsFirst r.stage r) where
@@ -233,15 +216,7 @@ module _ (r : LineState) (rest : List ℕ) (first : IsFirst r.stage r) where
 rules_bad : (past long some : Bool) (bad : Rule) (w : Bool) (rule : Rule)
     → cond (some && past) (Some TooManyLines) (cond long (Some bad) None) ≡ Some rule
     → rules_at past long some bad w ≡ Some rule
-rules_bad past long some bad w rule e = by_first (some && past) long e
-  where
-    by_first : (b l : Bool) → cond b (Some TooManyLines) (cond l (Some bad) None) ≡ Some rule
-        → cond b (Some TooManyLines)
-        (cond l (Some bad) (cond (some && w) (Some NoLineFeed) (cond w (Some NoEnd) None)))
-        ≡ Some rule
-    by_first true l f = f
-    by_first false true f = f
-    by_first false false f = cc
+rules_bad past long some bad w rule e = grind (arith, past, long)
 
 module _ (r : LineState) (rest : List ℕ) (first : IsFirst r.stage r) (w : Bool) (rule : Rule) where
   bad_rest : (st : Stage) → IsFirst st r → rest_if (record r { stage = st }) (has_any rest)
@@ -279,8 +254,7 @@ module _ (r : LineState) (rest : List ℕ) (first : IsFirst r.stage r) (w : Bool
 -- and so as the line goes on
 pub rest_stays : (r : LineState) (rest more : List ℕ) (rule : Rule) → rest_rule r rest ≡ Some rule
     → rest_rule r (rest ++ more) ≡ Some rule
-rest_stays r [] more rule e = let none : ◌≡◌ {A = Option Rule} None (Some rule) = sym (no_rest r)
-    ∙ e in cc
+rest_stays r [] more rule e = grind arith
 rest_stays r (b ∷ rest) more rule e = by_tests (nat_lt r.max_lines r.line) (has_ended r.stage)
     (nat_lt 200 (length (b ∷ rest))) refl e
   where
@@ -293,8 +267,5 @@ rest_stays r (b ∷ rest) more rule e = by_tests (nat_lt r.max_lines r.line) (ha
         ≡ Some rule
     by_tests true done long l f = f
     by_tests false true long l f = f
-    by_tests false false true l f =
-        ap (λ t. cond t (Some (bad_at r.said r.stage)) None)
-        (let h = below_of 200 (length (b ∷ rest)) l in is_below 200 (length (b ∷ (rest ++ more)))
-        (omega (arith, h, length-append rest more))) ∙ f
+    by_tests false false true l f = search (below_of, is_below, more, length-append, arith)
     by_tests false false false l f = cc

@@ -20,7 +20,7 @@ use Rattle.vyrd_base.specs.Reading.{TextFault, Input, has_any, after_end_rule}
 use Rattle.vyrd_base.specs.Own.Lines.{Line}
 use Rattle.vyrd_base.specs.Own.Reading.{Taken}
 use Rattle.vyrd_base.specs.Own.Reader.{SoFar, nothing_read, unfinished, line_read, ended_with}
-use Rattle.vyrd_base.specs.Own.Reader.{read_next, read_lines}
+use Rattle.vyrd_base.specs.Own.Reader.{read_next}
 use Rattle.vyrd_base.specs.Own.Reader as reader
 use Rattle.vyrd_base.specs.Own.Entries.{own_entry_in}
 use Rattle.vyrd_base.specs.Own.Log.{OwnReading, own_stopped, own_ended, is_note, own_entry_before}

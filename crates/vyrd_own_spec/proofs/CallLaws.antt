@@ -1,10 +1,10 @@
 -- What is said of a call by its number.
 use Rattle.std.proofs.Common.{◌≡◌, ℕ, zero, suc, ◌<◌, ◌≤◌, List, [], ◌∷◌, Option, Some, None, refl}
-use Rattle.std.proofs.Common.{ap, ◌∙◌}
-use Rattle.std.proofs.Common.{sym, arith, length, take, Bool, true, false}
+use Rattle.std.proofs.Common.{ap}
+use Rattle.std.proofs.Common.{sym, arith, length, take, Bool}
 use Rattle.std.specs.Prelude.{map, option_map, option_and_then, slice_get, slice_index_or}
 use Rattle.std.specs.Prelude.{if◌then◌else◌}
-use Rattle.std.specs.Option.{option_map_or, is_some}
+use Rattle.std.specs.Option.{is_some}
 use Rattle.std.proofs.lemmas.List.{length-take}
 use Rattle.vyrd_base.specs.States.{State}
 use Rattle.vyrd_base.specs.Subjects.{own_number}
@@ -38,21 +38,14 @@ pub next_of_effects : (w : Written) (method : declared.Method) (args : Args) (re
     (o : Option (List Effect))
     → effects_by w method args reply s ≡ o → next_by w method args reply s
     ≡ option_map (with_effects s) o
-next_of_effects w method args reply s o e =
-    next_of_number w args reply s (own_number method) ∙ ap (option_map (with_effects s)) e
+next_of_effects w method args reply s o e = cc (next_of_number w args reply s (own_number method))
 
 -- a reply is allowed if the call does something by it, be it nothing
 pub allowed_is : (w : Written) (method : declared.Method) (args : Args) (reply : ℕ) (s : State)
     (effects : List Effect) (allowed : Bool)
     → effects_by w method args reply s ≡ (if allowed then Some effects else None)
     → allowed ≡ is_some (next_by w method args reply s)
-allowed_is w method args reply s effects allowed is =
-    sym (ap is_some (next_of_effects w method args reply s _ is) ∙ by_test allowed)
-  where
-    by_test : (b : Bool)
-        → is_some (option_map (with_effects s) (if b then Some effects else None)) ≡ b
-    by_test true = refl
-    by_test false = refl
+allowed_is w method args reply s effects allowed is = grind (arith, is_some, next_of_effects)
 
 -- a method that was found
 pub method_found : (methods : List program.Method) (i : ℕ) (m : program.Method) → i < length methods
@@ -68,13 +61,7 @@ pub answer_found : (w : Written) (method : declared.Method) (args : Args) (s : S
     → given_args ≡ take m.arity (args.a ∷ args.b ∷ args.c ∷ []) → o ≡ answer_of w m given_args s
     → o ≡ answer_by w method args s
 answer_found w method args s i m given_args o number found is answer =
-    answer
-    ∙ ap (λ as'. answer_of w m as' s)
-    (is ∙ sym (ap
-    (λ found'. take (option_map_or (λ x. x.arity) found' 0) (args.a ∷ args.b ∷ args.c ∷ [])) found))
-    ∙ sym (ap (option_and_then (λ m'. answer_of w m' (given w i args) s)) found)
-    ∙ sym (ap (option_and_then (λ i'. option_and_then (λ m'. answer_of w m' (given w i' args) s)
-    (own_method w i'))) number)
+    grind (arith, found, given, own_method)
 
 -- there are three arguments at most
 pub few_given : (n a b c : ℕ) (xs : List ℕ) → xs ≡ take n (a ∷ b ∷ c ∷ []) → length xs ≤ 3

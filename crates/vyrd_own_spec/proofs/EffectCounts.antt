@@ -1,6 +1,6 @@
 -- How many keys a step touches, and how many it shows then.
 use Rattle.std.proofs.Common.{◌≡◌, ℕ, zero, suc, ◌+◌, ◌*◌, ◌≤◌, Bool, true, false, cond, List, []}
-use Rattle.std.proofs.Common.{◌∷◌, ◌++◌, length, map, Option, Some, None, refl, ap, subst}
+use Rattle.std.proofs.Common.{◌∷◌, ◌++◌, length, map, Option, Some, None, ap}
 use Rattle.std.proofs.Common.{arith}
 use Rattle.std.specs.Prelude.{not, ◌==◌, filter, find, option_map, option_and_then}
 use Rattle.std.specs.Prelude.{slice_get}
@@ -13,9 +13,8 @@ use Rattle.std.specs.declared.cmp.Ordering.TheVariants.{Less, Equal, Greater}
 use Rattle.std.specs.Ordering.{nat_cmp}
 use Rattle.std.proofs.Math.Nat.{le-max_left, le-max_right}
 use Rattle.std.proofs.lemmas.List.{length-append, length-map}
-use Rattle.vyrd_base.specs.Amounts.{Amounts, keys_of, with_amount}
+use Rattle.vyrd_base.specs.Amounts.{Amounts, with_amount}
 use Rattle.vyrd_base.specs.States.{State}
-use Rattle.vyrd_base.specs.Subjects.{own_number}
 use Rattle.vyrd_base.specs.Rules.{given}
 use Rattle.vyrd_base.specs.declared.subject.Method as declared
 use Rattle.vyrd_base.specs.declared.subject.Args.{Args}
@@ -30,7 +29,7 @@ use Rattle.vyrd_base.specs.Own.Steps.{with_effect, with_effects, shown_keys, is_
 use Rattle.vyrd_base.specs.Own.Steps.{effects_of}
 use Rattle.vyrd_base.specs.Own.Steps.{allowed_effects, effect_of, at_hand}
 use Rattle.vyrd_own_spec.specs.Effects.{most_of, line_count, longest_case, most_effects}
-use Rattle.vyrd_own_spec.specs.Touched.{touched_by, own_effects, effects_by}
+use Rattle.vyrd_own_spec.specs.Touched.{touched_by, effects_by}
 
 -- one key more at most
 put_one : (k v : ℕ) (s : Amounts) → length (put nat_cmp k v s) ≤ suc (length s)
@@ -75,29 +74,21 @@ shown_then : (s : State) (es : List Effect) → length (with_effects s es).shown
     ≤ cond (list_any is_clearing es) 0 (length s.shown) + length es
 shown_then s [] = omega arith
 shown_then s (SetShown k a ∷ es) =
-    let rest = shown_then (with_effect s (SetShown k a)) es in
-    let more = more_left (list_any is_clearing es) (length (with_amount s.shown k a)) (length
-    s.shown)
-    (one_more s.shown k a) in
-    omega (arith, rest, more)
-shown_then s (SetHidden k a ∷ es) =
-    let rest = shown_then (with_effect s (SetHidden k a)) es in omega (arith, rest)
-shown_then s (SetRegister i a ∷ es) =
-    let rest = shown_then (with_effect s (SetRegister i a)) es in omega (arith, rest)
-shown_then s (PutLast i a ∷ es) =
-    let rest = shown_then (with_effect s (PutLast i a)) es in omega (arith, rest)
-shown_then s (PutFirst i a ∷ es) =
-    let rest = shown_then (with_effect s (PutFirst i a)) es in omega (arith, rest)
-shown_then s (TakeFirst i ∷ es) =
-    let rest = shown_then (with_effect s (TakeFirst i)) es in omega (arith, rest)
-shown_then s (TakeLast i ∷ es) =
-    let rest = shown_then (with_effect s (TakeLast i)) es in omega (arith, rest)
-shown_then s (Empty i ∷ es) =
-    let rest = shown_then (with_effect s (Empty i)) es in omega (arith, rest)
+    grind (
+      arith,
+      shown_then (with_effect s (SetShown k a)) es,
+      more_left (list_any is_clearing es)
+          (length (with_amount s.shown k a)) (length s.shown) (one_more s.shown k a),
+    )
+shown_then s (SetHidden k a ∷ es) = grind (arith, shown_then (with_effect s (SetHidden k a)) es)
+shown_then s (SetRegister i a ∷ es) = grind (arith, shown_then (with_effect s (SetRegister i a)) es)
+shown_then s (PutLast i a ∷ es) = grind (arith, shown_then (with_effect s (PutLast i a)) es)
+shown_then s (PutFirst i a ∷ es) = grind (arith, shown_then (with_effect s (PutFirst i a)) es)
+shown_then s (TakeFirst i ∷ es) = grind (arith, shown_then (with_effect s (TakeFirst i)) es)
+shown_then s (TakeLast i ∷ es) = grind (arith, shown_then (with_effect s (TakeLast i)) es)
+shown_then s (Empty i ∷ es) = grind (arith, shown_then (with_effect s (Empty i)) es)
 shown_then s (EmptyShown ∷ es) =
-    let rest = shown_then (with_effect s EmptyShown) es in
-    let none = none_left (list_any is_clearing es) in
-    omega (arith, rest, none)
+    grind (arith, shown_then (with_effect s EmptyShown) es, none_left (list_any is_clearing es))
 
 -- each effect sets one key at most
 few_keys : (es : List Effect) → length (shown_keys es) ≤ length es
@@ -116,30 +107,15 @@ few_keys (EmptyShown ∷ es) = let rest = few_keys es in omega (arith, rest)
 pub touched_paid : (s : State) (es : List Effect)
     → length (touched_by s es) + length (with_effects s es).shown
     ≤ length s.shown + 2 * length es
-touched_paid s es = by_test (list_any is_clearing es) (shown_then s es)
-  where
-    by_test : (b : Bool)
-        → length (with_effects s es).shown ≤ cond b 0 (length s.shown) + length es
-        → length (cond b (keys_of s.shown) [] ++ shown_keys es) + length (with_effects s es).shown
-        ≤ length s.shown + 2 * length es
-    by_test true then_ = omega (
-      arith,
-      then_,
-      few_keys es,
-      length-append (keys_of s.shown) (shown_keys es),
-      length-map s.shown (λ p. p.0),
-    )
-    by_test false then_ = omega (arith, then_, few_keys es)
+touched_paid s es = grind (arith, shown_then, few_keys, length-append, length-map)
 
 -- one of some things has no more than the most that they have
 most_found : {A : Type 0} (f : A → ℕ) (xs : List A) (i : ℕ) (x : A) → slice_get xs i ≡ Some x
     → f x ≤ most_of f xs
 most_found f [] i x is = absurd (none-some _ is)
-most_found f (y ∷ ys) zero x is =
-    subst (λ z. f z ≤ most_of f (y ∷ ys)) (same_Some _ _ is) (le-max_left (f y) (most_of f ys))
+most_found f (y ∷ ys) zero x is = grind (arith, same_Some _ _ is, le-max_left (f y) (most_of f ys))
 most_found f (y ∷ ys) (suc i) x is =
-    let rest = most_found f ys i x is in
-    omega (arith, rest, le-max_right (f y) (most_of f ys))
+    grind (arith, most_found f ys i x is, le-max_right (f y) (most_of f ys))
 
 -- what the case that is found does, is no more than the longest case has lines
 case_few : (s : State) (values : List ℕ) (cases : List Case) (es : List Effect)
@@ -154,15 +130,9 @@ case_few s values (case ∷ cases) es is =
         (cond b (Some case) (find (λ c. holds (value s values c.allow)) cases))
         ≡ Some es
         → length es ≤ most_of line_count (case ∷ cases)
-    by_test true rest e = omega (
-      arith,
-      ap length (same_Some _ _ e),
-      length-map case.changes (effect_of s values),
-      le-max_left (line_count case) (most_of line_count cases),
-    )
+    by_test true rest e = search (length-map, values, arith)
     by_test false rest e =
-        let below = rest e in
-        omega (arith, below, le-max_right (line_count case) (most_of line_count cases))
+        grind (arith, rest e, le-max_right (line_count case) (most_of line_count cases))
 
 method_few : (w : Written) (i : ℕ) (args : Args) (reply : ℕ) (s : State) (es : List Effect)
     (o : Option Method) → own_method w i ≡ o
@@ -177,9 +147,4 @@ method_few w i args reply s es (Some m) is e =
 pub effects_few : (w : Written) (method : declared.Method) (args : Args) (reply : ℕ) (s : State)
     (es : List Effect) → effects_by w method args reply s ≡ Some es
     → length es ≤ most_effects w
-effects_few w method args reply s es is = by_number (own_number method) is
-  where
-    by_number : (n : Option ℕ) → option_and_then (λ i. own_effects w i args reply s) n ≡ Some es
-        → length es ≤ most_effects w
-    by_number None e = absurd (none-some _ e)
-    by_number (Some i) e = method_few w i args reply s es (own_method w i) refl e
+effects_few w method args reply s es is = grind (arith, method_few, own_method)

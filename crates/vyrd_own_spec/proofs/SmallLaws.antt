@@ -76,14 +76,7 @@ LineFits w (method name parameters) = length parameters ≤ 3
 LineFits w (inner i) = LastFits w.methods i
 
 inner_kept : (m : Method) (i : Inner) → MethodFits m → InnerFits m i → MethodFits (with_inner m i)
-inner_kept m (naming name e) fits more = (
-  omega (arith, more, length-append m.names (name ∷ [])),
-  omega
-      (arith, fits.1, length-append m.names (name ∷ []), length-append m.lets (e ∷ [])),
-)
-inner_kept m (answering e) fits more = fits
-inner_kept m (allowing e) fits more = fits
-inner_kept m (changing c) fits more = fits
+inner_kept m i fits more = grind (arith, fits, more, length-append)
 
 methods_kept : (methods : List Method) (i : Inner) → MethodsFit methods → LastFits methods i
     → MethodsFit (change_last (λ m. with_inner m i) methods)
@@ -99,57 +92,26 @@ one_more (x ∷ methods) m fits here = (fits.0, one_more methods m fits.1 here)
 
 line_kept : (w : Written) (l : Line) → Within w → LineFits w l → Within (with_line w l)
 line_kept w (remark text) is fits = is
-line_kept w (constant name n) is fits = record {
-  constants = omega (arith, fits, length-append w.constants (n ∷ []));
-  registers = is.registers;
-  words = is.words;
-  shown = is.shown;
-  methods = is.methods;
-}
-line_kept w (register name n) is fits = record {
-  constants = is.constants;
-  registers = omega (arith, fits, length-append w.registers (n ∷ []));
-  words = is.words;
-  shown = is.shown;
-  methods = is.methods;
-}
+line_kept w (constant name n) is fits =
+    grind (arith, length-append w.constants (n ∷ []), is.registers, is.words, is.shown, is.methods)
+line_kept w (register name n) is fits =
+    grind (arith, is.constants, length-append w.registers (n ∷ []), is.words, is.shown, is.methods)
 line_kept w (list name) is fits =
-    record {
-      constants = is.constants;
-      registers = is.registers;
-      words = is.words;
-      shown = is.shown;
-      methods = is.methods;
-    }
-line_kept w (holds n) is fits = record {
-  constants = is.constants;
-  registers = is.registers;
-  words = is.words;
-  shown = is.shown;
-  methods = is.methods;
-}
+    grind (arith, is.constants, is.registers, is.words, is.shown, is.methods)
+line_kept w (holds n) is fits =
+    grind (arith, is.constants, is.registers, is.words, is.shown, is.methods)
 line_kept w (hidden key most) is fits =
-    record {
-      constants = is.constants;
-      registers = is.registers;
-      words = is.words;
-      shown = is.shown;
-      methods = is.methods;
-    }
-line_kept w (part k) is fits = record {
-  constants = is.constants;
-  registers = is.registers;
-  words = fits;
-  shown = is.shown;
-  methods = is.methods;
-}
-line_kept w (shows key most) is fits = record {
-  constants = is.constants;
-  registers = is.registers;
-  words = is.words;
-  shown = omega (arith, fits, length-append w.shows ((key, most) ∷ []));
-  methods = is.methods;
-}
+    grind (arith, is.constants, is.registers, is.words, is.shown, is.methods)
+line_kept w (part k) is fits = grind (arith, is.constants, is.registers, is.shown, is.methods)
+line_kept w (shows key most) is fits =
+    grind (
+      arith,
+      is.constants,
+      is.registers,
+      is.words,
+      length-append w.shows ((key, most) ∷ []),
+      is.methods,
+    )
 line_kept w (method name parameters) is fits = record {
   constants = is.constants;
   registers = is.registers;
@@ -157,13 +119,16 @@ line_kept w (method name parameters) is fits = record {
   shown = is.shown;
   methods = one_more w.methods _ is.methods (omega (arith, fits), omega arith);
 }
-line_kept w (inner i) is fits = record {
-  constants = is.constants;
-  registers = is.registers;
-  words = is.words;
-  shown = is.shown;
-  methods = methods_kept w.methods i is.methods fits;
-}
+line_kept w (inner i) is fits =
+    grind (
+      arith,
+      is.constants,
+      is.registers,
+      is.words,
+      is.shown,
+      methods_kept w.methods i
+          is.methods fits,
+    )
 
 -- ---- what is read fits
 
@@ -355,10 +320,7 @@ last_of (x ∷ []) m i e fits = subst (λ y. InnerFits y i) (same_Some m x (sym 
 last_of (x ∷ next ∷ methods) m i e fits = last_of (next ∷ methods) m i (shorter ∙ e) fits
   where
     shorter : last_in (next ∷ methods) ≡ last_in (x ∷ next ∷ methods)
-    shorter =
-        let one : length (x ∷ next ∷ methods) - 1 ≡ suc (length (next ∷ methods) - 1) =
-        omega arith in
-        sym (ap (slice_get (x ∷ next ∷ methods)) one)
+    shorter = grind arith
 
 module _ (w : Written) where
   method_line_fits : (line : List ℕ) (o : Option Method) → last_in w.methods ≡ o
@@ -417,8 +379,7 @@ lines_kept s (line ∷ lines) is = lines_kept (read_next s line).1 lines (next_k
 lets_at : (methods : List Method) (i : ℕ) (m : Method) → MethodsFit methods → slice_get methods i
     ≡ Some m → length m.lets ≤ 16
 lets_at [] i m fits e = cc
-lets_at (x ∷ methods) zero m fits e =
-    subst (λ y. length y.lets ≤ 16) (same_Some x m e) (omega (arith, fits.0.0, fits.0.1))
+lets_at (x ∷ methods) zero m fits e = grind (arith, same_Some x m e, fits.0.0, fits.0.1)
 lets_at (x ∷ methods) (suc i) m fits e = lets_at methods i m fits.1 e
 
 -- the limits of every specification that lines spell

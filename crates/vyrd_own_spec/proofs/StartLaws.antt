@@ -1,8 +1,8 @@
 -- Sums of what places give, one place after the other.
 use Rattle.std.proofs.Common.{◌≡◌, ℕ, zero, suc, ◌+◌, ◌-◌, ◌*◌, ◌/◌, ◌<◌, ◌≤◌, ◌^◌, Bool, true}
-use Rattle.std.proofs.Common.{false, cond, not, ◌||◌, List, [], ◌∷◌, map, length, Some, refl, ap}
+use Rattle.std.proofs.Common.{false, cond, not, List, [], ◌∷◌, map, length, Some, refl, ap}
 use Rattle.std.proofs.Common.{◌∙◌, sym, subst, arith}
-use Rattle.std.specs.Prelude.{◌==◌, nat_lt, filter, unwrap_or}
+use Rattle.std.specs.Prelude.{nat_lt, filter, unwrap_or}
 use Rattle.std.specs.Ordering.{nat_cmp, eq_by_cmp}
 use Rattle.std.specs.declared.cmp.Ordering.TheVariants.{Less, Equal, Greater}
 use Rattle.std.specs.FinMap.Entries.{find, put, by_order}
@@ -11,13 +11,13 @@ use Rattle.vyrd_base.proofs.TestLaws.{same_of}
 use Rattle.vyrd_base.specs.Amounts.{Amounts, amount_of, with_amount, plus_amount, given, part_given}
 use Rattle.vyrd_base.specs.Amounts.{collected}
 use Rattle.vyrd_base.specs.Places.{numbers_below}
-use Rattle.vyrd_base.proofs.AmountLaws.{IsAmounts-with_amount, no_amounts, same_amounts}
+use Rattle.vyrd_base.proofs.AmountLaws.{IsAmounts-with_amount, same_amounts}
 use Rattle.vyrd_base.proofs.SumLaws.{amount_of-plus, amount_of-collected, IsAmounts-collected}
 use Rattle.vyrd_base.proofs.SumLaws.{own_part}
 use Rattle.std.specs.Prelude.{slice_range}
 use Rattle.vyrd_base.specs.Own.Programs.{Written}
 use Rattle.vyrd_view.specs.Decoded.{pair_at}
-use Rattle.vyrd_view.specs.Laws.Sums.{given_map_push, place_of}
+use Rattle.vyrd_view.specs.Laws.Sums.{given_map_push}
 use Rattle.vyrd_base.specs.States.{State}
 use Rattle.vyrd_base.specs.Own.Steps.{start_of}
 use Rattle.vyrd_base.specs.Own.OwnRules.{own_view, is_whole}
@@ -25,13 +25,6 @@ use Rattle.vyrd_own_spec.specs.Small.{IsSmall}
 use Rattle.vyrd_own_spec.specs.Parts.{width_of, own_gives, AreFew, IsWhole}
 use Rattle.vyrd_own_spec.specs.Laws.Parts.{own_shown}
 use Rattle.vyrd_own_spec.specs.Sums.{are_low, HasSums}
-
--- no place
-pub no_sums : (sums : Amounts) (f : ℕ → ℕ × ℕ) (m : ℕ) → sums ≡ [] → m ≡ 0 → HasSums sums f m
-no_sums sums f m none start =
-    subst (λ s. HasSums s f m) (sym none)
-    (subst (λ n. HasSums [] f n) (sym start)
-    (record { formed = no_amounts; low = refl; each = λ q. refl }))
 
 -- amounts that are low stay so with one that is
 low_filter : (p : ℕ × ℕ → Bool) (s : Amounts) → are_low s ≡ true → are_low (filter p s) ≡ true
@@ -41,8 +34,7 @@ low_filter p (e ∷ s) low = by_test (p e)
   where
     by_test : (b : Bool) → are_low (filter p s) ≡ true
         → are_low (cond b (e ∷ filter p s) (filter p s)) ≡ true
-    by_test true rest = both_true (nat_lt e.1 (2 ^ 64)) _
-        (first_true (nat_lt e.1 (2 ^ 64)) (are_low s) low) rest
+    by_test true rest = search (both_true, first_true, arith)
     by_test false rest = rest
 
 low_put : (k a : ℕ) (s : Amounts) → nat_lt a (2 ^ 64) ≡ true → are_low s ≡ true
@@ -60,12 +52,7 @@ low_put k a (e ∷ s) small low =
 
 low_with : (s : Amounts) (k a : ℕ) → nat_lt a (2 ^ 64) ≡ true → are_low s ≡ true
     → are_low (with_amount s k a) ≡ true
-low_with s k a small low = by_test (a == 0)
-  where
-    by_test : (b : Bool)
-        → are_low (cond b (filter (λ entry. not (entry.0 == k)) s) (put nat_cmp k a s)) ≡ true
-    by_test true = low_filter (λ entry. not (entry.0 == k)) s low
-    by_test false = low_put k a s small low
+low_with s k a small low = grind (arith, small, low_filter, low_put)
 
 -- where all are low, each is
 low_found : (s : Amounts) (q : ℕ) → are_low s ≡ true → amount_of s q < 2 ^ 64
@@ -79,11 +66,7 @@ low_found (e ∷ s) q low = by_test (eq_by_cmp nat_cmp q e.0)
     by_test false rest = rest
 
 pub not_low : (s : Amounts) → ((q : ℕ) × (2 ^ 64 ≤ amount_of s q)) → are_low s ≡ false
-not_low s (q, much) = by_test (are_low s) refl
-  where
-    by_test : (b : Bool) → are_low s ≡ b → b ≡ false
-    by_test true e = absurd (omega (arith, low_found s q e, much))
-    by_test false e = refl
+not_low s e1 = grind (arith, low_found)
 
 -- one place more
 pub sums_more : (sums after : Amounts) (f : ℕ → ℕ × ℕ) (m : ℕ) (pair : ℕ × ℕ) → HasSums sums f m
@@ -104,14 +87,8 @@ sums_more sums after f m pair has is then small =
 -- more places give no less
 rises : (q : ℕ) (f : ℕ → ℕ × ℕ) (m k : ℕ) → given q (map f (numbers_below m))
     ≤ given q (map f (numbers_below (m + k)))
-rises q f m zero =
-    let none : m + 0 ≡ m = omega arith in
-    subst (λ n. given q (map f (numbers_below m)) ≤ given q (map f (numbers_below n))) (sym none)
-    (omega arith)
-rises q f m (suc k) =
-    let more : m + suc k ≡ m + k + 1 = omega arith in
-    subst (λ n. given q (map f (numbers_below m)) ≤ given q (map f (numbers_below n))) (sym more)
-    (omega (arith, rises q f m k, given_map_push q f (m + k)))
+rises q f m zero = grind arith
+rises q f m (suc k) = grind (arith, rises q f m k, given_map_push q f (m + k))
 
 -- a sum that is too large stays so
 pub beyond_all : (sums : Amounts) (f : ℕ → ℕ × ℕ) (m n : ℕ) (pair : ℕ × ℕ) → HasSums sums f m
@@ -149,10 +126,7 @@ pub decoded : (w : Written) (width places part j a b : ℕ) (words : List ℕ) (
     → a ≡ width → b ≡ width → j < places
     → pair ≡ own_gives w part (slice_range words (part * a) (part * a + b)) j
     → pair ≡ pair_at width places (own_gives w) words (part * places + j)
-decoded w width places part j a b words pair ea eb low is =
-    is ∙ ap (λ x. own_gives w part (slice_range words (part * x) (part * x + b)) j) ea
-    ∙ ap (λ x. own_gives w part (slice_range words (part * width) (part * width + x)) j) eb
-    ∙ sym (place_of width places (own_gives w) words part j low)
+decoded w width places part j a b words pair ea eb low is = grind arith
 
 -- the sums of all places are what the words show
 pub shown_summed : (w : Written) (width places parts : ℕ) (words : List ℕ) (sums : Amounts)
@@ -181,18 +155,11 @@ shown_beyond w width places parts words wide few count (q, much) =
 pub count_is : (size n width parts : ℕ) (w own : Written) → n ≡ size → IsWhole size w → own ≡ w
     → width ≡ width_of own
     → parts ≡ size / width → n ≡ parts * width
-count_is size n width parts w own all whole same wide many =
-    let is : width ≡ width_of w = wide ∙ ap width_of same in
-    all ∙ sym whole ∙ ap (λ k. size / k * k) (sym is) ∙ ap (λ p. p * width) (sym many)
+count_is size n width parts w own all whole same wide many = grind (arith, parts, whole)
 
 -- words that are a whole number of parts
 pub whole_is : (w : Written) (n : ℕ) → is_whole w n ≡ true → IsWhole n w
-whole_is w n e = by_test (w.words == 0) e
-  where
-    by_test : (b : Bool) → (b || n / w.words * w.words == n) ≡ true → n / cond b 1 w.words
-        * cond b 1 w.words ≡ n
-    by_test true f = omega arith
-    by_test false f = same_of (n / w.words * w.words) n f
+whole_is w n e = grind (arith, same_of)
 
 -- the registers at the start
 pub start_registers : (w : Written) → (start_of w).registers ≡ w.registers
@@ -202,8 +169,4 @@ start_registers w = refl
 pub few_registers : (w : Written) (n s : State) (shown : Amounts) → IsSmall w → n ≡ start_of w
     → s ≡ record n { shown = shown }
     → length s.registers ≤ 16
-few_registers w n s shown small is then =
-    let all : length s.registers ≡ length w.registers =
-    ap (λ (t : State). length t.registers) then ∙ ap (λ (t : State). length t.registers) is
-    ∙ ap (λ (rs : List ℕ). length rs) (start_registers w) in
-    omega (arith, all, small.registers)
+few_registers w n s shown small is then = grind (arith, shown, small, start_registers)

@@ -1,6 +1,6 @@
 -- A step leaves the keys that it doesn't touch.
 use Rattle.std.proofs.Common.{◌≡◌, ℕ, Bool, true, false, cond, List, [], ◌∷◌, Some, refl, ap, ◌∙◌}
-use Rattle.std.proofs.Common.{sym, subst}
+use Rattle.std.proofs.Common.{sym}
 use Rattle.std.specs.Prelude.{◌||◌, ◌==◌, unwrap_or, length}
 use Rattle.std.specs.List.{list_any}
 use Rattle.std.specs.FinMap.{find}
@@ -13,8 +13,6 @@ use Rattle.std.proofs.lemmas.List.{length-set}
 use Rattle.std.proofs.lemmas.List.Folds.{list_any-append}
 use Rattle.vyrd_spec.proofs.FormedLaws.{formed_after}
 use Rattle.vyrd_spec.proofs.StepMeets.{with_formed, with_amounts}
-use Rattle.vyrd_own.specs.Sets.{shown_after}
-use Rattle.vyrd_own.proofs.ApartLaws.{shown_by}
 use Rattle.vyrd_base.specs.States.{State}
 use Rattle.vyrd_base.specs.declared.own.effect.Effect.{Effect}
 use Rattle.vyrd_base.specs.declared.own.effect.Effect.TheVariants.{SetShown, SetHidden, SetRegister}

@@ -17,7 +17,4 @@ item_more f n first before after item so is next =
 
 -- four lists of them
 pub four_behind : (t a b c d : List Item) → t ++ a ++ b ++ c ++ d ≡ t ++ (a ++ b ++ c ++ d)
-four_behind t a b c d =
-    ap (λ xs. xs ++ c ++ d) (append_assoc t a b)
-    ∙ ap (λ xs. xs ++ d) (append_assoc t (a ++ b) c)
-    ∙ append_assoc t (a ++ b ++ c) d
+four_behind t a b c d = simp (append_assoc)

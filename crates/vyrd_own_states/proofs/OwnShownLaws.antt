@@ -9,7 +9,7 @@ use Rattle.std.proofs.Math.Nat.{div-add-mod}
 use Rattle.vyrd_base.specs.declared.header.Header.{Header}
 use Rattle.vyrd_base.specs.declared.subject.Subject.TheVariants.{Own}
 use Rattle.vyrd_base.specs.Amounts.{collected}
-use Rattle.vyrd_base.specs.Layout.{plain_words, plain_words_of}
+use Rattle.vyrd_base.specs.Layout.{plain_words}
 use Rattle.vyrd_base.specs.Places.{numbers_from, numbers_below}
 use Rattle.vyrd_base.specs.Own.OwnRules.{own_view}
 use Rattle.vyrd_base.specs.Own.Programs.{Written}
@@ -86,10 +86,7 @@ module _ (w : Written) (words : List ℕ) (whole : ℕ) where
 whole_count : (h : Header) (w : Written) (n width parts a b : ℕ) → h.subject ≡ Own
     → n ≡ plain_words h → width ≡ width_of w → parts ≡ h.size / width → a ≡ parts → b ≡ width
     → a * b ≡ n / width_of w * width_of w
-whole_count h w n width parts a b subject count wide many first second =
-    let all : n ≡ h.size = count ∙ ap (λ s. plain_words_of s h.size) subject in
-    ap (λ k. a * k) second ∙ ap (λ k. k * width) (first ∙ many)
-    ∙ ap (λ k. h.size / k * k) wide ∙ ap (λ k. k / width_of w * width_of w) (sym all)
+whole_count h w n width parts a b subject count wide many first second = grind (arith, parts, count)
 
 -- ---- a charter's words
 

@@ -7,7 +7,7 @@ use Rattle.vyrd_base.proofs.PlaceLaws.{map_alike}
 use Rattle.vyrd_base.proofs.SumLaws.{own_part, other_part, amount_of-collected}
 use Rattle.vyrd_view.specs.Decoded.{Gives, pairs_by}
 use Rattle.vyrd_view.specs.Laws.Sums.{given_map_push, given_flat_push, places_give}
-use Rattle.vyrd_own_states.specs.PartPairs.{own_pairs, pairs_in, part_pairs}
+use Rattle.vyrd_own_states.specs.PartPairs.{pairs_in, part_pairs}
 
 -- ---- one place more
 
@@ -68,8 +68,4 @@ pub part_decoded : (width places : ℕ) (gives : Gives) (words : List ℕ) (q pa
     → get_or pairs j (0, 0) ≡ gives part (slice_range words (part * w) (part * w + w)) j)
     → given q (pairs_in n pairs) ≡ given q (part_pairs width places gives words part)
 part_decoded width places gives words q part n w pairs few wide is =
-    ap (λ k. given q (pairs_in k pairs)) few
-    ∙ ap (given q) (map_alike (λ j. get_or pairs j (0, 0))
-    (gives part (slice_range words (part * w) (part * w + w))) places is)
-    ∙ ap (λ k. given q (own_pairs places (gives part
-    (slice_range words (part * k) (part * k + k))))) wide
+    grind (arith, gives, few, given, map_alike)

@@ -78,12 +78,7 @@ pub given_with : (width places : ℕ) (gives : Gives) (words : List ℕ) (q w v 
     → amount ≡ given q (own_pairs places (gives (w / n) own))
     → amount ≡ given q (part_pairs width places gives (set words w v) (w / width))
 given_with width places gives words q w v n amount copied own some same copy is gave =
-    gave ∙ ap (λ all. given q (own_pairs places (gives (w / n) all)))
-    (is ∙ ap (λ all. set all (w - w / n * n) v) copy)
-    ∙ ap (λ k. given q (own_pairs places (gives (w / k)
-    (set (slice_range words (w / k * k) (w / k * k + k)) (w - w / k * k) v)))) same
-    ∙ ap (λ all. given q (own_pairs places (gives (w / width) all)))
-    (sym (own_changed width words w v some))
+    grind (arith, gives, given, own_changed)
 
 -- ---- what the parts give
 

@@ -58,9 +58,3 @@ Adds-snoc nodes node = record {
   same = λ i h. ap (λ es. earlier es i) (exprs-snoc nodes node) ∙ earlier-front (exprs_of nodes)
       (expr_at (exprs_of nodes) node) i (omega (arith, exprs-length nodes));
 }
-
-pub Adds-both : (a b c : List Node) → Adds a b → Adds b c → Adds a c
-Adds-both a b c ab bc = record {
-  more = omega (arith, ab.more, bc.more);
-  same = λ i h. bc.same i (omega (arith, ab.more)) ∙ ab.same i h;
-}

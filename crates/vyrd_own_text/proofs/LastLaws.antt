@@ -1,9 +1,9 @@
 -- The last of a list, changed.
-use Rattle.std.proofs.Common.{◌≡◌, ℕ, List, [], ◌∷◌, ◌++◌, length, Some, refl, ap, sym, ◌∙◌}
+use Rattle.std.proofs.Common.{◌≡◌, ℕ, List, [], ◌∷◌, ◌++◌, length, Some, refl, ap, ◌∙◌}
 use Rattle.std.proofs.Common.{arith, length-append}
-use Rattle.std.specs.Prelude.{◌-◌, Ok, Err, slice_get}
+use Rattle.std.specs.Prelude.{◌-◌, slice_get}
 use Rattle.vyrd_own_text.specs.declared.took.Took.{Took}
-use Rattle.vyrd_own_text.specs.declared.took.Took.TheVariants.{In, Refused}
+use Rattle.vyrd_own_text.specs.declared.took.Took.TheVariants.{In}
 use Rattle.vyrd_base.specs.Own.Reading.{Taken}
 use Rattle.vyrd_base.specs.Own.Programs.{Change, Case, Method, Written}
 use Rattle.vyrd_base.specs.Own.Lines.{Inner, inner, holding, with_change, with_inner, with_line}
@@ -33,9 +33,7 @@ change_last_last f (y ∷ []) x = refl
 change_last_last f (y ∷ z ∷ xs) x = ap (λ ls. y ∷ ls) (change_last_last f (z ∷ xs) x)
 
 last_in_last : (xs : List Method) (x : Method) → last_in (xs ++ x ∷ []) ≡ Some x
-last_in_last xs x =
-    let n : length (xs ++ x ∷ []) - 1 ≡ length xs = omega (arith, length-append xs (x ∷ [])) in
-    ap (slice_get (xs ++ x ∷ [])) n ∙ at_seam xs
+last_in_last xs x = grind (arith, length-append xs (x ∷ []), at_seam xs)
   where
     at_seam : (xs : List Method) → slice_get (xs ++ x ∷ []) (length xs) ≡ Some x
     at_seam [] = refl
@@ -59,11 +57,4 @@ pub line_joined : (w : Written) (rest : List Method) (m new : Method) (took : To
     → took_as new took ≡ taken_with (with_inner m) r
     → took_as (record w { methods = rest ++ new ∷ [] }) took ≡ taken_with (with_line w)
     (taken_with inner r)
-line_joined w rest m new In (Ok i) ms e =
-    let is : new ≡ with_inner m i = cc in
-    ap (λ methods. Ok (record w { methods = methods }))
-    (ap (λ x. rest ++ x ∷ []) is ∙ sym (change_last_last (λ x. with_inner x i) rest m)
-    ∙ ap (change_last (λ x. with_inner x i)) (sym ms))
-line_joined w rest m new In (Err stop) ms e = cc
-line_joined w rest m new (Refused rule at) (Ok i) ms e = cc
-line_joined w rest m new (Refused rule at) (Err stop) ms e = cc
+line_joined w rest m new took r ms e = grind (arith, change_last_last)

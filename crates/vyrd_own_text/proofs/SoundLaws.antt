@@ -12,11 +12,10 @@ use Rattle.vyrd_base.specs.Own.Expressions.{Expr, number, at, count, shown, hidd
 use Rattle.vyrd_base.specs.Own.Expressions.{first, last, size, negation, infix_of, choice, most}
 use Rattle.vyrd_base.specs.Own.Spelling.{Scope, op_word, number_word, name_at, spelled}
 use Rattle.vyrd_base.specs.declared.own.rule.SpecificationRule.{SpecificationRule}
-use Rattle.vyrd_base.specs.declared.own.rule.SpecificationRule.TheVariants.{BadLine, UnknownName}
 use Rattle.vyrd_base.specs.declared.own.rule.SpecificationRule.TheVariants.{StateIsRead}
-use Rattle.vyrd_base.specs.Own.Reading.{Found, and_then, made, after, found_after, ended_by}
+use Rattle.vyrd_base.specs.Own.Reading.{Found, and_then, made, after, ended_by}
 use Rattle.vyrd_base.specs.Own.Reading.{is_word_byte, word_of, after_word, number_in, place_from}
-use Rattle.vyrd_base.specs.Own.Reading.{place_in, is_lettered, unknown, of_state, placed}
+use Rattle.vyrd_base.specs.Own.Reading.{place_in, unknown, of_state, placed}
 use Rattle.vyrd_base.specs.Own.Reading.{name_read, number_or, all_ops, atom_read, op_among}
 use Rattle.vyrd_base.specs.Own.Reading.{op_read, one_read, list_read, second_read, infix_read}
 use Rattle.vyrd_base.specs.Own.Reading.{else_read, then_read, choice_read, if_after, round_read}
@@ -74,53 +73,33 @@ place_sound k (name ∷ names) word i e = by_test (λ h. place_sound (k + 1) nam
         → (t : Bool) → bytes_eq name word ≡ t → cond t (Some k) (place_from (k + 1) names word)
         ≡ Some i
         → (j : ℕ) × (i ≡ k + j) × (word ≡ slice_index_or (name ∷ names) j [])
-    by_test more true is h = let same : k ≡ i = cc in
-        (0, omega arith, sym ((bytes_eq-Decides name word).0 is))
+    by_test more true is h = grind (arith, (bytes_eq-Decides name word).0 is)
     by_test more false is h = let m = more h in (suc m.0, omega (arith, m.1), m.2)
 
 first_of_pair : {A B : Type 0} (a c : A) (b d : B)
     → ◌≡◌ {A = Result (A × B) (SpecificationRule × B)} (Ok (a, b)) (Ok (c, d)) → a ≡ c
-first_of_pair {A} {B} a c b d e = let p : ◌≡◌ {A = A × B} (a, b) (c, d) = cc in
-    ap (λ (r : A × B). r.0) p
+first_of_pair {A} {B} a c b d e = grind arith
 
 second_of_pair : {A B : Type 0} (a c : A) (b d : B)
     → ◌≡◌ {A = Result (A × B) (SpecificationRule × B)} (Ok (a, b)) (Ok (c, d)) → b ≡ d
-second_of_pair {A} {B} a c b d e = let p : ◌≡◌ {A = A × B} (a, b) (c, d) = cc in
-    ap (λ (r : A × B). r.1) p
+second_of_pair {A} {B} a c b d e = grind arith
 
 glue3 : (a b c d s t u : List ℕ) → s ≡ a ++ t → t ≡ b ++ u → u ≡ c ++ d → s ≡ ((a ++ b) ++ c) ++ d
 glue3 a b c d s t u e f g = e ∙ ap (λ x. a ++ x) (f ∙ ap (λ x. b ++ x) g) ∙ simp append_assoc
 
 glue5 : (a b c d o z s t u v w : List ℕ) → s ≡ a ++ t → t ≡ b ++ u → u ≡ c ++ v → v ≡ d ++ w → w ≡ o
     ++ z → s ≡ ((((a ++ b) ++ c) ++ d) ++ o) ++ z
-glue5 a b c d o z s t u v w e f g h i = e
-    ∙ ap (λ x. a ++ x) (f ∙ ap (λ x. b ++ x) (g ∙ ap (λ x. c ++ x) (h ∙ ap (λ x. d ++ x) i)))
-    ∙ simp append_assoc
+glue5 a b c d o z s t u v w e f g h i = grind (arith, append_assoc)
 
 glue7 : (a b c d o p q z s t u v w x y : List ℕ) → s ≡ a ++ t → t ≡ b ++ u → u ≡ c ++ v → v ≡ d ++ w
     → w ≡ o ++ x → x ≡ p ++ y → y ≡ q ++ z
     → s ≡ ((((((a ++ b) ++ c) ++ d) ++ o) ++ p) ++ q) ++ z
-glue7 a b c d o p q z s t u v w x y e f g h i j k =
-    e ∙ ap (λ m. a ++ m)
-    (f ∙ ap (λ m. b ++ m)
-    (g ∙ ap (λ m. c ++ m) (h ∙ ap (λ m. d ++ m) (i ∙ ap (λ m. o ++ m) (j ∙ ap (λ m. p ++ m) k)))))
-    ∙ simp append_assoc
+glue7 a b c d o p q z s t u v w x y e f g h i j k = search (append_assoc, arith)
 
 ended_inv : {A : Type 0} (word : List ℕ) (found : Found A) (e : A) (next : List ℕ)
     → ended_by word found ≡ Ok (e, next)
     → (rest : List ℕ) × (found ≡ Ok (e, rest)) × (rest ≡ word ++ next)
-ended_inv word (Err stop) e next h = cc
-ended_inv {A} word (Ok r) e next h = by_after (after word r.1) refl h
-  where
-    by_after : (o : Option (List ℕ)) → after word r.1 ≡ o → found_after r.0 r.1 o ≡ Ok (e, next)
-        → (rest : List ℕ) × (◌≡◌ {A = Found A} (Ok r) (Ok (e, rest))) × (rest ≡ word ++ next)
-    by_after None a k = cc
-    by_after (Some text) a k = (
-      r.1,
-      ap (λ x. Ok (x, r.1)) (first_of_pair r.0 e text next k),
-      after_sound word r.1 text a
-          ∙ ap (λ x. word ++ x) (second_of_pair r.0 e text next k),
-    )
+ended_inv word e1 = grind (arith, after, first_of_pair, after_sound, second_of_pair)
 
 op_inv : (ops : List Op) (text : List ℕ) (op : Op) (rest : List ℕ) → op_among ops text
     ≡ Ok (op, rest) → text ≡ op_word op ++ rest
@@ -133,18 +112,10 @@ op_inv (o ∷ ops) text op rest h = by_after (λ k. op_inv ops text op rest k) (
         → (elim f as (λ x. Found Op) [ Some t ↦ Ok (o, t) | None ↦ op_among ops text ])
         ≡ Ok (op, rest) → text ≡ op_word op ++ rest
     by_after more None a k = more k
-    by_after more (Some t) a k =
-        after_sound (op_word o) text t a ∙ ap (λ x. op_word x ++ t) (first_of_pair o op t rest k)
-        ∙ ap (λ x. op_word op ++ x) (second_of_pair o op t rest k)
+    by_after more (Some t) a k = search (after_sound, first_of_pair, second_of_pair, arith)
 
 unknown_not : {A : Type 0} (text : List ℕ) (x : A) (next : List ℕ) → unknown text ≡ Ok (x, next) → ⊥
-unknown_not {A} text x next h = by_letter (is_lettered text) h
-  where
-    by_letter : (t : Bool)
-        → ◌≡◌ {A = Found A} (cond t (Err (UnknownName, text)) (Err (BadLine, text))) (Ok (x, next))
-        → ⊥
-    by_letter true k = cc
-    by_letter false k = cc
+unknown_not e0 text = grind arith
 
 pub name_inv : (names : List (List ℕ)) (text : List ℕ) (i : ℕ) (rest : List ℕ)
     → name_read names text ≡ Ok (i, rest) → text ≡ name_at names i ++ rest
@@ -154,11 +125,7 @@ name_inv names text i rest h = by_place (place_in names (word_of text)) refl h
         ≡ Ok (i, rest) → text ≡ name_at names i ++ rest
     by_place None f k = absurd (unknown_not text i rest k)
     by_place (Some j) f k =
-        let p = place_sound 0 names (word_of text) j f in
-        let same : p.0 ≡ i = omega (arith, p.1, first_of_pair j i (after_word text) rest k) in
-        word_splits text
-        ∙ ap (λ x. x ++ after_word text) (p.2 ∙ ap (λ j. slice_index_or names j []) same)
-        ∙ ap (λ x. name_at names i ++ x) (second_of_pair j i (after_word text) rest k)
+        search (place_sound, word_of, first_of_pair, word_splits, second_of_pair, arith)
 
 of_state_inv : {A : Type 0} (s : Scope) (text : List ℕ) (found : Found A) (x : A) (next : List ℕ)
     → of_state s text found ≡ Ok (x, next) → found ≡ Ok (x, next)

@@ -8,7 +8,7 @@ use Rattle.std.proofs.lemmas.Bool.Decides.{nat_tests}
 use Rattle.std.proofs.lemmas.Slice.Eq.{bytes_eq-Decides}
 use Rattle.vyrd_base.proofs.SplitLaws.{number_of_decimal}
 use Rattle.vyrd_base.specs.Own.Expressions.{most}
-use Rattle.vyrd_base.specs.Own.Reading.{after, is_word_byte, word_of, after_word, number_in}
+use Rattle.vyrd_base.specs.Own.Reading.{after, number_in}
 
 same_test : (c : ℕ) → (c == c) ≡ true
 same_test c = grind (arith, nat_tests)
@@ -36,22 +36,6 @@ after_none (c ∷ word) (b ∷ text) isnt = by_test (after_none word text) (c ==
     by_test more true e =
         let is : c ≡ b = grind (arith, nat_tests) in
         more (λ rest h. isnt rest (ap (λ x. x ∷ text) (sym is) ∙ ap (λ xs. c ∷ xs) h))
-
--- one more byte of a word
-pub word_more : (b : ℕ) (text rest : List ℕ) → is_word_byte b ≡ true → text ≡ b ∷ rest
-    → (word_of text ≡ b ∷ word_of rest) × (after_word text ≡ after_word rest)
-word_more b text rest h e = (
-  ap word_of e ∙ ap (λ t. cond t (b ∷ word_of rest) []) h,
-  ap after_word e
-      ∙ ap (λ t. cond t (after_word rest) (b ∷ rest)) h,
-)
-
-pub word_ends : (b : ℕ) (text rest : List ℕ) → is_word_byte b ≡ false → text ≡ b ∷ rest
-    → (word_of text ≡ []) × (after_word text ≡ text)
-word_ends b text rest h e = (
-  ap word_of e ∙ ap (λ t. cond t (b ∷ word_of rest) []) h,
-  ap after_word e ∙ ap (λ t. cond t (after_word rest) (b ∷ rest)) h ∙ sym e,
-)
 
 -- numbers
 pub number_is : (word : List ℕ) (n : ℕ) → n < most → word ≡ decimal n → number_in word ≡ Some n

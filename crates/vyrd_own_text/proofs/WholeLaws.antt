@@ -1,6 +1,6 @@
 -- What an expression is read as, by how it begins.
 use Rattle.std.proofs.Common.{◌≡◌, ◌≢◌, ℕ, List, Option, Some, None, Result, refl, ap, ◌∙◌, sym}
-use Rattle.std.proofs.Common.{subst, arith, suc, zero}
+use Rattle.std.proofs.Common.{subst, arith}
 use Rattle.std.specs.Prelude.{codes, ◌-◌, IfOk}
 use Rattle.vyrd_base.specs.Own.Expressions.{Expr, shown, hidden}
 use Rattle.vyrd_own_text.specs.declared.expression.Read.{Read}
@@ -11,9 +11,7 @@ use Rattle.vyrd_base.specs.Own.Reading.{one_read, round_read, atom_read}
 
 pub expr_whole : (s : Scope) (n : ℕ) (text : List ℕ) → n ≢ 0 → expr_read s n text
     ≡ whole_read (expr_read s (n - 1)) s text
-expr_whole s zero text ne = absurd (ne refl)
-expr_whole s (suc d) text ne = let e : d ≡ suc d - 1 = omega arith in
-    ap (λ k. whole_read (expr_read s k) s text) e
+expr_whole s n text ne = grind (arith, whole_read)
 
 pub moved : {E : Type 0} (r : Result Read E) (e : Expr) (x y : Found Expr) → x ≡ y
     → IfOk r (λ o. read_as e o ≡ x) → IfOk r (λ o. read_as e o ≡ y)

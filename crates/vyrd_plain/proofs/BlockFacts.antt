@@ -3,17 +3,15 @@ use Rattle.std.proofs.Common.{◌≡◌, ℕ, ◌+◌, ◌<◌, true, false, ◌
 use Rattle.std.proofs.Common.{take, drop, replicate, set, Option, Some, None, slice_get, refl, ap}
 use Rattle.std.proofs.Common.{subst, ◌∙◌, sym, arith, length-append}
 use Rattle.std.specs.Prelude.{◌==◌, unwrap_or}
-use Rattle.std.specs.Option.{option_or}
 use Rattle.std.proofs.Math.Seq.{drop-append_seam}
 use Rattle.std.proofs.lemmas.List.{drop-append-le, length-take}
 use Rattle.std.proofs.lemmas.Option.{slice_get_within}
 use Rattle.vyrd_base.specs.declared.header.Header.{Header}
 use Rattle.vyrd_base.specs.declared.log.Kind.{Kind}
-use Rattle.vyrd_base.specs.declared.log.Kind.TheVariants.{Call, Return, Write, Commit, BlockOpen}
-use Rattle.vyrd_base.specs.declared.log.Kind.TheVariants.{BlockClose, BlockCommit}
+use Rattle.vyrd_base.specs.declared.log.Kind.TheVariants.{Commit, BlockOpen}
 use Rattle.vyrd_base.specs.declared.log.Entry.{Entry}
-use Rattle.vyrd_base.specs.Places.{newest_first, first_answer}
-use Rattle.vyrd_base.specs.Callers.{by_caller, open_or_close, has_block, commit_or_open}
+use Rattle.vyrd_base.specs.Places.{newest_first}
+use Rattle.vyrd_base.specs.Callers.{open_or_close, has_block, commit_or_open}
 use Rattle.vyrd_base.specs.Callers.{has_inner_commit}
 use Rattle.vyrd_base.specs.Layout.{plain_words}
 use Rattle.vyrd_base.specs.Words.{with_write, block_writes, effects_at, effects, words_with}
@@ -54,16 +52,8 @@ block_stays seen d e b b' same inside has_commit writes is =
 other_next : (seen : List Entry) (c d : ℕ) (kind : Kind) (o : Option Block) → (c == d) ≡ false
     → IsBlockOf seen d o
     → IsBlockOf (seen ++ entry c kind ∷ []) d o
-other_next seen c d kind None other is = ap (has_block d) (newest_first-push seen (entry c kind))
-    ∙ ap (λ o. unwrap_or o false) (other_answer d c open_or_close kind (newest_first seen) other)
-    ∙ is
-other_next seen c d kind (Some b) other is =
-    let block = other_answer d c open_or_close kind (newest_first seen) other in
-    let commit = other_answer d c commit_or_open kind (newest_first seen) other in
-    block_stays seen d (entry c kind) b b refl (ap (λ o. unwrap_or o false) block ∙ is.inside)
-    ((λ i. unwrap_or (block i) false && unwrap_or (commit i) false) ∙ is.has_commit)
-    (other_writes d c kind (newest_first seen) other
-    ∙ ap (λ own. written_by own kind ++ block_writes d (newest_first seen)) (sym other)) is
+other_next seen c d kind o other is =
+    grind (arith, newest_first-push, other_answer, block_stays, other_writes)
 
 -- the caller's own entry that doesn't touch its block
 own_quiet : (seen : List Entry) (c : ℕ) (kind : Kind) (o : Option Block) → open_or_close kind ≡ None
@@ -71,17 +61,8 @@ own_quiet : (seen : List Entry) (c : ℕ) (kind : Kind) (o : Option Block) → o
     → ((writes : List (ℕ × ℕ)) → with_write true kind writes ≡ written_by true kind ++ writes)
     → IsBlockOf seen c o
     → IsBlockOf (seen ++ entry c kind ∷ []) c o
-own_quiet seen c kind None edge inner writes is =
-    ap (has_block c) (newest_first-push seen (entry c kind))
-    ∙ ap (λ o. unwrap_or o false) (no_answer c c open_or_close kind (newest_first seen) edge) ∙ is
-own_quiet seen c kind (Some b) edge inner writes is =
-    let block = no_answer c c open_or_close kind (newest_first seen) edge in
-    let commit = no_answer c c commit_or_open kind (newest_first seen) inner in
-    block_stays seen c (entry c kind) b b refl (ap (λ o. unwrap_or o false) block ∙ is.inside)
-    ((λ i. unwrap_or (block i) false && unwrap_or (commit i) false) ∙ is.has_commit)
-    (own_writes c kind (newest_first seen) ∙ writes (block_writes c (newest_first seen))
-    ∙ ap (λ own. written_by own kind ++ block_writes c (newest_first seen)) (sym (same_number c)))
-    is
+own_quiet seen c kind o edge inner writes is =
+    grind (arith, newest_first-push, no_answer, block_stays, own_writes, same_number)
 
 own_commit : (seen : List Entry) (c : ℕ) (b : Block) → IsOpenBlock seen c b
     → IsOpenBlock (seen ++ entry c Commit ∷ []) c (committed b)
@@ -115,24 +96,12 @@ own_open seen c =
 
 own_end : (seen : List Entry) (c : ℕ) (kind : Kind) → open_or_close kind ≡ Some false
     → has_block c (newest_first (seen ++ entry c kind ∷ [])) ≡ false
-own_end seen c kind ends = ap (has_block c) (newest_first-push seen (entry c kind))
-    ∙ own_block c kind (newest_first seen)
-    ∙ ap (λ o. unwrap_or
-    (option_or o (first_answer (by_caller c open_or_close) (newest_first seen))) false) ends
+own_end seen c kind ends = grind (arith, ends, newest_first-push, own_block)
 
 own_next : (seen : List Entry) (c : ℕ) (kind : Kind) (o : Option Block) → IsBlockOf seen c o
     → IsBlockOf (seen ++ entry c kind ∷ []) c (block_after (length seen) kind o)
-own_next seen c (Call method args) o is =
-    own_quiet seen c (Call method args) o refl refl (λ ws. refl) is
-own_next seen c (Return reply) o is = own_quiet seen c (Return reply) o refl refl (λ ws. refl) is
-own_next seen c (Write word value) o is =
-    own_quiet seen c (Write word value) o refl refl (λ ws. refl) is
-own_next seen c Commit None is = ap (has_block c) (newest_first-push seen (entry c Commit))
-    ∙ ap (λ o. unwrap_or o false) (no_answer c c open_or_close Commit (newest_first seen) refl) ∙ is
-own_next seen c Commit (Some b) is = own_commit seen c b is
-own_next seen c BlockOpen o is = own_open seen c
-own_next seen c BlockClose o is = own_end seen c BlockClose refl
-own_next seen c BlockCommit o is = own_end seen c BlockCommit refl
+own_next seen c kind o is =
+    grind (arith, own_quiet, newest_first-push, no_answer, own_commit, own_open, own_end)
 
 -- each caller's block is kept
 abbrev pub AreBlocks : Header → List Entry → List (Option Block) → Type 0
@@ -142,8 +111,7 @@ AreBlocks h seen blocks = (c : ℕ) → c < h.callers
 pub block_there : (h : Header) (seen : List Entry) (blocks : List (Option Block)) (c : ℕ)
     (o : Option Block) → AreBlocks h seen blocks
     → c < h.callers → slice_get blocks c ≡ Some o → IsBlockOf seen c o
-block_there h seen blocks c o are within there =
-    let kept = are c within in let same : kept.0 ≡ o = cc in subst (IsBlockOf seen c) same kept.2
+block_there h seen blocks c o are within there = grind (arith, (are c within).2)
 
 -- one more entry changes its caller's block alone
 pub blocks_next : (h : Header) (seen : List Entry) (e : Entry) (blocks : List (Option Block))
@@ -185,11 +153,7 @@ pub effects_next : (front : List Entry) (at : ℕ) (e : Entry) → slice_get fro
     → effects_at (newest_first (take at front)) e.caller e.kind (drop (at + 1) front)
     ++ effects (newest_first (take at front)) (drop at front)
     ≡ effects (newest_first (take (at + 1) front)) (drop (at + 1) front)
-effects_next front at e here =
-    ap (λ es. effects_at (newest_first (take at front)) e.caller e.kind (drop (at + 1) front)
-    ++ effects (newest_first (take at front)) es)
-    (drop_here front at e here)
-    ∙ ap (λ es. effects es (drop (at + 1) front)) (next_is front at e here)
+effects_next front at e here = search (here, drop_here, next_is, arith)
 
 -- before the first entry all words are 0, and no block is open
 pub effects_first : (h : Header) (front : List Entry) (words : List ℕ)

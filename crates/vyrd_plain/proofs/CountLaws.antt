@@ -1,6 +1,6 @@
 -- How the numbers of commits and of returns without a commit grow, entry by entry.
 use Rattle.std.proofs.Common.{◌≡◌, ℕ, suc, ◌+◌, ◌<◌, Bool, true, false, cond, ◌&&◌, List, ◌∷◌}
-use Rattle.std.proofs.Common.{length, take, drop, get_or, set, Some, None, slice_get, refl, ap}
+use Rattle.std.proofs.Common.{length, take, drop, get_or, set, Some, None, slice_get, ap}
 use Rattle.std.proofs.Common.{subst, ◌∙◌, sym, arith, drop-cons}
 use Rattle.std.specs.Prelude.{count_by}
 use Rattle.std.specs.Prelude.{not}
@@ -47,20 +47,13 @@ pub committed-next : (h : Header) (c : ℕ) (kind : Kind) (earlier : List Entry)
     (committed : List Bool) → c < h.callers
     → AreCommitted h earlier committed
     → AreCommitted h (entry c kind ∷ earlier) (committed_after committed c kind)
-committed-next h c (Call method args) earlier committed here so = changed h c
-    (Call method args) earlier committed false here so refl
-committed-next h c (Return reply) earlier committed here so = changed h c (Return reply) earlier
-    committed false here so refl
-committed-next h c (Write word value) earlier committed here so = unchanged h c
-    (Write word value) earlier committed refl so
-committed-next h c Commit earlier committed here so = changed h c Commit earlier committed true here
-    so refl
-committed-next h c BlockOpen earlier committed here so = unchanged h c BlockOpen earlier committed
-    refl so
-committed-next h c BlockClose earlier committed here so = unchanged h c BlockClose earlier committed
-    refl so
-committed-next h c BlockCommit earlier committed here so = changed h c BlockCommit earlier committed
-    true here so refl
+committed-next h c (Call method args) earlier committed here so = search (changed, here, arith)
+committed-next h c (Return reply) earlier committed here so = search (changed, here, arith)
+committed-next h c (Write word value) earlier committed here so = search (unchanged, arith)
+committed-next h c Commit earlier committed here so = search (changed, here, arith)
+committed-next h c BlockOpen earlier committed here so = search (unchanged, arith)
+committed-next h c BlockClose earlier committed here so = search (unchanged, arith)
+committed-next h c BlockCommit earlier committed here so = search (changed, here, arith)
 
 -- how many executions return without a commit from a place on
 abbrev pub observers_from : List Entry → ℕ → ℕ
@@ -94,11 +87,7 @@ pub observers_step : (es : List Entry) (at : ℕ) (r : Entry) (b : Bool) → at 
     → get_or es at r ≡ r
     → b ≡ (is_return r.kind && not (has_committed r.caller (newest_first (take at es))))
     → observers_from es at ≡ cond b 1 0 + observers_from es (at + 1)
-observers_step es at r b within same returns =
-    observers_next es at r within
-    ∙ ap (λ e. cond (is_return e.kind && not (has_committed e.caller (newest_first (take at es)))) 1
-    0 + observers_from es (at + 1)) same
-    ∙ ap (λ t. cond t 1 0 + observers_from es (at + 1)) (sym returns)
+observers_step es at r b within same returns = grind (arith, within, observers_next)
 
 pub committed_step : (h : Header) (es : List Entry) (at : ℕ) (r : Entry) (old new : List Bool)
     → at < length es

@@ -1,5 +1,5 @@
 -- How the writes of a block, and the words, are found entry by entry.
-use Rattle.std.proofs.Common.{◌≡◌, ◌⊎◌, inl, inr, ℕ, zero, suc, ◌+◌, ◌<◌, ◌≤◌, Bool, true, false}
+use Rattle.std.proofs.Common.{◌≡◌, ◌⊎◌, ℕ, zero, suc, ◌+◌, ◌<◌, ◌≤◌, Bool, true, false}
 use Rattle.std.proofs.Common.{cond, List, [], ◌∷◌, ◌++◌, length, take, drop, replicate, Option}
 use Rattle.std.proofs.Common.{Some, None, slice_get, refl, ap, subst, ◌∙◌, sym, arith, append-nil}
 use Rattle.std.proofs.Common.{append_assoc, drop-cons}
@@ -16,7 +16,7 @@ use Rattle.vyrd_base.specs.declared.log.Entry.{Entry}
 use Rattle.vyrd_base.specs.Places.{newest_first}
 use Rattle.vyrd_base.specs.Shape.{broken_rule}
 use Rattle.vyrd_base.specs.Front.{first_break}
-use Rattle.vyrd_base.specs.Callers.{has_block, has_inner_commit}
+use Rattle.vyrd_base.specs.Callers.{has_block}
 use Rattle.vyrd_base.specs.Layout.{plain_words}
 use Rattle.vyrd_base.specs.Words.{block_writes, ahead_at, writes_ahead, effects_at, words_with}
 use Rattle.vyrd_base.proofs.TestLaws.{same_of, is_same, isnt_same}
@@ -76,8 +76,7 @@ ahead_by false kind writes ahead on = refl
 ahead_by true (Call method args) writes ahead on = refl
 ahead_by true (Return reply) writes ahead on = let ends = on refl in cc
 ahead_by true (Write word value) writes None on = refl
-ahead_by true (Write word value) writes (Some more) on =
-    ap Some (append_assoc more ((word, value) ∷ []) writes)
+ahead_by true (Write word value) writes (Some more) on = search (append_assoc, more, arith)
 ahead_by true Commit writes ahead on = refl
 ahead_by true BlockOpen writes ahead on = refl
 ahead_by true BlockClose writes ahead on = let ends = on refl in cc
@@ -103,8 +102,7 @@ pub ahead_here : (c : ℕ) (later : List Entry) (i : ℕ) (e : Entry) → slice_
     → writes_ahead c later ≡ behind (writes_in c (take i later))
     (cond (e.caller == c) (ahead_at e.kind (writes_ahead c (drop (i + 1) later)))
     (writes_ahead c (drop (i + 1) later)))
-ahead_here c later i e here so = so
-    ∙ ap (λ es. behind (writes_in c (take i later)) (writes_ahead c es)) (drop_here later i e here)
+ahead_here c later i e here so = cc (drop_here later i e here)
 
 pub ahead_next : (c : ℕ) (later : List Entry) (i : ℕ) (e : Entry) → slice_get later i ≡ Some e
     → (e.caller ≡ c → goes_on e.kind ≡ true)
@@ -120,24 +118,11 @@ ahead_next c later i e here on so =
 pub goes_on_past : (kind : Kind) → ((reply : ℕ) → kind ≡ Return reply → ⊥) → (kind ≡ BlockClose → ⊥)
     → (kind ≡ BlockCommit → ⊥)
     → goes_on kind ≡ true
-goes_on_past (Call method args) a b c = refl
-goes_on_past (Return reply) a b c = absurd (a reply refl)
-goes_on_past (Write word value) a b c = refl
-goes_on_past Commit a b c = refl
-goes_on_past BlockOpen a b c = refl
-goes_on_past BlockClose a b c = absurd (b refl)
-goes_on_past BlockCommit a b c = absurd (c refl)
+goes_on_past kind a b c = grind arith
 
 no_write : (b : Bool) (kind : Kind) → ((word value : ℕ) → kind ≡ Write word value → ⊥)
     → written_by b kind ≡ []
-no_write false kind isnt = refl
-no_write true (Call method args) isnt = refl
-no_write true (Return reply) isnt = refl
-no_write true (Write word value) isnt = absurd (isnt word value refl)
-no_write true Commit isnt = refl
-no_write true BlockOpen isnt = refl
-no_write true BlockClose isnt = refl
-no_write true BlockCommit isnt = refl
+no_write b kind isnt = grind (arith, isnt)
 
 -- The writes of the caller up to a place have taken effect, and those of the entry there do so
 -- next.
@@ -149,12 +134,11 @@ pub written_next : (h : Header) (c : ℕ) (front : List Entry) (from at : ℕ) (
     → slice_set words word value ≡ words_with h []
     (writes_in c (drop from (take (at + 1) front)) ++ before)
 written_next h c front from at e word value words before order here own is within so =
-    let so_far = writes_in c (drop from (take at front)) in
-    let writes : written_by (e.caller == c) e.kind ≡ (word, value) ∷ [] =
-    ap (λ b. written_by b e.kind) (is_same e.caller c own) ∙ ap (written_by true) is in
-    ap (λ ws. slice_set ws word value) so ∙ sym (one_effect h word value (so_far ++ before) within)
-    ∙ ap (λ ws. words_with h [] ((ws ++ so_far) ++ before)) (sym writes)
-    ∙ ap (λ ws. words_with h [] (ws ++ before)) (sym (writes_in-next c front from at e order here))
+    cc (
+      one_effect h word value ((writes_in c (drop from (take at front))) ++ before) within,
+      is_same e.caller c own,
+      writes_in-next c front from at e order here,
+    )
 
 passed_next : (h : Header) (c : ℕ) (front : List Entry) (from at : ℕ) (e : Entry) (words : List ℕ)
     (before : List (ℕ × ℕ))
@@ -162,9 +146,7 @@ passed_next : (h : Header) (c : ℕ) (front : List Entry) (from at : ℕ) (e : E
     → words ≡ words_with h [] (writes_in c (drop from (take at front)) ++ before)
     → words ≡ words_with h [] (writes_in c (drop from (take (at + 1) front)) ++ before)
 passed_next h c front from at e words before order here none so =
-    so ∙ ap (λ ws. words_with h [] ((ws ++ writes_in c (drop from (take at front))) ++ before))
-    (sym none)
-    ∙ ap (λ ws. words_with h [] (ws ++ before)) (sym (writes_in-next c front from at e order here))
+    cc (writes_in-next c front from at e order here)
 
 -- another caller's entry, and one that isn't a write
 pub other_next : (h : Header) (c : ℕ) (front : List Entry) (from at : ℕ) (e : Entry)
@@ -173,8 +155,7 @@ pub other_next : (h : Header) (c : ℕ) (front : List Entry) (from at : ℕ) (e 
     → words ≡ words_with h [] (writes_in c (drop from (take at front)) ++ before)
     → words ≡ words_with h [] (writes_in c (drop from (take (at + 1) front)) ++ before)
 other_next h c front from at e words before order here other so =
-    passed_next h c front from at e words before order here
-    (ap (λ b. written_by b e.kind) (isnt_same e.caller c other)) so
+    search (here, passed_next, isnt_same, arith)
 
 pub quiet_next : (h : Header) (c : ℕ) (front : List Entry) (from at : ℕ) (e : Entry)
     (words : List ℕ) (before : List (ℕ × ℕ))
@@ -182,8 +163,7 @@ pub quiet_next : (h : Header) (c : ℕ) (front : List Entry) (from at : ℕ) (e 
     → words ≡ words_with h [] (writes_in c (drop from (take at front)) ++ before)
     → words ≡ words_with h [] (writes_in c (drop from (take (at + 1) front)) ++ before)
 quiet_next h c front from at e words before order here isnt so =
-    passed_next h c front from at e words before order here (no_write (e.caller == c) e.kind isnt)
-    so
+    search (here, isnt, passed_next, no_write, arith)
 
 -- a word that is written is one of the header's
 pub word_fits : (h : Header) (front : List Entry) (at : ℕ) (e : Entry) (word value : ℕ)
@@ -239,17 +219,7 @@ pub end_effects : (front : List Entry) (at : ℕ) (e : Entry) (b : Block)
     → IsOpenBlock (take at front) e.caller b
     → effects_at (newest_first (take at front)) e.caller e.kind (drop (at + 1) front)
     ≡ cond b.has_commit [] (writes_in e.caller (drop b.opened (take at front)))
-end_effects front at e b ends block = by_kind ends
-    ∙ (λ i. cond (block.has_commit i) [] (block.writes i))
-  where
-    earlier : List Entry
-    earlier = newest_first (take at front)
-
-    by_kind : (e.kind ≡ BlockClose) ⊎ (e.kind ≡ BlockCommit)
-        → effects_at earlier e.caller e.kind (drop (at + 1) front)
-        ≡ cond (has_inner_commit e.caller earlier) [] (block_writes e.caller earlier)
-    by_kind (inl is) = ap (λ kind. effects_at earlier e.caller kind (drop (at + 1) front)) is
-    by_kind (inr is) = ap (λ kind. effects_at earlier e.caller kind (drop (at + 1) front)) is
+end_effects front at e b ends block = grind (arith, ends)
 
 -- an entry of an open block that is neither a commit nor an end has no effects
 pub inner_effects : (front : List Entry) (at : ℕ) (e : Entry) (b : Block)
@@ -266,8 +236,7 @@ inner_effects front at e b block = by_kind e.kind
         → effects_at earlier e.caller kind (drop (at + 1) front) ≡ []
     by_kind (Call method args) alone ends commits = refl
     by_kind (Return reply) alone ends commits = refl
-    by_kind (Write word value) alone ends commits =
-        ap (λ inside. cond inside [] ((word, value) ∷ [])) block.inside
+    by_kind (Write word value) alone ends commits = cc (block.inside)
     by_kind Commit alone ends commits = absurd (alone refl)
     by_kind BlockOpen alone ends commits = refl
     by_kind BlockClose alone ends commits = absurd (ends refl)
@@ -279,9 +248,7 @@ pub write_effects : (front : List Entry) (at : ℕ) (e : Entry) (word value : �
     → has_block e.caller (newest_first (take at front)) ≡ false
     → effects_at (newest_first (take at front)) e.caller e.kind (drop (at + 1) front)
     ≡ (word, value) ∷ []
-write_effects front at e word value is outside =
-    ap (λ kind. effects_at (newest_first (take at front)) e.caller kind (drop (at + 1) front)) is
-    ∙ ap (λ inside. cond inside [] ((word, value) ∷ [])) outside
+write_effects front at e word value is outside = grind arith
 
 pub outer_effects : (h : Header) (front : List Entry) (at : ℕ) (e : Entry)
     → slice_get front at ≡ Some e → first_break h front ≡ None
@@ -299,9 +266,7 @@ outer_effects h front at e here kept outside = by_kind e.kind (rules_at h front 
     by_kind (Call method args) rules isnt = refl
     by_kind (Return reply) rules isnt = refl
     by_kind (Write word value) rules isnt = absurd (isnt word value refl)
-    by_kind Commit rules isnt = ap (λ inside. cond inside
-        (option_map_or (λ ws. ws ++ block_writes e.caller earlier)
-        (writes_ahead e.caller (drop (at + 1) front)) []) []) outside
+    by_kind Commit rules isnt = cc
     by_kind BlockOpen rules isnt = refl
     by_kind BlockClose rules isnt = let inside = close_kept h e.caller earlier rules in cc
     by_kind BlockCommit rules isnt = let inside = block_commit_kept h e.caller earlier rules in cc

@@ -58,10 +58,7 @@ once_kept : {B : Type 0} (f : Called → ℕ
     → once_returned f (committed_at (place_of (entry c kind) earlier later)) ≡ option_and_then
     (f (called_in x)) x.reply
 once_kept f r states c kind earlier later x unreturned is =
-    ap (λ o. option_and_then (λ called. option_and_then (f called) (next_reply c later)) o)
-    is.called
-    ∙ ap (option_and_then (f (called_in x)))
-    (sym (is.reply ∙ next_reply-quiet c c kind later unreturned))
+    cc (is.called, is.reply, next_reply-quiet c c kind later unreturned)
 
 -- the fault of a commit where the state before it is known
 commit_fault_here : (r : Rules) (starting : List StartWord) (states : List State) (c : ℕ)
@@ -143,8 +140,7 @@ commit_gives r starting states c kind earlier later state next executions new x 
 same_any : (p q : State → Bool) (xs : List State) → ((s : State) → p s ≡ q s) → list_any p xs
     ≡ list_any q xs
 same_any p q [] same = refl
-same_any p q (x ∷ xs) same = ap (λ b. b || list_any p xs) (same x)
-    ∙ ap (λ b. q x || b) (same_any p q xs same)
+same_any p q (x ∷ xs) same = cc (same x, same_any p q xs same)
 
 -- what a return leads to
 return_gives : (r : Rules) (starting : List StartWord) (states : List State) (c reply : ℕ)

@@ -68,8 +68,7 @@ allowed_all r states earlier later state executions s c x within is = let kept =
     by_option : (o : Option Execution) → slice_get executions c ≡ Some o
         → IsOpen r states c earlier later o → has_method r.header x.method x.args ≡ true
     by_option None at open_none = cc
-    by_option (Some y) at execution = let same : y ≡ x = cc in
-        subst (λ z. has_method r.header z.method z.args ≡ true) same execution.allowed
+    by_option (Some y) at execution = cc (execution.allowed)
 
 -- what the judge knows of the entry at a place of a front that keeps all rules
 pub record IsAt (r : Rules) (front : List Entry) (at : ℕ) (e : Entry) (state : State)
@@ -116,10 +115,7 @@ known_at {r} {front} {at} {val} {kind} {state} {executions} here named kept s =
 -- the entry that was read is every entry at its place
 pub same_entry : {o : Option Entry} {r e : Entry} {kind : Kind} → o ≡ Some r → r.kind ≡ kind
     → o ≡ Some e → entry r.caller kind ≡ e
-same_entry {o} {r} {e} {kind} is_r named is_e =
-    let read : entry r.caller kind ≡ r = ap (entry r.caller) (sym named) in
-    let same : r ≡ e = cc in
-    read ∙ same
+same_entry {o} {r} {e} {kind} is_r named is_e = grind arith
 
 -- the execution of the entry's caller, if it is in one
 pub running : {r : Rules} {front : List Entry} {at : ℕ} {e : Entry} {state : State}
@@ -160,32 +156,26 @@ pub leads_as : {r : Rules} {front : List Entry} {at : ℕ} {e : Entry} {s s' : S
     {xs xs' : List (Option Execution)} {o o' : Outcome}
     → s' ≡ s → xs' ≡ xs → o' ≡ o → Leads r front at e s xs o → Leads r front at e s' xs' o'
 leads_as {r} {front} {at} {e} {s} {s'} {xs} {xs'} {o} {o'} same_state same_executions same_outcome
-    leads =
-    subst (λ t. Leads r front at e t xs' o') (sym same_state)
-    (subst (λ ys. Leads r front at e s ys o') (sym same_executions)
-    (subst (Leads r front at e s xs) (sym same_outcome) leads))
+    leads = grind arith
 
 -- the same for another name of the entry
 pub leads_for : {r : Rules} {front : List Entry} {at : ℕ} {d e : Entry} {s : State}
     {xs : List (Option Execution)} {o : Outcome}
     → d ≡ e → Leads r front at d s xs o → Leads r front at e s xs o
-leads_for {r} {front} {at} {d} {e} {s} {xs} {o} same leads = subst (λ x. Leads r front at x s xs o)
-    same leads
+leads_for {r} {front} {at} {d} {e} {s} {xs} {o} same leads = grind arith
 
 -- What the rules of shape say at each kind of entry.
 pub call_allowed : {r : Rules} {front : List Entry} {at c : ℕ} {method : Method} {args : Args}
     {state : State} {executions : List (Option Execution)}
     → IsAt r front at (entry c (Call method args)) state executions
     → has_method r.header method args ≡ true
-call_allowed {r} {front} {at} {c} {method} {args} here = call_kept r.header c method args
-    (newest_first (take at front)) here.kept
+call_allowed {r} {front} {at} {c} {method} {args} here = search (call_kept, arith)
 
 pub return_called : {r : Rules} {front : List Entry} {at c reply : ℕ} {state : State}
     {executions : List (Option Execution)}
     → IsAt r front at (entry c (Return reply)) state executions → (called : Called)
     × (open_call c (newest_first (take at front)) ≡ Some called)
-return_called {r} {front} {at} {c} {reply} here = return_kept r.header c reply
-    (newest_first (take at front)) here.kept
+return_called {r} {front} {at} {c} {reply} here = search (return_kept, arith)
 
 -- the first fault of a front from a place on
 abbrev pub fault_from : Rules → List Entry → ℕ → Option Verdict
@@ -234,8 +224,7 @@ fault_goes r front at e here fault = fault_here r front at e None here fault
 
 length_taken : (front : List Entry) (at : ℕ) → at ≤ length front
     → length (newest_first (take at front)) ≡ at
-length_taken front at within = length-newest_first (take at front)
-    ∙ omega (arith, length-take at front)
+length_taken front at within = search (length-newest_first, length-take, arith)
 
 -- a place that is a fault
 pub fault_found : (r : Rules) (front : List Entry) (at : ℕ) (e : Entry) (why : Why)
@@ -269,8 +258,7 @@ fault_ends r front at e here fault short =
 -- past the last place there is none
 pub fault_past : (r : Rules) (front : List Entry) (at : ℕ) → length front ≤ at
     → fault_from r front at ≡ None
-fault_past r front at past = ap (λ later. first_answer (violation_at r [] (states_along r [] front))
-    (places_after (newest_first (take at front)) later)) (drop_of_length-le front past)
+fault_past r front at past = cc (drop_of_length-le front past)
 
 -- before the first place nothing has begun
 pub tracks_first : (r : Rules) (front : List Entry) (state : State)
@@ -306,6 +294,4 @@ pub leads_at : {r q : Rules} {front : List Entry} {at : ℕ} {e : Entry} {s : St
     → PlaceGives q [] (states_along q [] front)
     (place_of e (newest_first (take at front)) (drop (at + 1) front)) s xs o
     → Leads r front at e s xs o'
-leads_at {r} {q} {front} {at} {e} {s} {xs} {o} {o'} same_rules same_outcome gives =
-    subst (λ j. Leads j front at e s xs o') same_rules
-    (subst (Leads q front at e s xs) same_outcome (record { to = gives }))
+leads_at {r} {q} {front} {at} {e} {s} {xs} {o} {o'} same_rules same_outcome gives = grind arith

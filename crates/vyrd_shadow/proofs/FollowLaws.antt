@@ -1,6 +1,6 @@
 -- How what is kept goes on with one more entry.
-use Rattle.std.proofs.Common.{◌≡◌, ℕ, suc, zero, ◌+◌, ◌<◌, Bool, true, false, cond, List, [], ◌∷◌}
-use Rattle.std.proofs.Common.{◌++◌, length, map, Option, Some, None, refl, ap, ◌∙◌, sym, subst}
+use Rattle.std.proofs.Common.{◌≡◌, ℕ, suc, zero, ◌+◌, ◌<◌, Bool, true, false, List, [], ◌∷◌}
+use Rattle.std.proofs.Common.{length, map, Option, Some, None, refl, ap, ◌∙◌, sym, subst}
 use Rattle.std.proofs.Common.{arith, get_or, set, get_or-set_other, get_or-set_same}
 use Rattle.std.specs.Prelude.{◌==◌, unwrap_or, is_some, replicate}
 use Rattle.std.specs.Option.{option_or}
@@ -18,8 +18,8 @@ use Rattle.vyrd_base.specs.Layout.{plain_words}
 use Rattle.vyrd_base.specs.Callers.{by_caller, open_or_close, has_block}
 use Rattle.vyrd_base.specs.Shape.{broken_rule}
 use Rattle.vyrd_base.specs.Starts.{words_at_start}
-use Rattle.vyrd_base.specs.Words.{with_write, block_writes, effects_at, given_to, value_at_start}
-use Rattle.vyrd_base.specs.Words.{value_after, words_after}
+use Rattle.vyrd_base.specs.Words.{with_write, block_writes, effects_at, given_to}
+use Rattle.vyrd_base.specs.Words.{words_after}
 use Rattle.vyrd_base.specs.FirstVersion.{old_effects_at, old_effects}
 use Rattle.vyrd_base.specs.Front.{WellFormed}
 use Rattle.vyrd_base.proofs.EffectLaws.{ends_block}
@@ -46,11 +46,8 @@ pub record Own (c : ℕ) (block : Option (List (ℕ × ℕ))) (entries : List En
 own_of : (kept : ShadowKept) (starting : List StartWord) (earlier : List Entry)
     → HasFollowed kept starting earlier → (c : ℕ) → c < kept.header.callers
     → Own c (get_or kept.blocks c None) earlier
-own_of kept starting earlier followed c low = record {
-  opened = followed.blocks c low;
-  order = followed.order c low;
-  values = λ w. followed.values c w low;
-}
+own_of kept starting earlier followed c low =
+    grind (arith, followed.blocks c low, followed.order c low)
 
 -- words and blocks make what is kept
 followed_from : (kept : ShadowKept) (starting : List StartWord) (earlier : List Entry)
@@ -58,32 +55,20 @@ followed_from : (kept : ShadowKept) (starting : List StartWord) (earlier : List 
     → kept.words ≡ words_after kept.header starting earlier
     → ((c : ℕ) → c < kept.header.callers → Own c (get_or kept.blocks c None) earlier)
     → HasFollowed kept starting earlier
-followed_from kept starting earlier rules words own = record {
-  rules = rules;
-  words = words;
-  blocks = λ c low. (own c low).opened;
-  order = λ c low. (own c low).order;
-  values = λ c w low. (own c low).values w;
-}
+followed_from kept starting earlier rules words own = grind arith
 
 -- a block whose caller's notions are the same
 own_same : (c : ℕ) (block : Option (List (ℕ × ℕ))) (earlier later : List Entry) → has_block c later
     ≡ has_block c earlier
     → block_writes c later ≡ block_writes c earlier
     → Own c block earlier → Own c block later
-own_same c block earlier later inside writes own = record {
-  opened = own.opened ∙ sym inside;
-  order = λ e. own.order (sym inside ∙ e) ∙ ap first_written (sym writes);
-  values = λ w e. own.values w (sym inside ∙ e) ∙ ap (first_answer (given_to w)) (sym writes);
-}
+own_same c block earlier later inside writes own = grind (arith, own.opened)
 
 -- another caller's entry
 own_other : (d c : ℕ) (kind : Kind) (block : Option (List (ℕ × ℕ))) (earlier : List Entry)
     → (c == d) ≡ false
     → Own d block earlier → Own d block (entry c kind ∷ earlier)
-own_other d c kind block earlier other own = own_same d block earlier (entry c kind ∷ earlier)
-    (ap (λ o. unwrap_or o false) (other_answer d c open_or_close kind earlier other))
-    (other_writes d c kind earlier other) own
+own_other d c kind block earlier other own = grind (arith, own_same, other_answer, other_writes)
 
 -- the caller's own block is replaced
 own_next : (n : ℕ) (blocks : List (Option (List (ℕ × ℕ)))) (earlier : List Entry) (c : ℕ)
@@ -104,17 +89,12 @@ own_next n blocks earlier c kind block low own all = λ d low_d. by_same c d
 own_closed : (c : ℕ) (block : Option (List (ℕ × ℕ))) (entries : List Entry) → is_some block ≡ false
     → has_block c entries ≡ false
     → Own c block entries
-own_closed c block entries none out = record {
-  opened = none ∙ sym out;
-  order = λ e. cc;
-  values = λ w e. cc;
-}
+own_closed c block entries none out = grind arith
 
 -- a write leaves blocks open or closed
 block_write : (d c word value : ℕ) (earlier : List Entry)
     → has_block d (entry c (Write word value) ∷ earlier) ≡ has_block d earlier
-block_write d c word value earlier = ap (λ o. unwrap_or o false)
-    (no_answer d c open_or_close (Write word value) earlier refl)
+block_write d c word value earlier = search (no_answer, arith)
 
 -- a write outside a block
 pub followed_through : (kept : ShadowKept) (starting : List StartWord) (earlier : List Entry)
@@ -144,9 +124,7 @@ followed_through kept starting earlier c word value changed low low_w closed fol
 words_held : (h : Header) (starting : List StartWord) (earlier : List Entry) (c word value : ℕ)
     → has_block c earlier ≡ true
     → words_after h starting (entry c (Write word value) ∷ earlier) ≡ words_after h starting earlier
-words_held h starting earlier c word value inside = words_after-quiet h starting earlier c
-    (Write word value) refl
-    (ap (λ b. cond b [] ((word, value) ∷ [])) inside)
+words_held h starting earlier c word value inside = grind (arith, starting, words_after-quiet)
 
 own_kept : (c word value : ℕ) (block : Option (List (ℕ × ℕ))) (earlier : List Entry)
     → has_block c earlier ≡ true → Own c block earlier
@@ -183,11 +161,7 @@ followed_kept kept starting earlier c word value low low' opened followed keeps 
 
 -- a block is opened
 own_open : (c : ℕ) (earlier : List Entry) → Own c (Some []) (entry c BlockOpen ∷ earlier)
-own_open c earlier = record {
-  opened = sym (own_block c BlockOpen earlier);
-  order = λ e. ap first_written (sym (own_writes c BlockOpen earlier));
-  values = λ w e. ap (first_answer (given_to w)) (sym (own_writes c BlockOpen earlier));
-}
+own_open c earlier = grind (arith, own_block c BlockOpen earlier)
 
 pub followed_open : (kept : ShadowKept) (starting : List StartWord) (earlier : List Entry) (c : ℕ)
     → c < length kept.blocks → HasFollowed kept starting earlier
@@ -223,17 +197,7 @@ settled_append : (starting : List StartWord) (earlier : List Entry) (e : Entry)
     → old_effects_at earlier e.caller e.kind ≡ writes
     → settled_value starting (e ∷ earlier) w ≡ unwrap_or (first_answer (given_to w) writes)
     (settled_value starting earlier w)
-settled_append starting earlier e writes w ends =
-    ap (λ o. unwrap_or o (value_at_start starting w))
-    (ap (λ ws. first_answer (given_to w) (ws ++ old_effects earlier)) ends
-    ∙ first_answer-append (given_to w) writes (old_effects earlier))
-    ∙ elim (first_answer (given_to w) writes) as (λ o.
-    unwrap_or (option_or o (first_answer (given_to w) (old_effects earlier)))
-    (value_at_start starting w)
-    ≡ unwrap_or o (settled_value starting earlier w)) [
-      | None ↦ refl
-      | Some v ↦ refl
-    ]
+settled_append starting earlier e writes w ends = grind (arith, starting, ends, first_answer-append)
 
 -- a block's writes take effect
 words_close : (h : Header) (starting : List StartWord) (earlier : List Entry) (e : Entry)
@@ -339,24 +303,15 @@ pub followed_call : (kept : ShadowKept) (starting : List StartWord) (earlier : L
     → HasFollowed kept starting earlier → broken_rule kept.header earlier
     (entry c (Call method args)) ≡ None
     → HasFollowed kept starting (entry c (Call method args) ∷ earlier)
-followed_call kept starting earlier c method args = followed_quiet kept starting earlier c
-    (Call method args) refl refl refl by_test
-  where
-    by_test : (b : Bool) (writes : List (ℕ × ℕ)) → with_write b (Call method args) writes ≡ writes
-    by_test true writes = refl
-    by_test false writes = refl
+followed_call kept starting earlier c method args e6 e7 =
+    grind (arith, kept, starting, followed_quiet)
 
 pub followed_return : (kept : ShadowKept) (starting : List StartWord) (earlier : List Entry)
     (c reply : ℕ)
     → HasFollowed kept starting earlier → broken_rule kept.header earlier (entry c (Return reply))
     ≡ None
     → HasFollowed kept starting (entry c (Return reply) ∷ earlier)
-followed_return kept starting earlier c reply = followed_quiet kept starting earlier c
-    (Return reply) refl refl refl by_test
-  where
-    by_test : (b : Bool) (writes : List (ℕ × ℕ)) → with_write b (Return reply) writes ≡ writes
-    by_test true writes = refl
-    by_test false writes = refl
+followed_return kept starting earlier c reply e5 e6 = grind (arith, kept, starting, followed_quiet)
 
 -- a lone commit, in a block too: the writes of the block that take effect there aren't known before
 -- its end
@@ -364,13 +319,8 @@ pub followed_lone_commit : (kept : ShadowKept) (starting : List StartWord) (earl
     (c : ℕ)
     → HasFollowed kept starting earlier → broken_rule kept.header earlier (entry c Commit) ≡ None
     → HasFollowed kept starting (entry c Commit ∷ earlier)
-followed_lone_commit kept starting earlier c =
-    followed_quiet kept starting earlier c Commit refl (same_here earlier c Commit refl) refl
-    by_test
-  where
-    by_test : (b : Bool) (writes : List (ℕ × ℕ)) → with_write b Commit writes ≡ writes
-    by_test true writes = refl
-    by_test false writes = refl
+followed_lone_commit kept starting earlier c e4 e5 =
+    search (kept, starting, followed_quiet, same_here, arith)
 
 alike : (n c : ℕ) (block : Option (List (ℕ × ℕ))) → get_or (replicate n block) c block ≡ block
 alike zero c block = refl
@@ -398,5 +348,4 @@ followed_start h starting words changed is = followed_from _ _ _ tt is
     (none_open h words changed c) refl)
 
 pub zeros_at_start : (h : Header) → replicate (plain_words h) 0 ≡ words_at_start h []
-zeros_at_start h = is_map (replicate (plain_words h) 0) (value_after [] []) 0 (plain_words h)
-    (length-replicate {A = ℕ} (plain_words h) 0) (λ i low. zeros (plain_words h) i)
+zeros_at_start h = search (is_map, length-replicate, zeros, arith)

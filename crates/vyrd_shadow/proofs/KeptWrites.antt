@@ -26,24 +26,17 @@ twice v u rest false = refl
 same_place : (w k v q u : ℕ) (rest : Option ℕ) → k ≡ q
     → option_or (given_to w (q, v)) rest ≡ option_or (given_to w (k, v))
     (option_or (given_to w (q, u)) rest)
-same_place w k v q u rest e =
-    subst (λ x. option_or (cond (x == w) (Some v) None) rest
-    ≡ option_or (cond (k == w) (Some v) None) (option_or (cond (x == w) (Some u) None) rest)) e
-    (twice v u rest (k == w))
+same_place w k v q u rest e = grind (arith, twice)
 
 swapped : (v u : ℕ) (rest : Option ℕ) (a b : Bool) → (a ≡ true → b ≡ true → ⊥)
     → option_or (cond a (Some u) None) (option_or (cond b (Some v) None) rest)
     ≡ option_or (cond b (Some v) None) (option_or (cond a (Some u) None) rest)
-swapped v u rest true true apart = absurd (apart refl refl)
-swapped v u rest true false apart = refl
-swapped v u rest false true apart = refl
-swapped v u rest false false apart = refl
+swapped v u rest a b apart = grind (arith, apart)
 
 other_place : (w k v q u : ℕ) (rest : Option ℕ) → (k == q) ≡ false
     → option_or (given_to w (q, u)) (option_or (given_to w (k, v)) rest)
     ≡ option_or (given_to w (k, v)) (option_or (given_to w (q, u)) rest)
-other_place w k v q u rest e = swapped v u rest (q == w) (k == w)
-    (λ f g. differs k q e (same_of q w f ∙ sym (same_of k w g)))
+other_place w k v q u rest e = search (swapped, differs, same_of, arith)
 
 -- an insertion, by whether the key is the first one
 inserted : (k v q u : ℕ) (es : List (ℕ × ℕ)) (b : Bool) → (k == q) ≡ b
@@ -63,11 +56,8 @@ value_kept w k v ((q, u) ∷ es) = by_place (k == q) refl (value_kept w k v es)
         → first_answer (given_to w) (with_kept ((q, u) ∷ es) k v)
         ≡ option_or (given_to w (k, v))
         (option_or (given_to w (q, u)) (first_answer (given_to w) es))
-    by_place true e rest = ap (first_answer (given_to w)) (inserted k v q u es true e)
-        ∙ same_place w k v q u (first_answer (given_to w) es) (same_of k q e)
-    by_place false e rest = ap (first_answer (given_to w)) (inserted k v q u es false e)
-        ∙ ap (option_or (given_to w (q, u))) rest
-        ∙ other_place w k v q u (first_answer (given_to w) es) e
+    by_place true e rest = search (inserted, same_place, same_of, arith)
+    by_place false e rest = search (inserted, other_place, arith)
 
 -- the words of a block, with one more write
 pub words_kept : (k v : ℕ) (es : List (ℕ × ℕ)) → keys_of (with_kept es k v)
@@ -82,13 +72,8 @@ words_kept k v ((q, u) ∷ es) = by_place (k == q) refl (words_kept k v es)
 
     by_place : (b : Bool) → (k == q) ≡ b → keys_of (with_kept es k v) ≡ with_word (keys_of es) k
         → keys_of (with_kept ((q, u) ∷ es) k v) ≡ with_word (q ∷ keys_of es) k
-    by_place true e rest = ap keys_of (inserted k v q u es true e)
-        ∙ ap (λ b. cond (b || list_any (λ other. k == other) (keys_of es)) (q ∷ keys_of es)
-        ((q ∷ keys_of es) ++ k ∷ [])) (sym e)
-    by_place false e rest = ap keys_of (inserted k v q u es false e) ∙ ap (λ t. q ∷ t) rest
-        ∙ pushed (list_any (λ other. k == other) (keys_of es))
-        ∙ ap (λ b. cond (b || list_any (λ other. k == other) (keys_of es)) (q ∷ keys_of es)
-        ((q ∷ keys_of es) ++ k ∷ [])) (sym e)
+    by_place true e rest = cc (inserted k v q u es true e)
+    by_place false e rest = search (inserted, pushed, arith)
 
 pub in_range_kept : (n k v : ℕ) (es : List (ℕ × ℕ)) → k < n → v < 2 ^ 63 → AreInRange n es
     → AreInRange n (with_kept es k v)
@@ -98,10 +83,8 @@ in_range_kept n k v ((q, u) ∷ es) low small all = by_place (k == q) refl
   where
     by_place : (b : Bool) → (k == q) ≡ b → AreInRange n (with_kept es k v)
         → AreInRange n (with_kept ((q, u) ∷ es) k v)
-    by_place true e rest = subst (AreInRange n) (sym (inserted k v q u es true e))
-        (all.0, small, all.2)
-    by_place false e rest = subst (AreInRange n) (sym (inserted k v q u es false e))
-        (all.0, all.1, rest)
+    by_place true e rest = grind (arith, inserted k v q u es true e, all.0, all.2)
+    by_place false e rest = grind (arith, inserted k v q u es false e, all.0, all.1)
 
 -- each word stands once
 pub AllOnce : List ℕ → Type 0
@@ -120,12 +103,7 @@ once_push (w ∷ ws) k once new =
     )
 
 once_with : (ws : List ℕ) (k : ℕ) → AllOnce ws → AllOnce (with_word ws k)
-once_with ws k once = by_there (list_any (λ other. k == other) ws) refl
-  where
-    by_there : (b : Bool) → list_any (λ other. k == other) ws ≡ b → AllOnce (with_word ws k)
-    by_there true e = subst (λ b. AllOnce (cond b ws (ws ++ k ∷ []))) (sym e) once
-    by_there false e = subst (λ b. AllOnce (cond b ws (ws ++ k ∷ []))) (sym e)
-        (once_push ws k once e)
+once_with ws k once = grind (arith, once_push)
 
 pub once_written : (writes : List (ℕ × ℕ)) → AllOnce (first_written writes)
 unfolding AllOnce

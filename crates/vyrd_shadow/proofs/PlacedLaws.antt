@@ -1,9 +1,9 @@
 -- Where the writes stand that blocks keep.
-use Rattle.std.proofs.Common.{◌≡◌, ℕ, suc, zero, ◌+◌, ◌-◌, ◌<◌, ◌≤◌, Bool, true, false, cond, ◌&&◌}
+use Rattle.std.proofs.Common.{◌≡◌, ℕ, suc, zero, ◌+◌, ◌-◌, ◌<◌, Bool, true, false, cond}
 use Rattle.std.proofs.Common.{◌||◌, List, [], ◌∷◌, ◌++◌, length, Option, Some, None, refl, ap, ◌∙◌}
 use Rattle.std.proofs.Common.{sym, subst, arith, get_or, set, get_or-set_other, get_or-set_same}
-use Rattle.std.proofs.Common.{length-set, length-append, take}
-use Rattle.std.specs.Prelude.{◌==◌, unwrap_or, is_some, nat_lt, replicate}
+use Rattle.std.proofs.Common.{length-set, length-append}
+use Rattle.std.specs.Prelude.{◌==◌, unwrap_or, is_some}
 use Rattle.std.specs.List.{list_any}
 use Rattle.std.proofs.Math.ListN.{get_or-append}
 use Rattle.std.proofs.Math.Seq.{get_or-append_seam}
@@ -25,19 +25,15 @@ use Rattle.vyrd_shadow.proofs.KeptWrites.{differs}
 
 -- a place is one of the block's
 low_at : (i w : ℕ) (ws : List (ℕ × ℕ)) → is_at i w ws ≡ true → i < length ws
-low_at i w ws at =
-    grind (arith, nat_tests, first_true (nat_lt i (length ws)) ((get_or ws i (0, 0)).0 == w) at)
+low_at i w ws at = search (first_true, arith)
 
 -- and its word is this one
 word_at : (i w : ℕ) (ws : List (ℕ × ℕ)) → is_at i w ws ≡ true → (get_or ws i (0, 0)).0 ≡ w
-word_at i w ws at = same_of (get_or ws i (0, 0)).0 w
-    (second_true (nat_lt i (length ws)) ((get_or ws i (0, 0)).0 == w) at)
+word_at i w ws at = search (same_of, second_true, arith)
 
 at_from : (i w : ℕ) (ws : List (ℕ × ℕ)) → i < length ws → (get_or ws i (0, 0)).0 ≡ w → is_at i w ws
     ≡ true
-at_from i w ws low is =
-    let first : nat_lt i (length ws) ≡ true = grind (arith, nat_tests) in
-    ap (λ b. b && ((get_or ws i (0, 0)).0 == w)) first ∙ ap (λ x. x == w) is ∙ same_number w
+at_from i w ws low is = grind (arith, nat_tests, same_number)
 
 none_at : {P : Type 0} (i w : ℕ) → is_at i w [] ≡ true → P
 none_at i w at = absurd (omega (arith, low_at i w [] at))
@@ -50,8 +46,7 @@ kept_same blocks c b low = ap (λ o. unwrap_or o []) (get_or-set_same blocks c b
 kept_other : (blocks : List (Option (List (ℕ × ℕ)))) (c d : ℕ) (b : Option (List (ℕ × ℕ)))
     → (c == d) ≡ false
     → kept_by (set blocks c b) d ≡ kept_by blocks d
-kept_other blocks c d b other = ap (λ o. unwrap_or o [])
-    (get_or-set_other blocks c d b None (differs c d other))
+kept_other blocks c d b other = cc (get_or-set_other blocks c d b None (differs c d other))
 
 -- one block is replaced
 placed_set : (blocks : List (Option (List (ℕ × ℕ)))) (holders : List (ℕ × ℕ)) (c : ℕ)
@@ -64,47 +59,6 @@ placed_set blocks holders c b low own others = λ d i w at. by_same c d
     ≡ (x, i)) same
     (λ here. own i w (subst (λ ws. is_at i w ws ≡ true) (kept_same blocks c b low) here)) at)
     (λ other. others d i w (subst (λ ws. is_at i w ws ≡ true) (kept_other blocks c d b other) at))
-
--- a block keeps nothing
-pub placed_none : (blocks : List (Option (List (ℕ × ℕ)))) (holders : List (ℕ × ℕ)) (c : ℕ)
-    (b : Option (List (ℕ × ℕ))) → c < length blocks
-    → unwrap_or b [] ≡ [] → ArePlaced blocks holders → ArePlaced (set blocks c b) holders
-placed_none blocks holders c b low none placed = placed_set blocks holders c b low
-    (λ i w at. none_at i w (subst (λ ws. is_at i w ws ≡ true) none at)) placed
-
--- no block keeps anything
-pub placed_start : (n : ℕ) → ArePlaced (replicate n None) []
-placed_start n = λ c i w at. none_at i w (subst (λ ws. is_at i w ws ≡ true) (nothing n c) at)
-  where
-    nothing : (n c : ℕ) → kept_by (replicate n None) c ≡ []
-    nothing zero c = refl
-    nothing (suc n) zero = refl
-    nothing (suc n) (suc c) = nothing n c
-
--- a write takes another value
-words_stay : (ws : List (ℕ × ℕ)) (p w v : ℕ) → is_at p w ws ≡ true → (i x : ℕ)
-    → is_at i x (set ws p (w, v)) ≡ true → is_at i x ws ≡ true
-words_stay ws p w v there i x at =
-    let low : i < length ws =
-    omega (arith, low_at i x (set ws p (w, v)) at, length-set ws p (w, v)) in
-    let is = word_at i x (set ws p (w, v)) at in
-    by_same p i
-    (λ same. at_from i x ws low
-    (subst (λ j. (get_or ws j (0, 0)).0 ≡ x) same
-    (word_at p w ws there
-    ∙ sym (ap (λ (y : ℕ × ℕ). y.0) (get_or-set_same ws p (w, v) (0, 0) (low_at p w ws there)))
-    ∙ subst (λ j. (get_or (set ws p (w, v)) j (0, 0)).0 ≡ x) (sym same) is)))
-    (λ other. at_from i x ws low
-    (sym (ap (λ (y : ℕ × ℕ). y.0) (get_or-set_other ws p i (w, v) (0, 0) (differs p i other)))
-    ∙ is))
-
-pub placed_replaced : (blocks : List (Option (List (ℕ × ℕ)))) (holders : List (ℕ × ℕ)) (c p w v : ℕ)
-    → c < length blocks
-    → is_at p w (kept_by blocks c) ≡ true → ArePlaced blocks holders
-    → ArePlaced (set blocks c (Some (set (kept_by blocks c) p (w, v)))) holders
-placed_replaced blocks holders c p w v low there placed = placed_set blocks holders c
-    (Some (set (kept_by blocks c) p (w, v))) low
-    (λ i x at. placed c i x (words_stay (kept_by blocks c) p w v there i x at)) placed
 
 -- a write to a new word
 pub placed_pushed : (blocks : List (Option (List (ℕ × ℕ)))) (holders : List (ℕ × ℕ)) (c w v n : ℕ)
@@ -120,9 +74,7 @@ placed_pushed blocks holders c w v n low low_w new size placed =
 
     before : (d i x : ℕ) → is_at i x (kept_by blocks d) ≡ true → get_or (set holders w (c, n)) x
         (0, 0) ≡ (d, i)
-    before d i x at = by_same w x
-        (λ same. never (new d i) (subst (λ y. is_at i y (kept_by blocks d) ≡ true) (sym same) at))
-        (λ other. get_or-set_other holders w x (c, n) (0, 0) (differs w x other) ∙ placed d i x at)
+    before d i x at = search (by_same, never, is_at, get_or-set_other, differs, placed, arith)
 
     own : (i x : ℕ) → is_at i x (ws ++ (w, v) ∷ []) ≡ true → get_or (set holders w (c, n)) x (0, 0)
         ≡ (c, i)
@@ -145,30 +97,6 @@ placed_pushed blocks holders c w v n low low_w new size placed =
 abbrev none : ℕ × ℕ
 none = (0, 0)
 
--- more room for holders changes none of them
-pub resized : (old new : List (ℕ × ℕ)) (n w : ℕ) → length old ≤ n → new ≡ take n old
-    ++ replicate (n - length old) (0, 0)
-    → get_or new w (0, 0) ≡ get_or old w (0, 0)
-resized old new n w fits is = subst (λ (l : List (ℕ × ℕ)). get_or l w (0, 0) ≡ get_or old w (0, 0))
-    (sym is) (longer old n w fits)
-  where
-    alike : (n w : ℕ) → get_or (replicate n (0, 0)) w (0, 0) ≡ none
-    alike zero w = refl
-    alike (suc n) zero = refl
-    alike (suc n) (suc w) = alike n w
-
-    longer : (old : List (ℕ × ℕ)) (n w : ℕ) → length old ≤ n
-        → get_or (take n old ++ replicate (n - length old) (0, 0)) w (0, 0) ≡ get_or old w (0, 0)
-    longer [] zero w fits = refl
-    longer [] (suc n) w fits = let whole : suc n ≡ suc n - 0 = omega arith in
-        subst (λ m. get_or (replicate m (0, 0)) w (0, 0) ≡ none) whole (alike (suc n) w)
-    longer (x ∷ old) zero w fits = absurd (omega (arith, fits))
-    longer (x ∷ old) (suc n) zero fits = refl
-    longer (x ∷ old) (suc n) (suc w) fits = let left : n - length old ≡ suc n - suc (length old) =
-        omega arith in
-        subst (λ m. get_or (take n old ++ replicate m (0, 0)) w (0, 0) ≡ get_or old w (0, 0)) left
-        (longer old n w (omega (arith, fits)))
-
 pub placed_still : (blocks : List (Option (List (ℕ × ℕ)))) (old new : List (ℕ × ℕ))
     → ((w : ℕ) → get_or new w (0, 0) ≡ get_or old w (0, 0)) → ArePlaced blocks old
     → ArePlaced blocks new
@@ -179,24 +107,15 @@ pub not_kept : (blocks : List (Option (List (ℕ × ℕ)))) (holders : List (ℕ
     → ArePlaced blocks holders
     → is_at (get_or holders w (0, 0)).1 w (kept_by blocks c) ≡ false → (i : ℕ)
     → is_at i w (kept_by blocks c) ≡ false
-not_kept blocks holders c w placed nowhere i = by_test (is_at i w (kept_by blocks c)) refl
-  where
-    by_test : (b : Bool) → is_at i w (kept_by blocks c) ≡ b → b ≡ false
-    by_test false e = refl
-    by_test true e = never nowhere (subst (λ (h : ℕ × ℕ). is_at h.1 w (kept_by blocks c) ≡ true)
-        (sym (placed c i w e)) e)
+not_kept blocks holders c w placed nowhere i = grind (arith, placed, nowhere, is_at, never)
 
 -- and if no other caller keeps it, it is new
 pub new_word : (blocks : List (Option (List (ℕ × ℕ)))) (holders : List (ℕ × ℕ)) (c w : ℕ)
     → ArePlaced blocks holders → IsFree blocks c w
     → is_at (get_or holders w (0, 0)).1 w (kept_by blocks c) ≡ false → (d i : ℕ)
     → is_at i w (kept_by blocks d) ≡ false
-new_word blocks holders c w placed free nowhere d i = by_test (is_at i w (kept_by blocks d)) refl
-  where
-    by_test : (b : Bool) → is_at i w (kept_by blocks d) ≡ b → b ≡ false
-    by_test false e = refl
-    by_test true e = never (not_kept blocks holders c w placed nowhere i)
-        (subst (λ x. is_at i w (kept_by blocks x) ≡ true) (free d i e) e)
+new_word blocks holders c w placed free nowhere d i =
+    grind (arith, placed, free, nowhere, is_at, never, not_kept)
 
 -- a new word comes last
 pub pushed_is : (ws : List (ℕ × ℕ)) (w v : ℕ) → ((i : ℕ) → is_at i w ws ≡ false) → ws ++ (w, v) ∷ []
@@ -220,11 +139,7 @@ pub replaced_is : (ws : List (ℕ × ℕ)) (p w v : ℕ) → is_at p w ws ≡ tr
     → ((i : ℕ) → is_at i w ws ≡ true → i ≡ p)
     → set ws p (w, v) ≡ with_kept ws w v
 replaced_is [] p w v there one = none_at p w there
-replaced_is ((q, u) ∷ ws) zero w v there one =
-    let same : q ≡ w = word_at 0 w ((q, u) ∷ ws) there in
-    ap (λ x. (x, v) ∷ ws) (sym same)
-    ∙ ap (λ b. cond b ((q, v) ∷ ws) ((q, u) ∷ with_kept ws w v))
-    (sym (ap (λ x. w == x) same ∙ same_number w))
+replaced_is ((q, u) ∷ ws) zero w v there one = cc (word_at 0 w ((q, u) ∷ ws) there, same_number w)
 replaced_is ((q, u) ∷ ws) (suc p) w v there one = by_same w q
     (λ same. absurd (omega (arith, one 0 (at_from 0 w ((q, u) ∷ ws) (omega arith) (sym same)))))
     (λ other. ap (λ t. (q, u) ∷ t) (replaced_is ws p w v
@@ -247,17 +162,15 @@ one_place blocks holders c w i placed at = sym (ap (λ (h : ℕ × ℕ). h.1) (p
 pub place_is : (holders lent : List (ℕ × ℕ)) (w : ℕ) (holder : ℕ × ℕ)
     → holder ≡ get_or lent w (0, 0) → lent ≡ holders
     → holder.1 ≡ (get_or holders w (0, 0)).1
-place_is holders lent w holder is same = ap (λ (h : ℕ × ℕ). h.1) is
-    ∙ ap (λ (l : List (ℕ × ℕ)). (get_or l w (0, 0)).1) same
+place_is holders lent w holder is same = cc
 
 -- the word stands at its holder's place, and the write there is replaced
 replaced_there : (blocks : List (Option (List (ℕ × ℕ)))) (holders : List (ℕ × ℕ)) (c w v p : ℕ)
     → ArePlaced blocks holders
     → p ≡ (get_or holders w (0, 0)).1 → is_at p w (kept_by blocks c) ≡ true
     → set (kept_by blocks c) p (w, v) ≡ with_kept (kept_by blocks c) w v
-replaced_there blocks holders c w v p placed place there = replaced_is (kept_by blocks c) p w v
-    there
-    (λ i at. one_place blocks holders c w i placed at ∙ sym place)
+replaced_there blocks holders c w v p placed place there =
+    grind (arith, placed, there, replaced_is, one_place)
 
 pub replaced_in : (blocks : List (Option (List (ℕ × ℕ)))) (holders : List (ℕ × ℕ)) (c w v p : ℕ)
     (read block : Option (List (ℕ × ℕ)))
@@ -265,9 +178,8 @@ pub replaced_in : (blocks : List (Option (List (ℕ × ℕ)))) (holders : List (
     ≡ true → read ≡ get_or blocks c None
     → block ≡ Some (set (unwrap_or read []) p (w, v)) → set blocks c block
     ≡ set blocks c (Some (with_kept (kept_by blocks c) w v))
-replaced_in blocks holders c w v p read block placed place there is new = ap (set blocks c)
-    (new ∙ ap (λ (o : Option (List (ℕ × ℕ))). Some (set (unwrap_or o []) p (w, v))) is
-    ∙ ap (λ ws. Some ws) (replaced_there blocks holders c w v p placed place there))
+replaced_in blocks holders c w v p read block placed place there is new =
+    grind (arith, read, placed, there, replaced_there)
 
 pub replaced_length : (blocks : List (Option (List (ℕ × ℕ)))) (holders : List (ℕ × ℕ)) (c w v p : ℕ)
     → ArePlaced blocks holders
@@ -282,9 +194,8 @@ pub pushed_in : (blocks : List (Option (List (ℕ × ℕ)))) (holders : List (�
     → ArePlaced blocks holders
     → p ≡ (get_or holders w (0, 0)).1 → is_at p w (kept_by blocks c) ≡ false → kept_by blocks c
     ++ (w, v) ∷ [] ≡ with_kept (kept_by blocks c) w v
-pushed_in blocks holders c w v p placed place nowhere = pushed_is (kept_by blocks c) w v
-    (not_kept blocks holders c w placed
-    (subst (λ x. is_at x w (kept_by blocks c) ≡ false) place nowhere))
+pushed_in blocks holders c w v p placed place nowhere =
+    grind (arith, placed, nowhere, pushed_is, not_kept, is_at)
 
 pub pushed_length : (blocks : List (Option (List (ℕ × ℕ)))) (holders : List (ℕ × ℕ)) (c w v p : ℕ)
     → ArePlaced blocks holders
@@ -304,21 +215,12 @@ pub pushed_read : (blocks : List (Option (List (ℕ × ℕ)))) (holders holders'
     → block ≡ Some (unwrap_or read [] ++ (w, v) ∷ []) → ArePlaced (set blocks c block)
     (set holders' w (c, n))
 pushed_read blocks holders holders' c w v n read block low placed same low_w new is size pushed =
-    subst (λ b. ArePlaced (set blocks c b) (set holders' w (c, n)))
-    (sym (pushed ∙ ap (λ (o : Option (List (ℕ × ℕ))). Some (unwrap_or o [] ++ (w, v) ∷ [])) is))
-    (placed_pushed blocks holders' c w v n low low_w new
-    (size ∙ ap (λ (o : Option (List (ℕ × ℕ))). length (unwrap_or o [])) is)
-    (placed_still blocks holders holders' same placed))
+    grind (arith, read, placed, pushed, placed_pushed, placed_still)
 
 -- a word is among the writes
 any_at : (ws : List (ℕ × ℕ)) (i w : ℕ) → is_at i w ws ≡ true → list_any (is_to w) ws ≡ true
 any_at [] i w at = none_at i w at
-any_at ((q, u) ∷ ws) zero w at = by_test (q == w) (ap (λ x. x == w) (word_at 0 w ((q, u) ∷ ws) at)
-    ∙ same_number w)
-  where
-    by_test : (b : Bool) → b ≡ true → (b || list_any (is_to w) ws) ≡ true
-    by_test true e = refl
-    by_test false e = never refl e
+any_at ((q, u) ∷ ws) zero w at = search (word_at, same_number, arith)
 any_at ((q, u) ∷ ws) (suc i) w at = by_test (q == w)
     (any_at ws i w (at_from i w ws (omega (arith, low_at (suc i) w ((q, u) ∷ ws) at))
     (word_at (suc i) w ((q, u) ∷ ws) at)))

@@ -128,7 +128,4 @@ pub effect_is : (n : ℕ) (new lent words : List ℕ) (writes : List (ℕ × ℕ
     → lent ≡ words → new ≡ with_writes lent writes
     → take n (new ++ drop (length new) words) ≡ with_writes words writes
 effect_is n new lent words writes size same effect =
-    let whole : new ≡ with_writes words writes = effect ∙ ap (λ l. with_writes l writes) same in
-    let long : length new ≡ length words = ap length whole ∙ length-with_writes words writes in
-    ap (λ k. take k (new ++ drop (length new) words)) (size ∙ sym long)
-    ∙ take-append_seam new (drop (length new) words) ∙ whole
+    cc (length-with_writes words writes, take-append_seam new (drop (length new) words))

@@ -94,28 +94,22 @@ pub released_own : (g : ℕ) → released g g ≡ 0
 released_own g = let same : (g == g) ≡ true = grind (arith, nat_tests) in ap (λ b. cond b 0 g) same
 
 pub released_other : (g h : ℕ) → h ≢ g → released g h ≡ h
-released_other g h other = let apart : (h == g) ≡ false = grind (arith, nat_tests) in
-    ap (λ b. cond b 0 h) apart
+released_other g h other = grind arith
 
 -- what a released list has
 pub released_at : (g : ℕ) (l : List ℕ) (w : ℕ) → get_or (map (released g) l) w 0
     ≡ released g (get_or l w 0)
-released_at g l w = subst (λ d. get_or (map (released g) l) w d ≡ released g (get_or l w 0))
-    (released_zero g) (get_or-map (released g) l w 0)
+released_at g l w = cc (released_zero g, get_or-map (released g) l w 0)
 
 not_released : (g h n : ℕ) → 0 ≢ h → n ≢ h → released g n ≢ h
-not_released g h n some other =
-    elim (n == g) as (λ b. cond b 0 n ≢ h) [ true ↦ some | false ↦ other ]
+not_released g h n some other = grind arith
 
 -- another holder's words stay linked when one lets go
 pub chain_released : (g h : ℕ) (by_word links : List ℕ) (first : ℕ) (ws : List ℕ)
     → 0 ≢ h → h ≢ g → IsChain h by_word links first ws
     → IsChain h (map (released g) by_word) links first ws
-chain_released g h by_word links first [] some other chain = (
-  chain.0,
-  λ q e. not_released g h (get_or by_word q 0) some (chain.1 q)
-      (sym (released_at g by_word q) ∙ e),
-)
+chain_released g h by_word links first [] some other chain =
+    search (not_released, released_at, arith)
 chain_released g h by_word links first (w ∷ ws) some other chain =
     let moved : map (released g) (set by_word w 0) ≡ set (map (released g) by_word) w 0
     = map-set (released g) by_word w 0 ∙ ap (set (map (released g) by_word) w) (released_zero g) in (
@@ -128,8 +122,7 @@ chain_released g h by_word links first (w ∷ ws) some other chain =
 -- after it has let go, a holder has no word
 pub chain_none : (g : ℕ) (by_word links : List ℕ) → 0 ≢ g
     → IsChain g (map (released g) by_word) links 0 []
-chain_none g by_word links some =
-    (refl, λ q e. gone (get_or by_word q 0) (sym (released_at g by_word q) ∙ e))
+chain_none g by_word links some = search (gone, released_at, arith)
   where
     gone : (n : ℕ) → released g n ≢ g
     gone n e = by_test (n == g) refl
@@ -156,8 +149,7 @@ chain_ends g by_word links first (w ∷ ws) ends chain = absurd (omega (arith, c
 pub released_set : (g : ℕ) (by_word : List ℕ) (w : ℕ) → get_or by_word w 0 ≡ g
     → map (released g) (set by_word w 0) ≡ map (released g) by_word
 released_set g [] w held = refl
-released_set g (x ∷ l) zero held = λ i. (released_zero g ∙ sym (released_own g)
-    ∙ ap (released g) (sym held)) i ∷ map (released g) l
+released_set g (x ∷ l) zero held = search (released_zero, released_own, released, held, arith)
 released_set g (x ∷ l) (suc w) held = ap (λ t. released g x ∷ t) (released_set g l w held)
 
 -- what stands at the head of the links
@@ -180,16 +172,7 @@ head_of holder by_word links first some more linked = by_words linked.words link
         → Head holder by_word links first
     by_words [] chain = absurd (omega (arith, chain.0))
     by_words (w ∷ ws) chain =
-        let e : w ≡ first - 1 = omega (arith, chain.0) in
-        record {
-          held = ap (λ v. get_or by_word v 0) (sym e) ∙ chain.1;
-          within = subst (λ v. v < length by_word) e (within_list by_word w holder chain.1 some);
-          rest = record {
-            words = ws;
-            chain = subst (λ v. IsChain holder (set by_word v 0) links (get_or links v 0) ws) e
-                chain.2;
-          };
-        }
+        grind (arith, chain.0, chain.1, within_list by_word w holder chain.1 some, chain.2)
 
 -- where the links end, the holder has no word
 pub linked_none : (holder : ℕ) (by_word links : List ℕ) (first : ℕ) → first ≡ 0
@@ -204,8 +187,7 @@ linked_none holder by_word links first ends linked = by_words linked.words linke
 pub linked_ends : (holder : ℕ) (by_word links : List ℕ) (first : ℕ) → first ≡ 0
     → IsLinked holder by_word links first
     → map (released holder) by_word ≡ by_word
-linked_ends holder by_word links first ends linked = chain_ends holder by_word links first
-    linked.words ends linked.chain
+linked_ends holder by_word links first ends linked = search (chain_ends, ends, arith)
 
 pub holder_falls : (by_word : List ℕ) (w h : ℕ) → get_or by_word w 0 ≡ h → 0 < h
     → w < length by_word
@@ -239,8 +221,7 @@ some_one : (c : ℕ) → 0 ≢ c + 1
 some_one c e = absurd (omega arith)
 
 apart_one : (c d : ℕ) → (d == c) ≡ false → d + 1 ≢ c + 1
-apart_one c d other e = let same : d ≡ c = omega arith in let no_same : d
-    ≢ c = grind (arith, nat_tests) in absurd (no_same same)
+apart_one c d other e = search arith
 
 pub differs : (c d : ℕ) → (d == c) ≡ false → d ≢ c
 differs c d other = grind (arith, nat_tests)
@@ -280,15 +261,7 @@ linked_hold by_word links firsts c w low low_c free linked = record {
         → IsLinked (d + 1) (set by_word w (c + 1)) (set links w (get_or firsts c 0))
         (get_or (set firsts c (w + 1)) d 0)
     others d low_d other =
-        let was = linked.chains d low_d in
-        let now : IsChain (d + 1) (set by_word w (c + 1)) (set links w (get_or firsts c 0))
-        (get_or firsts d 0) was.words
-        = chain_other (d + 1) by_word links (get_or firsts d 0) was.words w (c + 1)
-        (get_or firsts c 0)
-        (λ e. some_one d (sym free ∙ e)) (λ e. apart_one c d other (sym e)) was.chain in
-        subst (λ f. IsLinked (d + 1) (set by_word w (c + 1)) (set links w (get_or firsts c 0)) f)
-        (sym (get_or-set_other firsts c d (w + 1) 0 (differs c d other)))
-        (record { words = was.words; chain = now })
+        search (chain_other, some_one, free, apart_one, get_or-set_other, differs, arith)
 
 pub released_le : (g n m : ℕ) → n ≤ m → released g n ≤ m
 released_le g n m low = elim (n == g) as (λ b. cond b 0 n ≤ m) [ true ↦ omega arith | false ↦ low ]
@@ -311,23 +284,17 @@ linked_release by_word links firsts c low_c linked = record {
     own : (d : ℕ) → d ≡ c → IsLinked (d + 1) (map (released (c + 1)) by_word) links
         (get_or (set firsts c 0) d 0)
     own d same =
-        subst (λ x. IsLinked (x + 1) (map (released (c + 1)) by_word) links
-        (get_or (set firsts c 0) x 0)) (sym same)
-        (subst (λ f. IsLinked (c + 1) (map (released (c + 1)) by_word) links f)
-        (sym (get_or-set_same firsts c 0 0 low_c))
-        (record { words = []; chain = chain_none (c + 1) by_word links (some_one c) }))
+        grind (
+          arith,
+          get_or-set_same firsts c 0 0 low_c,
+          chain_none (c + 1) by_word links (some_one
+              c),
+        )
 
     others : (d : ℕ) → d < length firsts → (d == c) ≡ false
         → IsLinked (d + 1) (map (released (c + 1)) by_word) links (get_or (set firsts c 0) d 0)
     others d low_d other =
-        let was = linked.chains d low_d in
-        let now : IsChain (d + 1) (map (released (c + 1)) by_word) links
-        (get_or firsts d 0) was.words
-        = chain_released (c + 1) (d + 1) by_word links (get_or firsts d 0) was.words (some_one d)
-        (apart_one c d other) was.chain in
-        subst (λ f. IsLinked (d + 1) (map (released (c + 1)) by_word) links f)
-        (sym (get_or-set_other firsts c d 0 0 (differs c d other)))
-        (record { words = was.words; chain = now })
+        search (released, chain_released, some_one, apart_one, get_or-set_other, differs, arith)
 
 -- some number below n passes the test, or none does
 pub any_number : (p : ℕ → Bool) (k n d : ℕ) → p d ≡ true → k ≤ d → d < k + n

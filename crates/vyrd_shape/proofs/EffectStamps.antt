@@ -5,7 +5,6 @@ use Rattle.std.proofs.Common.{[], ◌∷◌, ◌++◌, length, Some, None, refl,
 use Rattle.std.specs.Prelude.{◌==◌, nat_lt, is_some}
 use Rattle.std.specs.Option.{option_or}
 use Rattle.std.proofs.lemmas.List.Folds.{list_any-append}
-use Rattle.std.proofs.Math.Bool.{and-false}
 use Rattle.vyrd_base.specs.declared.header.Header.{Header}
 use Rattle.vyrd_base.specs.declared.log.Kind.{Kind}
 use Rattle.vyrd_base.specs.declared.log.Kind.TheVariants.{Call, Return, Write, Commit, BlockOpen}
@@ -57,20 +56,15 @@ same_stamp w (e ∷ earlier) later later' same =
 -- at one
 pub commit_other : (c : ℕ) (e : Entry) (earlier : List Entry) → (e.caller == c) ≡ false
     → last_commit c (e ∷ earlier) ≡ last_commit c earlier
-commit_other c e earlier apart =
-    ap (λ b. cond (b && is_lone_commit e.kind) (length earlier + 1) (last_commit c earlier)) apart
+commit_other c e earlier apart = cc
 
 pub commit_none : (c : ℕ) (e : Entry) (earlier : List Entry) → is_lone_commit e.kind ≡ false
     → last_commit c (e ∷ earlier) ≡ last_commit c earlier
-commit_none c e earlier alone =
-    ap (λ b. cond b (length earlier + 1) (last_commit c earlier))
-    (ap (λ b. (e.caller == c) && b) alone ∙ and-false (e.caller == c))
+commit_none c e earlier alone = grind (arith, alone, last_commit)
 
 pub commit_here : (c : ℕ) (e : Entry) (earlier : List Entry) → e.caller ≡ c
     → is_lone_commit e.kind ≡ true → last_commit c (e ∷ earlier) ≡ length earlier + 1
-commit_here c e earlier same alone =
-    let owned : (e.caller == c) ≡ true = is_same e.caller c same in
-    λ i. cond (owned i && alone i) (length earlier + 1) (last_commit c earlier)
+commit_here c e earlier same alone = grind (arith, alone, is_same, last_commit)
 
 -- raising a stamp does nothing if it is greater already
 kept_high : (b : Bool) (stamp old : ℕ) → stamp ≤ old → old ≡ raised_if b stamp old
@@ -109,36 +103,27 @@ more_stamp w c writes (e ∷ earlier) later later' =
         let here = commit_here c e earlier same (ap is_lone_commit alone) in
         (λ i. cond (has_write w (all i)) next (before' i)) ∙ ap (λ n. cond raises n old) high
         ∙ (λ i. raised_if raises (sym here i) (cond (has_write w (sym none i)) next old))
-    by_entry before (own same alone none none' more) =
-        let here = commit_none c e earlier alone in
-        (λ i. cond (has_write w (none' i)) next (before more i))
-        ∙ (λ i. raised_if raises (sym here i) (cond (has_write w (sym none i)) next old))
+    by_entry before (own same alone none none' more) = grind arith
     by_entry before (other apart same more) =
-        (λ i. cond (has_write w (sym same i)) next (before more i))
-        ∙ by_write (has_write w (effects_at earlier e.caller e.kind later))
-        ∙ ap (λ n. raised_if raises n (last_effect w (e ∷ earlier) later))
-        (sym (commit_other c e earlier apart))
+        grind (
+          arith,
+          by_write (has_write w (effects_at earlier e.caller e.kind later)),
+          commit_other c e earlier apart,
+        )
       where
         by_write : (b : Bool) → cond b next (raised_if raises (last_commit c earlier) old)
             ≡ raised_if raises (last_commit c earlier) (cond b next old)
-        by_write true =
-            let low = last_commit_low c earlier in
-            kept_high raises (last_commit c earlier) next (omega arith)
+        by_write true = search (last_commit_low, kept_high, last_commit, arith)
         by_write false = refl
 
 -- what an entry lets take effect at once
 written_once : (earlier : List Entry) (c word value w : ℕ)
     → has_write w (effects_at earlier c (Write word value) [])
     ≡ (not (has_block c earlier) && (word == w))
-written_once earlier c word value w = elim (has_block c earlier)
-    as (λ b. has_write w (cond b [] ((word, value) ∷ [])) ≡ (not b && (word == w))) [
-      | true ↦ refl
-      | false ↦ elim (word == w) as (λ b. (b || false) ≡ b) [ true ↦ refl | false ↦ refl ]
-    ]
+written_once earlier c word value w = grind arith
 
 no_effect_yet : (earlier : List Entry) (c : ℕ) → effects_at earlier c Commit [] ≡ []
-no_effect_yet earlier c = elim (has_block c earlier)
-    as (λ b. cond {A = List (ℕ × ℕ)} b [] [] ≡ []) [ true ↦ refl | false ↦ refl ]
+no_effect_yet earlier c = grind arith
 
 -- the words that the caller holds are those of the writes of its block
 answered : (w : ℕ) (writes : List (ℕ × ℕ))
@@ -150,8 +135,7 @@ answered w (write ∷ writes) = elim (write.0 == w)
 
 held_is : (c w : ℕ) (earlier : List Entry) → has_block c earlier ≡ true
     → holds_word c w earlier ≡ has_write w (block_writes c earlier)
-held_is c w earlier inside = ap (λ b. b && wrote c w earlier) inside
-    ∙ wrote_is c w earlier inside ∙ answered w (block_writes c earlier)
+held_is c w earlier inside = cc (wrote_is c w earlier inside, answered w (block_writes c earlier))
 
 -- where the writes take effect that do so once an entry of the caller stands
 abbrev effect_place_by : Bool → ℕ → List Entry → ℕ
@@ -172,19 +156,8 @@ raises_now : (h : Header) (holders : List ℕ) (w c : ℕ) (kind : Kind) (earlie
     → takes_effect holders (has_block c earlier) c kind w ≡ taking
     → has_write w (effects_at earlier c kind []) ≡ taking
     → (taking ≡ true → has_inner_commit c earlier ≡ false) → Raises holders w c kind earlier
-raises_now h holders w c kind earlier wf quiet true takes written outside =
-    let old = last_effect w earlier [] in
-    let next = length earlier + 1 in
-    let low = last_effect_low w earlier [] in
-    let high : next ≡ max old next = omega arith in
-    ap (λ b. cond b next (last_effect w earlier (entry c kind ∷ []))) written ∙ high
-    ∙ (λ i. raised_if (sym takes i) (effect_place_by (sym (outside refl) i) c earlier) old)
-raises_now h holders w c kind earlier wf quiet false takes written outside =
-    let e = entry c kind in
-    let same = same_after h earlier e wf (ap (λ b. b && has_inner_commit c earlier) quiet) in
-    ap (λ b. cond b (length earlier + 1) (last_effect w earlier (e ∷ []))) written
-    ∙ sym (same_stamp w earlier [] (e ∷ []) same)
-    ∙ ap (λ b. raised_if b (effect_place c earlier) (last_effect w earlier [])) (sym takes)
+raises_now h holders w c kind earlier wf quiet taking takes written outside =
+    grind (arith, quiet, takes, written, last_effect_low, same_after, same_stamp)
 
 -- the end of a block, with a lone commit in it and without one
 raises_end : (h : Header) (holders : List ℕ) (w c : ℕ) (kind : Kind) (earlier : List Entry)
@@ -193,9 +166,7 @@ raises_end : (h : Header) (holders : List ℕ) (w c : ℕ) (kind : Kind) (earlie
     → effects_at earlier c kind [] ≡ cond (has_inner_commit c earlier) [] (block_writes c earlier)
     → (inner : Bool) → has_inner_commit c earlier ≡ inner → Raises holders w c kind earlier
 raises_end h holders w c kind earlier wf ends takes effect inner is =
-    ap (λ writes. cond (has_write w writes) next behind)
-    (effect ∙ ap (λ b. cond b [] writes) is) ∙ by_inner inner is
-    ∙ (λ i. raised_if (sym takes i) (effect_place_by (sym is i) c earlier) old)
+    grind (arith, by_inner inner is)
   where
     old : ℕ
     old = last_effect w earlier []
@@ -218,8 +189,7 @@ raises_end h holders w c kind earlier wf ends takes effect inner is =
         ≡ raised_if (has_write w writes) (effect_place_by b c earlier) old
     by_inner true is' = more_stamp w c writes earlier [] (entry c kind ∷ [])
         (more_after h earlier (entry c kind) wf (λ i. ends i && is' i))
-    by_inner false is' = at_end (has_write w writes) (sym (same_stamp w earlier []
-        (entry c kind ∷ []) (same_after h earlier (entry c kind) wf (λ i. ends i && is' i))))
+    by_inner false is' = search (at_end, same_stamp, same_after, ends, arith)
 
 -- any entry that keeps the rules
 pub stamp_next : (h : Header) (holders : List ℕ) (w c : ℕ) (kind : Kind) (earlier : List Entry)
@@ -270,29 +240,14 @@ passed_quiet : (c w : ℕ) (kind : Kind) (earlier later : List Entry) → is_lon
     → effects_at earlier c kind later ≡ [] → has_inner_commit c earlier ≡ true
     → PassedIs c w earlier → PassedAt c w (entry c kind ∷ earlier) later
 passed_quiet c w kind earlier later alone none inner so =
-    let e = entry c kind in
-    let others = effects_of_others c earlier (e ∷ later) in
-    let owned : (c == c) ≡ true = same_number c in
-    let last = commit_none c e earlier alone in
-    (λ i. has_write w
-    (cond (owned i) (cond (alone i) [] others) (effects_at earlier c kind later ++ others)))
-    ∙ so (e ∷ later) inner
-    ∙ (λ i. nat_lt (sym last i)
-    (cond (has_write w (sym none i)) (length earlier + 1) (last_effect w earlier (e ∷ later))))
+    grind (arith, alone, same_number, commit_none)
 
 passed_own : (c w : ℕ) (kind : Kind) (earlier : List Entry) → PassedIs c w earlier
     → PassedIs c w (entry c kind ∷ earlier)
-passed_own c w (Call method args) earlier so later inner =
-    let before = sym (own_inner c (Call method args) earlier) ∙ inner in
-    passed_quiet c w (Call method args) earlier later refl refl before so
-passed_own c w (Return reply) earlier so later inner =
-    let before = sym (own_inner c (Return reply) earlier) ∙ inner in
-    passed_quiet c w (Return reply) earlier later refl refl before so
+passed_own c w (Call method args) earlier so later inner = search (own_inner, passed_quiet, arith)
+passed_own c w (Return reply) earlier so later inner = search (own_inner, passed_quiet, arith)
 passed_own c w (Write word value) earlier so later inner =
-    let before = sym (own_inner c (Write word value) earlier) ∙ inner in
-    let inside = first_true (has_block c earlier) (committed_since_open c earlier) before in
-    passed_quiet c w (Write word value) earlier later refl
-    (ap (λ b. cond b [] ((word, value) ∷ [])) inside) before so
+    search (own_inner, first_true, passed_quiet, arith)
 passed_own c w Commit earlier so later inner =
     let e = entry c Commit in
     let others = effects_of_others c earlier (e ∷ later) in
@@ -324,9 +279,7 @@ passed_other c w e earlier apart so later inner =
     by_write : (b : Bool) → PassedAt c w earlier (e ∷ later) → (b || has_write w others)
         ≡ nat_lt (last_commit c earlier)
         (cond b (length earlier + 1) (last_effect w earlier (e ∷ later)))
-    by_write true before =
-        let low = last_commit_low c earlier in
-        sym (is_below (last_commit c earlier) (length earlier + 1) (omega arith))
+    by_write true before = search (last_commit_low, is_below, last_commit, arith)
     by_write false before = before
 
 pub passed_by_stamp : (c w : ℕ) (earlier : List Entry) → PassedIs c w earlier

@@ -29,30 +29,13 @@ use Rattle.vyrd_shape.proofs.EffectStamps.{last_commit_low, last_effect_low, sta
 
 -- what comes before the later of two comes before one of them
 lt_max : (k a b : ℕ) → nat_lt k (max a b) ≡ (nat_lt k a || nat_lt k b)
-lt_max k a b = by_first (nat_lt k a) refl
-  where
-    by_second : (y : Bool) → nat_lt k b ≡ y → b ≤ max a b → nat_lt k a ≡ false → nat_lt k (max a b)
-        ≡ y
-    by_second true e high none = let low = below_of k b e in is_below k (max a b) (omega arith)
-    by_second false e high none =
-        let low = not_below_of k b e in
-        let low' = not_below_of k a none in
-        isnt_below k (max a b) (omega arith)
-
-    by_first : (x : Bool) → nat_lt k a ≡ x → nat_lt k (max a b) ≡ (nat_lt k a || nat_lt k b)
-    by_first true e =
-        let low = below_of k a e in
-        is_below k (max a b) (omega arith) ∙ ap (λ x. x || nat_lt k b) (sym e)
-    by_first false e =
-        by_second (nat_lt k b) refl (omega arith) e ∙ ap (λ x. x || nat_lt k b) (sym e)
+lt_max k a b = grind (arith, below_of, is_below, not_below_of, isnt_below)
 
 -- stamps that are raised stay in the order of places that are raised
 raised_alike : (b : Bool) (k k' s s' e e' : ℕ) → nat_lt k s ≡ nat_lt k' s' → nat_lt k e
     ≡ nat_lt k' e'
     → nat_lt k (raised_if b e s) ≡ nat_lt k' (raised_if b e' s')
-raised_alike true k k' s s' e e' word now =
-    lt_max k s e ∙ (λ i. word i || now i) ∙ sym (lt_max k' s' e')
-raised_alike false k k' s s' e e' word now = word
+raised_alike b k k' s s' e e' word now = grind (arith, lt_max)
 
 raised_low : (b : Bool) (s e n : ℕ) → s ≤ n → e ≤ n → raised_if b e s ≤ n
 raised_low true s e n low low' = omega arith
@@ -68,35 +51,15 @@ IsStill d e earlier = has_inner_commit d (e ∷ earlier) ≡ true → Still d e 
 
 still_other : (d c : ℕ) (kind : Kind) (earlier : List Entry) → (c == d) ≡ false
     → IsStill d (entry c kind) earlier
-still_other d c kind earlier other inner = record {
-  inner = sym (other_inner d c kind earlier other) ∙ inner;
-  place = commit_other d (entry c kind) earlier other;
-}
+still_other d c kind earlier other = grind (arith, other_inner, commit_other)
 
 still_own : (c : ℕ) (kind : Kind) (earlier : List Entry)
     → (has_block c earlier && is_lone_commit kind) ≡ false → IsStill c (entry c kind) earlier
-still_own c (Call method args) earlier none inner = record {
-  inner = sym (own_inner c (Call method args) earlier) ∙ inner;
-  place = commit_none c (entry c (Call method args)) earlier refl;
-}
-still_own c (Return reply) earlier none inner = record {
-  inner = sym (own_inner c (Return reply) earlier) ∙ inner;
-  place = commit_none c (entry c (Return reply)) earlier refl;
-}
-still_own c (Write word value) earlier none inner = record {
-  inner = sym (own_inner c (Write word value) earlier) ∙ inner;
-  place = commit_none c (entry c (Write word value)) earlier refl;
-}
-still_own c Commit earlier none inner = never none (sym (own_inner c Commit earlier) ∙ inner)
-still_own c BlockOpen earlier none inner = never (own_inner c BlockOpen earlier) inner
-still_own c BlockClose earlier none inner = never (own_inner c BlockClose earlier) inner
-still_own c BlockCommit earlier none inner = never (own_inner c BlockCommit earlier) inner
+still_own c kind earlier none = grind (arith, own_inner, commit_none, never)
 
 still : (d c : ℕ) (kind : Kind) (earlier : List Entry)
     → (has_block c earlier && is_lone_commit kind) ≡ false → IsStill d (entry c kind) earlier
-still d c kind earlier none = by_same c d
-    (λ same. subst (λ x. IsStill x (entry c kind) earlier) same (still_own c kind earlier none))
-    (λ other. still_other d c kind earlier other)
+still d c kind earlier none = search (by_same, still_own, still_other, arith)
 
 -- what comes before the effects of an entry
 before_effect : (h : Header) (commits : CommitStamps) (words : List ℕ) (earlier : List Entry)
@@ -106,27 +69,7 @@ before_effect : (h : Header) (commits : CommitStamps) (words : List ℕ) (earlie
     → nat_lt (get_or commits.by_caller d 0) (effect_stamp commits (has_inner_commit c earlier) c)
     ≡ nat_lt (last_commit d earlier) (effect_place c earlier)
 before_effect h commits words earlier d c low_d low_c inner ordered =
-    by_inner (has_inner_commit c earlier) refl
-  where
-    k : ℕ
-    k = get_or commits.by_caller d 0
-
-    next : ℕ
-    next = length earlier + 1
-
-    by_inner : (b : Bool) → has_inner_commit c earlier ≡ b
-        → nat_lt k (effect_stamp commits (has_inner_commit c earlier) c)
-        ≡ nat_lt (last_commit d earlier) (effect_place c earlier)
-    by_inner true is =
-        ap (λ b. nat_lt k (effect_stamp commits b c)) is
-        ∙ ordered.commits d c low_d low_c inner is
-        ∙ ap (λ b. nat_lt (last_commit d earlier) (cond b (last_commit c earlier) next)) (sym is)
-    by_inner false is =
-        let low = last_commit_low d earlier in
-        ap (λ b. nat_lt k (effect_stamp commits b c)) is
-        ∙ is_below k commits.next (ordered.given d)
-        ∙ sym (is_below (last_commit d earlier) next (omega arith))
-        ∙ ap (λ b. nat_lt (last_commit d earlier) (cond b (last_commit c earlier) next)) (sym is)
+    grind (arith, last_commit, last_commit_low, is_below)
 
 effect_low : (commits : CommitStamps) (inner : Bool) (c : ℕ)
     → AreGiven commits.by_caller commits.next
@@ -221,8 +164,7 @@ ordered_added h old new words words' words'' holders c stamp earlier low all wf 
     own = get_or-set_same before.by_caller c before.next 0 (omega (arith, added.same.callers))
 
     others : (d : ℕ) → (c == d) ≡ false → stamps d ≡ get_or before.by_caller d 0
-    others d other =
-        get_or-set_other before.by_caller c d before.next 0 (apart_of d c (flipped c d other))
+    others d other = search (get_or-set_other, apart_of, flipped, arith)
 
     here : last_commit c (e ∷ earlier) ≡ length earlier + 1
     here = commit_here c e earlier refl refl
@@ -231,20 +173,12 @@ ordered_added h old new words words' words'' holders c stamp earlier low all wf 
     there d other = commit_other d e earlier other
 
     past : (w : ℕ) → w < length words'' → get_or words'' w 0 ≤ before.next
-    past w low_w = added.same.past (λ v low_v.
-        let low_v' : v < length words = omega (arith, raised.lengths) in
-        subst (λ n. n ≤ old.next) (sym (raised.stamps v low_v')) (ordered.past v low_v'))
-        w (omega (arith, added.same.lengths))
+    past w low_w = search arith
 
     both : (d f : ℕ) → c ≡ d → c ≡ f
         → nat_lt (stamps d) (stamps f) ≡ nat_lt (last_commit d (e ∷ earlier))
         (last_commit f (e ∷ earlier))
-    both d f same_d same_f =
-        let same : d ≡ f = sym same_d ∙ same_f in
-        ap (λ x. nat_lt (stamps d) (stamps x)) (sym same)
-        ∙ isnt_below (stamps d) (stamps d) (omega arith)
-        ∙ sym (isnt_below (last_commit d (e ∷ earlier)) (last_commit d (e ∷ earlier)) (omega arith))
-        ∙ ap (λ x. nat_lt (last_commit d (e ∷ earlier)) (last_commit x (e ∷ earlier))) same
+    both d f same_d same_f = search (isnt_below, last_commit, arith)
 
     first : (d f : ℕ) → f < length old.by_caller → c ≡ d → (c == f) ≡ false
         → nat_lt (stamps d) (stamps f) ≡ nat_lt (last_commit d (e ∷ earlier))
@@ -327,13 +261,11 @@ pub added_inside : (h : Header) (old new : CommitStamps) (words words' words'' h
 added_inside h old new words words' words'' holders c stamp Commit earlier low all inner =
     ordered_added h old new words words' words'' holders c stamp earlier (omega (arith, all)) all
 added_inside h old new words words' words'' holders c stamp (Call method args) earlier low all
-    inner =
-    never (and-false (has_block c earlier)) inner
+    inner = search (never, arith)
 added_inside h old new words words' words'' holders c stamp (Return reply) earlier low all inner =
     never (and-false (has_block c earlier)) inner
 added_inside h old new words words' words'' holders c stamp (Write word value) earlier low all
-    inner =
-    never (and-false (has_block c earlier)) inner
+    inner = search (never, arith)
 added_inside h old new words words' words'' holders c stamp BlockOpen earlier low all inner =
     never (and-false (has_block c earlier)) inner
 added_inside h old new words words' words'' holders c stamp BlockClose earlier low all inner =
@@ -383,9 +315,7 @@ rank_first m ms x less =
 
 rank_rest : (m : ℕ) (ms : List ℕ) (k x : ℕ) → k < x → rank ms k < rank ms x
     → rank (m ∷ ms) k < rank (m ∷ ms) x
-rank_rest m ms k x less rest =
-    let here = one_more m k x (omega arith) in
-    omega (arith, rank_cons m ms k, rank_cons m ms x)
+rank_rest m ms k x less rest = grind (arith, rank_cons m ms k, rank_cons m ms x)
 
 rank_less : (commits : List ℕ) (c x : ℕ) → c < length commits → get_or commits c 0 < x
     → rank commits (get_or commits c 0) < rank commits x
@@ -401,12 +331,8 @@ rank_order commits c x low = by_order (nat_lt (get_or commits c 0) x) refl
     by_order : (b : Bool) → nat_lt (get_or commits c 0) x ≡ b
         → nat_lt (rank commits (get_or commits c 0)) (rank commits x)
         ≡ nat_lt (get_or commits c 0) x
-    by_order true e =
-        is_below (rank commits (get_or commits c 0)) (rank commits x)
-        (rank_less commits c x low (below_of (get_or commits c 0) x e)) ∙ sym e
-    by_order false e =
-        isnt_below (rank commits (get_or commits c 0)) (rank commits x)
-        (rank_more commits x (get_or commits c 0) (not_below_of (get_or commits c 0) x e)) ∙ sym e
+    by_order true e = search (is_below, rank_less, below_of, arith)
+    by_order false e = search (isnt_below, rank_more, not_below_of, arith)
 
 rank_low : (commits : List ℕ) (x : ℕ) → rank commits x ≤ length commits
 rank_low commits x = count_by-le-length (λ commit. nat_lt commit x) commits
@@ -422,10 +348,7 @@ ranks_given : (at at' : List ℕ) → AreRanked at at at' → AreGiven at' (leng
 ranks_given at at' ranked c = by_length (nat_lt c (length at)) refl
   where
     by_length : (b : Bool) → nat_lt c (length at) ≡ b → get_or at' c 0 < length at + 1
-    by_length true e =
-        let low = rank_low at (get_or at c 0) in
-        let is = ranked.ranks c (below_of c (length at) e) in
-        omega (arith, is)
+    by_length true e = search (rank_low, below_of, arith)
     by_length false e =
         let past = not_below_of c (length at) e in
         let is = past_end at' c (omega (arith, ranked.lengths)) in
@@ -450,11 +373,4 @@ ranked_order old new stamps stamps' commits next words = record {
 
 pub kept_order : (old : CommitStamps) (stamps : List ℕ) → AreGiven old.by_caller old.next
     → SameOrder old stamps old stamps
-kept_order old stamps given = record {
-  callers = refl;
-  lengths = refl;
-  commits = λ d f low_d low_f. refl;
-  words = λ d w low_d low_w. refl;
-  given = given;
-  past = λ was. was;
-}
+kept_order old stamps given = grind arith

@@ -4,7 +4,7 @@ use Rattle.std.proofs.Common.{not, ◌&&◌, ◌||◌, List, [], ◌∷◌, leng
 use Rattle.std.proofs.Common.{ap, ◌∙◌, sym, subst, arith, get_or, set, slice_get, get_or-set_other}
 use Rattle.std.proofs.Common.{get_or-set_same}
 use Rattle.std.specs.Prelude.{◌==◌, nat_lt, unwrap_or, option_map, is_some, is_none, replicate}
-use Rattle.std.specs.Option.{option_or, option_flatten}
+use Rattle.std.specs.Option.{option_or}
 use Rattle.std.specs.Bool.{then_some}
 use Rattle.std.proofs.lemmas.Option.{get_or_from_slice_get}
 use Rattle.vyrd_base.specs.declared.verdict.Rule.TheVariants.{BlockRaced}
@@ -18,11 +18,11 @@ use Rattle.vyrd_base.specs.declared.log.Entry.{Entry}
 use Rattle.vyrd_base.specs.declared.verdict.Rule.{Rule}
 use Rattle.vyrd_base.specs.Places.{first_answer, numbers_from}
 use Rattle.vyrd_base.specs.Layout.{plain_words}
-use Rattle.vyrd_base.specs.Callers.{Called, by_caller, call_or_return, commit_or_call}
-use Rattle.vyrd_base.specs.Callers.{commit_or_open, open_or_close, write_or_open, open_call}
+use Rattle.vyrd_base.specs.Callers.{Called, by_caller}
+use Rattle.vyrd_base.specs.Callers.{open_or_close, write_or_open, open_call}
 use Rattle.vyrd_base.specs.Callers.{has_block, has_inner_commit, holds_word}
 use Rattle.vyrd_base.specs.Shape.{broken_rule, is_held_by_other}
-use Rattle.vyrd_base.specs.Words.{effects_of_others, is_passed}
+use Rattle.vyrd_base.specs.Words.{is_passed}
 use Rattle.vyrd_base.specs.Verdicts.{is_call_open}
 use Rattle.vyrd_base.proofs.BlockLaws.{entry, by_same, other_answer, no_answer}
 use Rattle.vyrd_base.proofs.TestLaws.{flipped, same_of}
@@ -35,7 +35,7 @@ use Rattle.vyrd_shape.specs.declared.phase.Phase.{Phase}
 use Rattle.vyrd_shape.specs.Phases.{phase_of}
 use Rattle.vyrd_shape.specs.Holding.{Holding, released, is_held_by_another, holders_after}
 use Rattle.vyrd_shape.specs.Following.{ShapeKept, HasFollowed}
-use Rattle.vyrd_shape.specs.Stamps.{AreOrdered, CommitStamps, has_write, last_commit, last_effect}
+use Rattle.vyrd_shape.specs.Stamps.{AreOrdered, CommitStamps, last_commit}
 use Rattle.vyrd_shape.proofs.EffectStamps.{passed_by_stamp}
 use Rattle.vyrd_shape.proofs.OrderLaws.{ordered_none}
 use Rattle.vyrd_shape.proofs.ChainLaws.{at_most_set, released_at, released_own, released_other}
@@ -55,17 +55,7 @@ kept_by header phases holding commits stamps = record {
 -- another caller's entry leaves a phase alone
 phase_of-other : (c d : ℕ) (kind : Kind) (earlier : List Entry) → (d == c) ≡ false
     → phase_of c (entry d kind ∷ earlier) ≡ phase_of c earlier
-phase_of-other c d kind earlier e =
-    let call = other_answer c d call_or_return kind earlier e in
-    let commit = other_answer c d commit_or_call kind earlier e in
-    let block = other_answer c d open_or_close kind earlier e in
-    let inner = other_answer c d commit_or_open kind earlier e in
-    λ i. record {
-      open_method = option_map (λ called. called.method) (option_flatten (call i));
-      committed = unwrap_or (commit i) false;
-      in_block = unwrap_or (block i) false;
-      inner = unwrap_or (block i) false && unwrap_or (inner i) false;
-    }
+phase_of-other c d kind earlier e = grind (arith, other_answer)
 
 slice_get-set_other : {A : Type 0} (xs : List A) (i j : ℕ) (x : A) → j ≢ i
     → slice_get (set xs i x) j ≡ slice_get xs j
@@ -92,10 +82,7 @@ phases_next n phases earlier c kind next low is all = λ d low_d. by_same c d
 holds_quiet : (d c w : ℕ) (kind : Kind) (earlier : List Entry) → open_or_close kind ≡ None
     → write_or_open w kind ≡ None
     → holds_word d w (entry c kind ∷ earlier) ≡ holds_word d w earlier
-holds_quiet d c w kind earlier edge word =
-    let block = no_answer d c open_or_close kind earlier edge in
-    let wrote = no_answer d c (write_or_open w) kind earlier word in
-    λ i. unwrap_or (block i) false && unwrap_or (wrote i) false
+holds_quiet d c w kind earlier edge word = grind (arith, no_answer)
 
 -- a word is held by whom its holder says
 abbrev pub Held : List ℕ → ℕ → ℕ → List Entry → Type 0
@@ -103,23 +90,16 @@ Held by_word d w earlier = holds_word d w earlier ≡ (get_or by_word w 0 == d +
 
 no_block_no_word : (c w : ℕ) (earlier : List Entry) → has_block c earlier ≡ false
     → holds_word c w earlier ≡ false
-no_block_no_word c w earlier e =
-    ap (λ b. b && unwrap_or (first_answer (by_caller c (write_or_open w)) earlier) false) e
+no_block_no_word c w earlier e = cc
 
 held_open : (by_word : List ℕ) (c d w : ℕ) (earlier : List Entry) → has_block c earlier ≡ false
     → Held by_word d w earlier
     → Held by_word d w (entry c BlockOpen ∷ earlier)
-held_open by_word c d w earlier free was = by_same c d
-    (λ same. subst (λ x. Held by_word x w (entry c BlockOpen ∷ earlier)) same
-    (own_holds c w BlockOpen earlier ∙ sym (no_block_no_word c w earlier free)
-    ∙ subst (λ x. Held by_word x w earlier) (sym same) was))
-    (λ other. holds_other d c w BlockOpen earlier other ∙ was)
+held_open by_word c d w earlier free was =
+    grind (arith, free, by_same, own_holds, no_block_no_word, holds_other)
 
 never_one : (g n : ℕ) → g ≢ 0 → (released g n == g) ≡ false
-never_one g n some = by_same n g
-    (λ same. ap (λ x. released g x == g) same ∙ ap (λ x. x == g) (released_own g)
-    ∙ (let none : (0 == g) ≡ false = grind (arith, nat_tests) in none))
-    (λ other. ap (λ x. x == g) (released_other g n (differs g n other)) ∙ other)
+never_one g n some = search (by_same, released, released_own, released_other, differs, arith)
 
 still_one : (g n h : ℕ) → h ≢ g → h ≢ 0 → (released g n == h) ≡ (n == h)
 still_one g n h other some = by_same n g
@@ -129,8 +109,7 @@ still_one g n h other some = by_same n g
     (λ apart. ap (λ x. x == h) (released_other g n (differs g n apart)))
 
 next_apart : (c d : ℕ) → (c == d) ≡ false → d + 1 ≢ c + 1
-next_apart c d other e = let same : d ≡ c = omega arith in let no_same : d
-    ≢ c = grind (arith, nat_tests) in absurd (no_same same)
+next_apart c d other e = search arith
 
 held_end : (by_word : List ℕ) (c d w : ℕ) (kind : Kind) (earlier : List Entry) → open_or_close kind
     ≡ Some false
@@ -174,26 +153,12 @@ held_write_other by_word held c d w word value earlier other was =
 held_write_out : (by_word : List ℕ) (c d w value : ℕ) (earlier : List Entry) → has_block c earlier
     ≡ false
     → Held by_word d w earlier → Held by_word d w (entry c (Write w value) ∷ earlier)
-held_write_out by_word c d w value earlier out was = by_same c d
-    (λ same. subst (λ x. Held by_word x w (entry c (Write w value) ∷ earlier)) same
-    (own_holds c w (Write w value) earlier
-    ∙ ap (λ b. b
-    && unwrap_or
-    (option_or (write_or_open w (Write w value))
-    (first_answer (by_caller c (write_or_open w)) earlier)) false) out
-    ∙ sym (no_block_no_word c w earlier out) ∙ subst (λ x. Held by_word x w earlier)
-    (sym same) was))
-    (λ other. holds_other d c w (Write w value) earlier other ∙ was)
+held_write_out by_word c d w value earlier out was =
+    grind (arith, by_same, own_holds, no_block_no_word, holds_other)
 
 now_holds : (c w value : ℕ) (earlier : List Entry) → has_block c earlier ≡ true
     → holds_word c w (entry c (Write w value) ∷ earlier) ≡ true
-now_holds c w value earlier inside =
-    let same : (w == w) ≡ true = grind (arith, nat_tests) in
-    own_holds c w (Write w value) earlier
-    ∙ (λ i. inside i
-    && unwrap_or
-    (option_or (cond (same i) (Some true) None)
-    (first_answer (by_caller c (write_or_open w)) earlier)) false)
+now_holds c w value earlier inside = grind (arith, nat_tests, own_holds)
 
 -- the word itself, of a caller in a block, where nobody held the word
 held_write_free : (by_word : List ℕ) (c d w value : ℕ) (earlier : List Entry) → has_block c earlier
@@ -304,22 +269,7 @@ held_next h by_word c (Write word value) earlier before d w low_d low = by_same 
 high_next : (by_word : List ℕ) (inside : Bool) (c n : ℕ) (kind : Kind) → c < n
     → ((w : ℕ) → get_or by_word w 0 ≤ n) → (w : ℕ)
     → get_or (holders_after by_word inside c kind) w 0 ≤ n
-high_next by_word inside c n (Call method args) low high w = high w
-high_next by_word inside c n (Return reply) low high w = high w
-high_next by_word inside c n Commit low high w = high w
-high_next by_word inside c n BlockOpen low high w = high w
-high_next by_word inside c n BlockClose low high w = let e = released_le (c + 1)
-    (get_or by_word w 0) n (high w) in
-    omega (arith, e, released_at (c + 1) by_word w)
-high_next by_word inside c n BlockCommit low high w = let e = released_le (c + 1)
-    (get_or by_word w 0) n (high w) in
-    omega (arith, e, released_at (c + 1) by_word w)
-high_next by_word inside c n (Write word value) low high w =
-    elim (inside && (get_or by_word word 0 == 0)) as (λ b. get_or
-    (cond b (set by_word word (c + 1)) by_word) w 0 ≤ n) [
-      | true ↦ at_most_set by_word word (c + 1) n high (omega arith) w
-      | false ↦ high w
-    ]
+high_next by_word inside c n kind low high w = grind (arith, released_le, released_at, at_most_set)
 
 -- one more entry that keeps the rules
 pub followed_by : (kept : ShapeKept) (earlier : List Entry) (c : ℕ) (kind : Kind) (next : Phase)
@@ -394,11 +344,7 @@ pub raced_is : (kept : ShapeKept) (earlier : List Entry) (holding : Holding) (c 
     → holding.by_word ≡ kept.holders
     → w < plain_words kept.header → HasFollowed kept earlier
     → is_held_by_other kept.header c w earlier ≡ is_held_by_another holding c w
-raced_is kept earlier holding c w callers words low followed =
-    same_any (λ d. not (d == c) && holds_word d w earlier)
-    (λ d. not (d == c) && (get_or kept.holders w 0 == d + 1)) 0 kept.header.callers
-    (λ d low_d. ap (λ b. not (d == c) && b) (followed.holders d w (omega arith) low))
-    ∙ (λ i. is_held_by_another (record { callers = sym callers i; by_word = sym words i }) c w)
+raced_is kept earlier holding c w callers words low followed = grind (arith, kept, same_any)
 
 -- whether the word is passed, by the definition and by the stamps
 pub passed_is : (kept : ShapeKept) (earlier : List Entry) (c w : ℕ)
@@ -407,29 +353,8 @@ pub passed_is : (kept : ShapeKept) (earlier : List Entry) (c w : ℕ)
     → is_passed c w earlier
     ≡ (has_inner_commit c earlier && nat_lt (get_or kept.commits.by_caller c 0)
     (get_or kept.stamps w 0))
-passed_is kept earlier c w enough low_c low followed = by_inner (has_inner_commit c earlier) refl
-  where
-    later : Bool
-    later = nat_lt (get_or kept.commits.by_caller c 0) (get_or kept.stamps w 0)
-
-    by_version : (b : Bool) → (kept.header.version == 1) ≡ b → has_inner_commit c earlier ≡ true
-        → later ≡ nat_lt (last_commit c earlier) (last_effect w earlier [])
-    by_version true first inner = never
-        (no_inner_commit kept.header c earlier (same_of kept.header.version 1 first) followed.rules)
-        inner
-    by_version false second inner =
-        followed.order.words c w low_c (omega (arith, enough second)) low inner
-
-    by_inner : (b : Bool) → has_inner_commit c earlier ≡ b
-        → is_passed c w earlier ≡ (has_inner_commit c earlier && later)
-    by_inner true inner =
-        ap (λ b. b && has_write w (effects_of_others c earlier [])) inner
-        ∙ passed_by_stamp c w earlier [] inner
-        ∙ sym (by_version (kept.header.version == 1) refl inner)
-        ∙ ap (λ b. b && later) (sym inner)
-    by_inner false none =
-        ap (λ b. b && has_write w (effects_of_others c earlier [])) none
-        ∙ ap (λ b. b && later) (sym none)
+passed_is kept earlier c w enough low_c low followed =
+    search (kept, last_commit, never, no_inner_commit, same_of, passed_by_stamp, arith)
 
 -- whether some execution is open, by the phases and by the definition
 open_is : (earlier : List Entry) (phases : List Phase) (k : ℕ)
@@ -468,15 +393,11 @@ phase_is phases c read phase e at = e ∙ get_or_from_slice_get phases c phase r
 pub raced_rule : (o : Option Rule) (raced : Bool) (rule : Option Rule) → is_none o ≡ true
     → raced ≡ true
     → option_or o (then_some raced BlockRaced) ≡ rule → Some BlockRaced ≡ rule
-raced_rule None true rule e f is = is
-raced_rule None false rule e f is = cc
-raced_rule (Some other) raced rule e f is = cc
+raced_rule o raced rule e f is = grind arith
 
 pub clear_rule : (o : Option Rule) (raced : Bool) (rule : Option Rule) → raced ≡ false
     → option_or o (then_some raced BlockRaced) ≡ rule → o ≡ rule
-clear_rule None true rule f is = cc
-clear_rule None false rule f is = is
-clear_rule (Some other) raced rule f is = is
+clear_rule o raced rule f is = grind arith
 
 pub first_rule : (o : Option Rule) (raced : Bool) (rule : Option Rule) → is_none o ≡ false
     → option_or o (then_some raced BlockRaced) ≡ rule → o ≡ rule

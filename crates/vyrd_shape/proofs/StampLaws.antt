@@ -71,10 +71,4 @@ raising_more holder stamp held stamps held' stamps' w some low here raising = re
 pub raising_all : (holder stamp : ℕ) (held stamps held' stamps' : List ℕ)
     → ((w : ℕ) → get_or held' w 0 ≢ holder) → IsRaising holder stamp held stamps held' stamps'
     → AreRaised (λ w. get_or held w 0 == holder) stamp stamps stamps'
-raising_all holder stamp held stamps held' stamps' none raising = record {
-  lengths = raising.lengths;
-  stamps = λ w low.
-      let gone : get_or held' w 0 ≢ holder = none w in
-      let isnt : (get_or held' w 0 == holder) ≡ false = grind (arith, nat_tests) in
-      ap (λ b. raised_if b stamp (get_or stamps' w 0)) (sym isnt) ∙ raising.raised w low;
-}
+raising_all holder stamp held stamps held' stamps' none raising = grind (arith, raising.lengths)

@@ -3,7 +3,6 @@ use Rattle.std.proofs.Common.{◌≡◌, ◌≢◌, ℕ, ◌+◌, ◌^◌, ◌%�
 use Rattle.std.proofs.Common.{[], ◌∷◌}
 use Rattle.std.proofs.Common.{Some, refl, ap, ◌∙◌, sym, arith}
 use Rattle.std.specs.Prelude.{◌==◌, nat_lt}
-use Rattle.std.specs.Bool.{then_some}
 use Rattle.std.proofs.Math.Nat.{mod-lt, one-le-pow, pow-le-pow_right}
 use Rattle.vyrd_base.specs.declared.buffers.BuffersMethod.{BuffersMethod}
 use Rattle.vyrd_base.specs.declared.buffers.BuffersMethod.TheVariants.{Append, AppendFrom, Cut}
@@ -36,18 +35,11 @@ by_append Q reply b more s t kept appended =
 
 -- a cut to 7 characters or more leaves all
 long_cut : (n text : ℕ) → nat_lt n 7 ≡ false → cut_to n text ≡ text
-long_cut n text long = ap (λ b. cond b (text % 256 ^ n) text)
-    (isnt_below n (text_length text) (omega (arith, not_below_of n 7 long, length_at_most text)))
+long_cut n text long = search (isnt_below, not_below_of, long, length_at_most, arith)
 
 cut_stays : (s : Amounts) (k n q : ℕ) → is_touched (cond (nat_lt n 7) (k ∷ []) []) q ≡ false
     → amount_of (with_amount s k (cut_to n (amount_of s k))) q ≡ amount_of s q
-cut_stays s k n q none = by_length (nat_lt n 7) refl none
-  where
-    by_length : (b : Bool) → nat_lt n 7 ≡ b → is_touched (cond b (k ∷ []) []) q ≡ false
-        → amount_of (with_amount s k (cut_to n (amount_of s k))) q ≡ amount_of s q
-    by_length true e other = other_key s k (cut_to n (amount_of s k)) q (or_false _ other)
-    by_length false e other = ap (λ text. amount_of (with_amount s k text) q)
-        (long_cut n (amount_of s k) e) ∙ same_amount s k q
+cut_stays s k n q none = grind (arith, other_key, or_false, long_cut, same_amount)
 
 -- a step leaves amounts
 formed : (method : BuffersMethod) (args : Args) (reply : ℕ) (s t : Amounts) → IsAmounts s
@@ -78,8 +70,7 @@ untouched AppendFrom args reply q s t e none =
     by_append (Stays s q) reply args.a (amount_of s args.b) s t refl
     (λ room. other_key s args.a (joined (amount_of s args.a) (amount_of s args.b)) q
     (or_false _ none)) e
-untouched Cut args reply q s t e none = by_replies (Stays s q) reply _ _ _ t tt
-    (cut_stays s args.a args.b q none) tt e
+untouched Cut args reply q s t e none = search (by_replies, cut_stays, arith)
 untouched Length args reply q s t e none = cc
 untouched Read args reply q s t e none = cc
 
@@ -87,11 +78,7 @@ untouched Read args reply q s t e none = cc
 answers : (s t : Amounts) (method : BuffersMethod) (args : Args) → amount_of t args.a
     ≡ amount_of s args.a
     → buffers.answer t method args ≡ buffers.answer s method args
-answers s t Length args same = ap text_length same
-answers s t Read args same = same
-answers s t Append args same = refl
-answers s t AppendFrom args same = refl
-answers s t Cut args same = refl
+answers s t method args same = grind arith
 
 -- an empty buffer has room for each text
 room_in_empty : (more : ℕ) → has_room 0 more ≡ true
@@ -145,12 +132,7 @@ cut_shorter n low = λ same.
 
 cut_changes : (k n q : ℕ) → is_touched (cond (nat_lt n 7) (k ∷ []) []) q ≡ true
     → (n < 7) × ((k == q) ≡ true)
-cut_changes k n q touched = by_length (nat_lt n 7) refl touched
-  where
-    by_length : (b : Bool) → nat_lt n 7 ≡ b → is_touched (cond b (k ∷ []) []) q ≡ true → (n < 7)
-        × ((k == q) ≡ true)
-    by_length true e touched = (below_of n 7 e, of_first _ touched)
-    by_length false e touched = cc
+cut_changes k n q touched = grind (arith, below_of, of_first)
 
 -- each key that a call touches is changed by a step with that call
 changes : (method : BuffersMethod) (args : Args) (key : ℕ) → is_touched (touches method args) key
@@ -161,8 +143,7 @@ changes Append args key e = record {
   before = [];
   after = with_amount [] args.a (joined 0 (args.b + 1));
   formed = no_amounts;
-  allowed = ap (λ b. then_some b (with_amount [] args.a (joined 0 (args.b + 1))))
-      (room_in_empty (args.b + 1));
+  allowed = cc (room_in_empty (args.b + 1));
   changed = λ same. absurd (omega (
     arith,
     set_amount [] args.a (joined 0 (args.b + 1)) key (of_first _ e),
@@ -181,9 +162,7 @@ changes AppendFrom args key e =
       before = before;
       after = after;
       formed = two_formed args.a args.b;
-      allowed = ap (λ b. then_some b after)
-          (ap (λ text. has_room text (amount_of before args.b)) own ∙ ap (has_room 1) other
-          ∙ twice_one.0);
+      allowed = cc (twice_one.0);
       changed = λ same. absurd (omega (
         arith,
         set_amount before args.a (joined (amount_of before args.a) (amount_of before args.b)) key
@@ -213,26 +192,15 @@ changes Length args key e = cc
 changes Read args key e = cc
 
 pub buffers_steps : StepsWell buffers touches
-buffers_steps = record {
-  formed = formed;
-  untouched = untouched;
-  answers = answers;
-  changes = changes;
-}
+buffers_steps = search (formed, untouched, answers, changes, arith)
 
 -- the text of a buffer is one of at most 7 characters
 pub is_text : (s : Amounts) (b : ℕ) → AreTexts s → amount_of s b < 256 ^ 7
-is_text s b all = by_zero (amount_of s b == 0) refl
-  where
-    by_zero : (z : Bool) → (amount_of s b == 0) ≡ z → amount_of s b < 256 ^ 7
-    by_zero true e = let none = same_of (amount_of s b) 0 e in omega (arith, none)
-    by_zero false e = (all b (apart_of (amount_of s b) 0 e)).1
+is_text s b all = grind (arith, same_of, apart_of)
 
 with_text : (s : Amounts) (b text : ℕ) → b < 2 ^ 32 → AreTexts s → text < 256 ^ 7
     → AreTexts (with_amount s b text)
-with_text s b text low all small =
-    AllAmounts-with_amount (λ buffer text. (buffer < 2 ^ 32) × (text < 256 ^ 7)) s b text all
-    (λ some. (low, small))
+with_text s b text low all small = search (small, AllAmounts-with_amount, arith)
 
 -- a step of the string buffers keeps the texts in range
 pub texts_after : (method : BuffersMethod) (args : Args) (reply : ℕ) (s t : Amounts)
@@ -250,9 +218,6 @@ texts_after AppendFrom args reply s t low low_b all =
     (λ room. with_text s args.a (joined text more) low all
     (joined_below text more (is_text s args.a all) (is_text s args.b all) room))
 texts_after Cut args reply s t low low_b all =
-    let text : ℕ = amount_of s args.a in
-    by_replies AreTexts reply _ _ _ t tt
-    (with_text s args.a (cut_to args.b text) low all (cut_below args.b text (is_text s args.a all)))
-    tt
+    search (by_replies, with_text, cut_below, is_text, arith)
 texts_after Length args reply s t low low_b all = λ e. cc
 texts_after Read args reply s t low low_b all = λ e. cc

@@ -1,5 +1,5 @@
 -- The texts that buffers of words show.
-use Rattle.std.proofs.Common.{◌≡◌, ℕ, ◌+◌, ◌^◌, ◌<◌, ◌≤◌, Bool, true, cond, List, [], ◌∷◌, ap}
+use Rattle.std.proofs.Common.{◌≡◌, ℕ, ◌^◌, ◌<◌, ◌≤◌, Bool, true, cond, List, [], ◌∷◌}
 use Rattle.std.proofs.Common.{arith}
 use Rattle.std.specs.Prelude.{nat_le}
 use Rattle.std.proofs.Math.Nat.{pow-le-pow_right}
@@ -18,8 +18,7 @@ text_shown words b = text_of_buffer (buffer_at words b)
 -- sound buffers give their texts, and nothing else
 pub given_text : (size : ℕ) (words : List ℕ) (b : ℕ) → is_buffer_at words b ≡ true
     → buffer_parts size b (buffer_at words b) ≡ (b, text_shown words b) ∷ []
-given_text size words b sound = ap (λ t. cond t ((b, text_shown words b) ∷ []) ((size + b, 1) ∷ []))
-    sound
+given_text size words b sound = cc
 
 -- a sound buffer shows a text of at most 7 characters
 pub small_text : (words : List ℕ) (b : ℕ) → is_buffer_at words b ≡ true

@@ -9,7 +9,7 @@ use Rattle.vyrd_base.proofs.AmountLaws.{IsAmounts-with_amount, no_amounts}
 use Rattle.vyrd_spec.specs.Bounds.{AllAmounts}
 use Rattle.vyrd_spec.specs.Touching.{is_touched, CanChange}
 use Rattle.vyrd_spec.specs.Touching.Cache.{touches}
-use Rattle.vyrd_spec.proofs.StepLaws.{StepsWell, Stays, by_replies, other_key, or_false, of_first}
+use Rattle.vyrd_spec.proofs.StepLaws.{StepsWell, by_replies, other_key, or_false, of_first}
 use Rattle.vyrd_spec.proofs.StepLaws.{set_amount, AllAmounts-with_amount}
 
 -- a step leaves amounts
@@ -25,21 +25,13 @@ formed Read args reply s t is = λ e. cc
 untouched : (method : CacheMethod) (args : Args) (reply key : ℕ) (s t : Amounts)
     → cache.next method args reply s ≡ Some t → is_touched (touches method args) key ≡ false
     → amount_of t key ≡ amount_of s key
-untouched Write args reply q s t e none =
-    by_replies (Stays s q) reply _ _ _ t tt
-    (other_key s args.a (args.c * 2 ^ 32 + args.b) q (or_false _ none)) tt e
-untouched Flush args reply q s t e none = by_replies (Stays s q) reply _ _ _ t tt refl tt e
-untouched Evict args reply q s t e none = by_replies (Stays s q) reply _ _ _ t tt refl tt e
-untouched Read args reply q s t e none = cc
+untouched method args reply key s t e none = grind (arith, by_replies, other_key, or_false)
 
 -- an answer is by the amount of its key
 answers : (s t : Amounts) (method : CacheMethod) (args : Args) → amount_of t args.a
     ≡ amount_of s args.a
     → cache.answer t method args ≡ cache.answer s method args
-answers s t Read args same = same
-answers s t Write args same = refl
-answers s t Flush args same = refl
-answers s t Evict args same = refl
+answers s t method args same = grind arith
 
 -- each key that a call touches is changed by a step with that call
 changes : (method : CacheMethod) (args : Args) (key : ℕ) → is_touched (touches method args) key
@@ -65,12 +57,7 @@ changes Evict args key e = cc
 changes Read args key e = cc
 
 pub cache_steps : StepsWell cache touches
-cache_steps = record {
-  formed = formed;
-  untouched = untouched;
-  answers = answers;
-  changes = changes;
-}
+cache_steps = search (formed, untouched, answers, changes, arith)
 
 -- chunks and pairs
 abbrev pub ArePairs : Amounts → Type 0

@@ -1,8 +1,8 @@
 -- What the leaves of a tree give, entry by entry and node by node.
 use Rattle.std.proofs.Common.{◌≡◌, ◌≢◌, ℕ, suc, ◌+◌, ◌-◌, ◌*◌, ◌^◌, ◌<◌, ◌≤◌, min, Bool, true}
-use Rattle.std.proofs.Common.{false, cond, ◌||◌, List, [], ◌∷◌, ◌++◌, refl, ap, ◌∙◌, sym, subst}
+use Rattle.std.proofs.Common.{false, cond, ◌||◌, List, [], ◌∷◌, refl, ap, ◌∙◌, sym}
 use Rattle.std.proofs.Common.{arith}
-use Rattle.std.specs.Prelude.{◌==◌, nat_lt, nat_le, flat_map, slice_index}
+use Rattle.std.specs.Prelude.{◌==◌, nat_le, flat_map, slice_index}
 use Rattle.std.specs.List.{list_all, list_any, AllByRecursion}
 use Rattle.vyrd_base.specs.Added.{added}
 use Rattle.vyrd_base.specs.Amounts.{Amounts, amount_of, plus_amount, collected}
@@ -23,10 +23,7 @@ use Rattle.vyrd_spec.proofs.TreeWordLaws.{IsTreeOf, LeadsOn, leads_on}
 -- the numbers of a leaf's entry
 pub low_numbers : (key value : ℕ) → is_leaf_entry (key, value) ≡ true → (key < 2 ^ 32)
     × (value < 2 ^ 32)
-low_numbers key value sound = (
-  below_of key (2 ^ 32) (first_true (nat_lt key (2 ^ 32)) (nat_lt value (2 ^ 32)) sound),
-  below_of value (2 ^ 32) (second_true (nat_lt key (2 ^ 32)) (nat_lt value (2 ^ 32)) sound),
-)
+low_numbers key value sound = grind (arith, below_of, first_true, second_true)
 
 pub entry_is : (key value : ℕ) → is_leaf_entry (key, value) ≡ true → entry_parts (key, value)
     ≡ (key, 2 ^ 32 + value) ∷ []
@@ -35,10 +32,7 @@ entry_is key value sound = ap (λ b. cond b ((key, 2 ^ 32 + value) ∷ []) damag
 -- the words of an entry, as they are read
 pub read_at : (words : List ℕ) (n j : ℕ) → entry_at words n j
     ≡ (slice_index words (12 * n + 4 + j), slice_index words (12 * n + 8 + j))
-read_at words n j =
-    let key : 12 * n + (4 + j) ≡ 12 * n + 4 + j = omega arith in
-    let value : 12 * n + (8 + j) ≡ 12 * n + 8 + j = omega arith in
-    λ i. (slice_index words (key i), slice_index words (value i))
+read_at words n j = grind arith
 
 pub entry_sound : (words : List ℕ) (n j : ℕ) → list_all is_leaf_entry (entries_of words n) ≡ true
     → j < min (count_of words n) 4
@@ -59,8 +53,7 @@ entries_small [] s all small = small
 entries_small (entry ∷ entries) s all small =
     let sound = first_true (is_leaf_entry entry) (list_all is_leaf_entry entries) all in
     let numbers = low_numbers entry.0 entry.1 sound in
-    subst (λ parts. AreLeafAmounts (added s (parts ++ flat_map entry_parts entries)))
-    (sym (entry_is entry.0 entry.1 sound))
+    rw (entry_is entry.0 entry.1 sound)
     (entries_small entries (plus_amount s entry.0 (2 ^ 32 + entry.1))
     (second_true (is_leaf_entry entry) (list_all is_leaf_entry entries) all)
     (AllAmounts-with_amount (λ key amount. (key < 2 ^ 32) × (2 ^ 32 ≤ amount)) s entry.0
@@ -69,8 +62,7 @@ entries_small (entry ∷ entries) s all small =
 
 pub node_small : (words : List ℕ) (n : ℕ) (s t : Amounts) → t ≡ added s (node_parts words n)
     → list_all is_leaf_entry (entries_of words n) ≡ true → AreLeafAmounts s → AreLeafAmounts t
-node_small words n s t more all small = subst AreLeafAmounts (sym more)
-    (entries_small (entries_of words n) s all small)
+node_small words n s t more all small = search (more, entries_small, small, arith)
 
 pub nothing_small : (s : Amounts) → s ≡ [] → AreLeafAmounts s
 nothing_small s none = λ key some. absurd (some (ap (λ x. amount_of x key) none))
@@ -92,15 +84,8 @@ pub record LeafWalk (size : ℕ) (words : List ℕ) (values : Amounts) (left nod
 pub walk_begins : (size : ℕ) (words : List ℕ) (values : Amounts) (left : ℕ) → IsTreeOf size words
     → values ≡ [] → left ≡ size
     → LeafWalk size words values left 0
-walk_begins size words values left tree none all = record {
-  seen = [];
-  rest = ap (λ s. added s (chain_parts_from size words left [] 0)) none
-      ∙ ap (λ n. added [] (chain_parts_from size words n [] 0)) all
-      ∙ added-collected (chain_parts size words);
-  in_use = omega arith;
-  leaf = tree.zero_leaf;
-  before = tt;
-}
+walk_begins size words values left tree none all =
+    grind (arith, values, left, added, added-collected)
 
 -- whether the link of a node goes past the nodes or back
 abbrev goes_back : ℕ → List ℕ → List ℕ → ℕ → Bool
@@ -115,14 +100,7 @@ onward : (size : ℕ) (words : List ℕ) (values t : Amounts) (left n : ℕ)
     → added t (parts_after size words left walk.seen n ends back)
     ≡ collected (chain_parts size words)
 onward size words values t left n walk ends back more is_end is_back =
-    ap (λ s. added s (parts_after size words left walk.seen n ends back)) more
-    ∙ sym (added-append (node_parts words n) (parts_after size words left walk.seen n ends back)
-    values)
-    ∙ sym (ap (λ b. added values (node_parts words n ++ parts_after size words left walk.seen n b
-    (goes_back size words walk.seen n))) is_end
-    ∙ ap (λ b. added values (node_parts words n ++ parts_after size words left walk.seen n ends b))
-    is_back)
-    ∙ walk.rest
+    grind (arith, values, left, ends, back, more, added-append)
 
 -- at the node where the chain ends
 pub walk_ends : (size : ℕ) (words : List ℕ) (values t : Amounts) (left n : ℕ)
@@ -139,10 +117,7 @@ unseen : (last : ℕ) (words : List ℕ) (from right : ℕ) (seen : List ℕ)
     → from < low_of last words right → list_any (λ m. m == right) seen ≡ false
 unseen last words from right [] before above = refl
 unseen last words from right (m ∷ seen) before above =
-    ap (λ b. b || list_any (λ k. k == right) seen)
-    (isnt_same m right
-    (λ same. absurd (omega (arith, before.0.0, before.0.1, above, ap (low_of last words) same))))
-    ∙ unseen last words from right seen before.1 above
+    grind (arith, unseen last words from right seen before.1 above, isnt_same, above)
 
 raised : (last : ℕ) (words : List ℕ) (from to : ℕ) (seen : List ℕ) → from ≤ to
     → AllByRecursion (IsBefore words last from) seen
@@ -168,9 +143,7 @@ walk_goes_on size words values t left n tree walk more on =
     let within : nat_le size right ≡ false = isnt_at_most size right
     (omega (arith, leads.in_use, tree.last_low)) in
     let new : goes_back size words walk.seen n ≡ false =
-    ap (λ b. b || list_any (λ m. m == right) (n ∷ walk.seen)) within
-    ∙ ap (λ b. b || list_any (λ m. m == right) walk.seen) other
-    ∙ unseen last words (low_of last words n) right walk.seen walk.before rises in
+    cc (unseen last words (low_of last words n) right walk.seen walk.before rises) in
     record {
       seen = n ∷ walk.seen;
       rest = onward size words values t left n walk false false more (isnt_same right 0 on) new;
@@ -187,6 +160,4 @@ walk_goes_on size words values t left n tree walk more on =
 pub walk_left : (size : ℕ) (words : List ℕ) (values : Amounts) (turn n : ℕ) → turn < size
     → LeafWalk size words values (size - turn) n
     → LeafWalk size words values (suc (size - (turn + 1))) n
-walk_left size words values turn n more walk =
-    let one : size - turn ≡ suc (size - (turn + 1)) = omega arith in
-    subst (λ left. LeafWalk size words values left n) one walk
+walk_left size words values turn n more walk = grind arith

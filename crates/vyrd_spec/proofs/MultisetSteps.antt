@@ -1,5 +1,5 @@
 -- The steps of the multiset.
-use Rattle.std.proofs.Common.{◌≡◌, ℕ, ◌+◌, ◌-◌, ◌^◌, ◌<◌, ◌≤◌, Bool, true, false, cond, not, ◌||◌}
+use Rattle.std.proofs.Common.{◌≡◌, ℕ, ◌+◌, ◌-◌, ◌^◌, ◌<◌, ◌≤◌, true, false, not, ◌||◌}
 use Rattle.std.proofs.Common.{[]}
 use Rattle.std.proofs.Common.{Some, refl, ap, ◌∙◌, arith}
 use Rattle.std.specs.Prelude.{◌==◌, ◌≢◌}
@@ -10,7 +10,6 @@ use Rattle.vyrd_base.specs.declared.multiset.MultisetMethod.TheVariants.{Lookup}
 use Rattle.vyrd_base.specs.declared.subject.Args.{Args}
 use Rattle.vyrd_base.specs.Amounts.{Amounts, IsAmounts, amount_of, is_present, with_amount}
 use Rattle.vyrd_base.specs.Amounts.{plus_amount}
-use Rattle.vyrd_base.specs.Amounts.{part_given}
 use Rattle.vyrd_base.specs.Multiset.{multiset}
 use Rattle.vyrd_base.proofs.AmountLaws.{IsAmounts-with_amount, no_amounts}
 use Rattle.vyrd_base.proofs.SumLaws.{amount_of-plus}
@@ -45,9 +44,7 @@ formed Lookup args reply s t is = λ e. cc
 untouched : (method : MultisetMethod) (args : Args) (reply key : ℕ) (s t : Amounts)
     → multiset.next method args reply s ≡ Some t → is_touched (touches method args) key ≡ false
     → amount_of t key ≡ amount_of s key
-untouched Insert args reply q s t e none =
-    by_replies (Stays s q) reply _ _ _ t refl
-    (other_key s args.a (amount_of s args.a + 1) q (or_false _ none)) tt e
+untouched Insert args reply q s t e none = search (by_replies, other_key, or_false, arith)
 untouched InsertPair args reply q s t e none =
     let both = neither_true (args.a == q) (args.b == q || false) none in
     let one : Amounts = plus_amount s args.a 1 in
@@ -55,43 +52,19 @@ untouched InsertPair args reply q s t e none =
     (other_key one args.b (amount_of one args.b + 1) q (or_false _ both.1)
     ∙ other_key s args.a (amount_of s args.a + 1) q both.0) tt e
 untouched Delete args reply q s t e none =
-    by_replies (Stays s q) reply _ _ _ t
-    (where_allowed (Stays s q) (not (is_present s args.a)) s refl)
-    (where_allowed (Stays s q) (is_present s args.a) (with_amount s args.a (amount_of s args.a - 1))
-    (other_key s args.a (amount_of s args.a - 1) q (or_false _ none))) tt e
+    search (by_replies, where_allowed, other_key, or_false, arith)
 untouched Lookup args reply q s t e none = cc
 
 -- an answer is by the amount of its key
 answers : (s t : Amounts) (method : MultisetMethod) (args : Args) → amount_of t args.a
     ≡ amount_of s args.a
     → multiset.answer t method args ≡ multiset.answer s method args
-answers s t Lookup args same = ap (λ n. cond (not (n == 0)) 1 0) same
-answers s t Insert args same = refl
-answers s t InsertPair args same = refl
-answers s t Delete args same = refl
+answers s t method args same = grind arith
 
 -- both of a pair get one more
 pair_amount : (a b q : ℕ) → (a == q || (b == q || false)) ≡ true
     → amount_of (plus_amount (plus_amount [] a 1) b 1) q ≢ 0
-pair_amount a b q e = by_keys (a == q) (b == q) refl refl e
-  where
-    own : (k : ℕ) → (k == q) ≡ true → part_given q (k, 1) ≡ 1
-    own k f = ap (λ x. part_given q (x, 1)) (same_of k q f) ∙ ap (λ t. cond t 1 0) (same_number q)
-
-    by_keys : (s t : Bool) → (a == q) ≡ s → (b == q) ≡ t → (s || (t || false)) ≡ true
-        → amount_of (plus_amount (plus_amount [] a 1) b 1) q ≢ 0
-    by_keys true t f g h = λ zero'. absurd
-        (omega (
-          arith,
-          amount_of-plus (plus_amount [] a 1) b 1 q,
-          amount_of-plus
-              [] a 1 q,
-          own a f,
-          zero',
-        ))
-    by_keys false true f g h = λ zero'. absurd
-        (omega (arith, amount_of-plus (plus_amount [] a 1) b 1 q, own b g, zero'))
-    by_keys false false f g h = cc
+pair_amount a b q e = search (same_of, same_number, amount_of-plus, arith)
 
 -- each key that a call touches is changed by a step with that call
 changes : (method : MultisetMethod) (args : Args) (key : ℕ) → is_touched (touches method args) key
@@ -133,23 +106,14 @@ changes Delete args key e = record {
 changes Lookup args key e = cc
 
 pub multiset_steps : StepsWell multiset touches
-multiset_steps = record {
-  formed = formed;
-  untouched = untouched;
-  answers = answers;
-  changes = changes;
-}
+multiset_steps = search (formed, untouched, answers, changes, arith)
 
 -- values below 2^63, each at most this often
 abbrev pub AreCounts : ℕ → Amounts → Type 0
 AreCounts most s = AllAmounts (λ value count. (value < 2 ^ 63) × (count ≤ most)) s
 
 pub count_at_most : (most : ℕ) (s : Amounts) (q : ℕ) → AreCounts most s → amount_of s q ≤ most
-count_at_most most s q all = by_zero (amount_of s q == 0) refl
-  where
-    by_zero : (b : Bool) → (amount_of s q == 0) ≡ b → amount_of s q ≤ most
-    by_zero true e = let none = same_of (amount_of s q) 0 e in omega (arith, none)
-    by_zero false e = (all q (apart_of (amount_of s q) 0 e)).1
+count_at_most most s q all = grind (arith, same_of, apart_of)
 
 pub weaker_counts : (m n : ℕ) (s : Amounts) → m ≤ n → AreCounts m s → AreCounts n s
 weaker_counts m n s le all = λ q some. let here = all q some in (here.0, omega (arith, here.1))

@@ -1,5 +1,5 @@
 -- The left neighbours of nodes, found one right link after another.
-use Rattle.std.proofs.Common.{◌≡◌, ◌≢◌, ℕ, ◌+◌, ◌<◌, ◌≤◌, Bool, true, false, cond, not, ◌&&◌, ◌||◌}
+use Rattle.std.proofs.Common.{◌≡◌, ℕ, ◌+◌, ◌<◌, ◌≤◌, Bool, true, false, cond, not, ◌&&◌, ◌||◌}
 use Rattle.std.proofs.Common.{List, length, map, get_or, set, length-set, get_or-set_same}
 use Rattle.std.proofs.Common.{get_or-set_other, Option, Some, None, refl, ap, ◌∙◌, sym, arith}
 use Rattle.std.specs.Prelude.{◌==◌, nat_lt, nat_le, find, count_by, is_some}
@@ -28,8 +28,7 @@ pub told_more : (last : ℕ) (words : List ℕ) (n : ℕ) (lefts new : List (Opt
     → HaveTold last words (n + 1) new
 told_more last words n lefts new free put told = record {
   many = ap length put ∙ kept (right == 0 || nat_le (length lefts) right) ∙ told.many;
-  left = λ q low. ap (λ xs. get_or xs q None) put ∙ found q low (leads_to words q n) refl
-      ∙ sym (find-push (leads_to words q) n);
+  left = λ q low. cc (found q low (leads_to words q n) refl, find-push (leads_to words q) n);
   one = λ q low. counted q low (leads_to words q n) refl;
 }
   where
@@ -37,41 +36,17 @@ told_more last words n lefts new free put told = record {
     right = right_of words n
 
     kept : (b : Bool) → length (cond b lefts (set lefts right (Some n))) ≡ length lefts
-    kept true = refl
-    kept false = length-set lefts right (Some n)
+    kept b = search (length-set, arith)
 
     or_none : (o : Option ℕ) → o ≡ option_or o None
-    or_none None = refl
-    or_none (Some x) = refl
+    or_none o = search arith
 
     -- a node to which the link leads
     is_led : (q : ℕ) → leads_to words q n ≡ true → (right ≡ q) × ((right == 0) ≡ false)
-    is_led q e =
-        let same = same_of right q (first_true (right == q) (not (q == 0)) e) in
-        (same, ap (λ k. k == 0) same ∙ of_not (q == 0) (second_true (right == q) (not (q == 0)) e))
-      where
-        of_not : (b : Bool) → not b ≡ true → b ≡ false
-        of_not true x = cc
-        of_not false x = refl
+    is_led q e = search (same_of, first_true, second_true, arith)
 
     nothing_there : (q : ℕ) → right ≡ q → (right == 0) ≡ false → get_or lefts q None ≡ None
-    nothing_there q same some = by_none (get_or lefts q None) refl
-      where
-        by_none : (o : Option ℕ) → get_or lefts q None ≡ o → o ≡ None
-        by_none None e = refl
-        by_none (Some m) e =
-            let there : has_left lefts right ≡ true =
-            ap (λ b. not b && is_some (get_or lefts right None)) some
-            ∙ ap (λ k. is_some (get_or lefts k None)) same ∙ ap is_some e in
-            cc
-
-    -- a node to which it doesn't lead
-    isnt_led : (q : ℕ) → leads_to words q n ≡ false → (right == 0) ≡ false → q ≢ right
-    isnt_led q e some same =
-        let leads : (right == q && not (q == 0)) ≡ true =
-        ap (λ k. right == k && not (k == 0)) same ∙ ap (λ b. b && not (right == 0))
-        (is_same right right refl) ∙ ap not some in
-        let no : false ≡ true = sym e ∙ leads in cc
+    nothing_there q same some = search arith
 
     before : (q : ℕ) → q ≤ last → leads_to words q n ≡ true
         → find (leads_to words q) (numbers_below n) ≡ None
@@ -85,43 +60,30 @@ told_more last words n lefts new free put told = record {
         let led = is_led q e in
         let within : q < length lefts = omega (arith, low, told.many) in
         let in_use : (right == 0 || nat_le (length lefts) right) ≡ false =
-        ap (λ b. b || nat_le (length lefts) right) led.1 ∙ isnt_at_most (length lefts) right
-        (omega (arith, within, led.0)) in
-        ap (λ b. get_or (cond b lefts (set lefts right (Some n))) q None) in_use
-        ∙ ap (λ k. get_or (set lefts k (Some n)) q None) led.0
-        ∙ get_or-set_same lefts q (Some n) None within
-        ∙ sym (ap (λ o. option_or o (cond (leads_to words q n) (Some n) None)) (before q low e)
-        ∙ ap (λ b. cond {A = Option ℕ} b (Some n) None) e)
+        cc (led.1, isnt_at_most (length lefts) right (omega (arith, within, led.0))) in
+        cc (led.0, get_or-set_same lefts q (Some n) None within, before q low e)
     found q low false e =
-        by_use (right == 0 || nat_le (length lefts) right) refl ∙ told.left q low
-        ∙ or_none (find (leads_to words q) (numbers_below n))
-        ∙ sym (ap (λ b. option_or (find (leads_to words q) (numbers_below n))
-        (cond b (Some n) None)) e)
+        cc (
+          by_use (right == 0 || nat_le (length lefts) right) refl,
+          told.left q low,
+          or_none (find
+              (leads_to words q) (numbers_below n)),
+        )
       where
         by_use : (b : Bool) → (right == 0 || nat_le (length lefts) right) ≡ b
             → get_or (cond b lefts (set lefts right (Some n))) q None ≡ get_or lefts q None
-        by_use true u = refl
-        by_use false u = get_or-set_other lefts right q (Some n) None
-            (isnt_led q e (neither_true (right == 0) (nat_le (length lefts) right) u).0)
+        by_use b u = search (get_or-set_other, neither_true, arith)
 
     counted : (q : ℕ) → q ≤ last → (b : Bool) → leads_to words q n ≡ b → count_by (leads_to words q)
         (numbers_below (n + 1)) ≤ 1
     counted q low true e =
-        omega (
+        grind (
           arith,
           count-push (leads_to words q) n,
-          ap (λ b. cond {A = ℕ} b 1 0) e,
-          none_found
-              (leads_to words q) n (before q low e),
+          none_found (leads_to words q) n (before q low
+              e),
         )
-    counted q low false e =
-        omega (
-          arith,
-          count-push (leads_to words q) n,
-          ap (λ b. cond {A = ℕ} b 1 0) e,
-          told.one q
-              low,
-        )
+    counted q low false e = grind (arith, count-push (leads_to words q) n, told.one q low)
 
 -- one node more that leads to where another does
 pub told_twice : (last : ℕ) (words : List ℕ) (n : ℕ) (lefts : List (Option ℕ)) → n < last + 1

@@ -1,6 +1,6 @@
 -- What the tests of a tree's nodes come to, place by place.
 use Rattle.std.proofs.Common.{◌≡◌, ◌≢◌, ℕ, zero, suc, ◌+◌, ◌-◌, ◌<◌, ◌≤◌, min, Bool, true, false}
-use Rattle.std.proofs.Common.{◌&&◌, ◌||◌, List, ◌∷◌, length, map, get_or, Option, Some, None, refl}
+use Rattle.std.proofs.Common.{◌&&◌, ◌||◌, List, ◌∷◌, length, map, get_or, Option, Some, refl}
 use Rattle.std.proofs.Common.{ap, ◌∙◌, sym, arith}
 use Rattle.std.specs.Prelude.{◌==◌, nat_lt, nat_le, count_by, IfSome}
 use Rattle.std.specs.List.{list_all}
@@ -18,8 +18,7 @@ use Rattle.vyrd_spec.proofs.RowLaws.{each_passes, one_fails, found_below}
 pub left_at : (last : ℕ) (words : List ℕ) (lefts : List (Option ℕ)) (q : ℕ) (d : Option ℕ)
     → lefts ≡ map (left_of last words) (nodes last)
     → q ≤ last → get_or lefts q d ≡ left_of last words q
-left_at last words lefts q d are low = ap (λ xs. get_or xs q d) are
-    ∙ element_below (left_of last words) (last + 1) q d (omega (arith, low))
+left_at last words lefts q d are low = search (element_below, left_of, arith)
 
 pub many_lefts : (last : ℕ) (words : List ℕ) (lefts : List (Option ℕ))
     → lefts ≡ map (left_of last words) (nodes last) → length lefts ≡ last + 1
@@ -27,9 +26,7 @@ many_lefts last words lefts are = ap length are ∙ length_below (left_of last w
 
 pub left_in_use : (last : ℕ) (words : List ℕ) (q : ℕ) (o : Option ℕ) → o ≡ left_of last words q
     → IfSome o (λ m. m ≤ last)
-left_in_use last words q None e = tt
-left_in_use last words q (Some m) e =
-    omega (arith, (found_below (leads_to words q) (last + 1) m (sym e)).1)
+left_in_use last words q o e = grind (arith, found_below)
 
 -- if at most one link leads to each node, the link of a node decides
 pub linked_is : (last : ℕ) (words : List ℕ) (n : ℕ) → have_one_left last words ≡ true → n ≤ last
@@ -37,9 +34,7 @@ pub linked_is : (last : ℕ) (words : List ℕ) (n : ℕ) → have_one_left last
     ≡ (right_of words n == 0 || nat_le (right_of words n) last && level_of words
     (right_of words n) == level_of words n)
 linked_is last words n one low =
-    ap (λ b. b && (right_of words n == 0 || nat_le (right_of words n) last && level_of words
-    (right_of words n) == level_of words n))
-    (each_passes (λ q. nat_le (count_by (leads_to words q) (nodes last)) 1) (last + 1) n one
+    cc (each_passes (λ q. nat_le (count_by (leads_to words q) (nodes last)) 1) (last + 1) n one
     (omega (arith, low)))
 
 -- tests that tell the same of each number
@@ -47,8 +42,7 @@ all_alike : (p q : ℕ → Bool) (k n : ℕ) → ((i : ℕ) → k ≤ i → p i 
     → list_all p (numbers_from k n) ≡ list_all q (numbers_from k n)
 all_alike p q k zero same = refl
 all_alike p q k (suc n) same =
-    ap (λ b. b && list_all p (numbers_from (k + 1) n)) (same k (omega arith))
-    ∙ ap (λ b. q k && b) (all_alike p q (k + 1) n (λ i from. same i (omega (arith, from))))
+    cc (same k (omega arith), all_alike p q (k + 1) n (λ i from. same i (omega (arith, from))))
 
 -- two tests at once
 both_tests : (p q : ℕ → Bool) (k n : ℕ)
@@ -60,10 +54,7 @@ both_tests p q k (suc n) =
     ∙ ap (λ b. (p k && q k) && b) (both_tests p q (k + 1) n)
   where
     mixed : (a b c d : Bool) → ((a && c) && (b && d)) ≡ ((a && b) && (c && d))
-    mixed true true c d = refl
-    mixed true false true d = refl
-    mixed true false false d = refl
-    mixed false b c d = refl
+    mixed a b c d = search arith
 
 -- numbers rise where each is above the one before it
 abbrev above_last : (ℕ → ℕ) → ℕ → Bool
@@ -72,18 +63,11 @@ above_last f j = nat_lt (f (j - 1)) (f j)
 rises_from : (f : ℕ → ℕ) (k n : ℕ) → rises (map f (numbers_from k (suc n)))
     ≡ list_all (above_last f) (numbers_from (k + 1) n)
 rises_from f k zero = refl
-rises_from f k (suc n) =
-    let e : k ≡ k + 1 - 1 = omega arith in
-    ap (λ j. nat_lt (f j) (f (k + 1)) && rises (map f (numbers_from (k + 1) (suc n)))) e
-    ∙ ap (λ b. above_last f (k + 1) && b) (rises_from f (k + 1) n)
+rises_from f k (suc n) = grind (arith, rises_from f (k + 1) n)
 
 rises_all : (f : ℕ → ℕ) (n : ℕ) → rises (map f (numbers_below n))
     ≡ list_all (λ j. j == 0 || above_last f j) (numbers_below n)
-rises_all f zero = refl
-rises_all f (suc n) =
-    rises_from f 0 n ∙ all_alike (above_last f) (λ j. j == 0 || above_last f j) 1 n
-    (λ j from. sym
-    (ap (λ b. b || above_last f j) (isnt_same j 0 (λ z. absurd (omega (arith, from, z))))))
+rises_all f n = grind (arith, rises_from, all_alike, isnt_same)
 
 keys_from : (words : List ℕ) (n k m : ℕ)
     → map (λ entry. entry.0) (map (entry_at words n) (numbers_from k m)) ≡ map (key_at words n)
@@ -95,16 +79,16 @@ pub sound_keys_are : (last : ℕ) (words : List ℕ) (n : ℕ) → has_sound_key
     ≡ (nat_le (count_of words n) 4 && list_all (is_sound_key last words n)
     (numbers_below (min (count_of words n) 4)))
 sound_keys_are last words n =
-    ap (λ keys. nat_le (count_of words n) 4 && rises keys && list_all (is_in_range last words n)
-    keys) (keys_from words n 0 m)
-    ∙ grouped (nat_le (count_of words n) 4) (rises keys) (list_all (is_in_range last words n) keys)
-    ∙ ap (λ b. nat_le (count_of words n) 4 && (b && list_all (is_in_range last words n) keys))
-    (rises_all (key_at words n) m)
-    ∙ ap (λ b. nat_le (count_of words n) 4
-    && (list_all (is_next_key words n) (numbers_below m) && b))
-    (list_all-map (is_in_range last words n) (key_at words n) (numbers_below m))
-    ∙ ap (λ b. nat_le (count_of words n) 4 && b)
-    (both_tests (is_next_key words n) (λ j. is_in_range last words n (key_at words n j)) 0 m)
+    cc (
+      keys_from words n 0 m,
+      grouped (nat_le (count_of words n) 4) (rises keys) (list_all
+          (is_in_range last words n) keys),
+      rises_all (key_at words n) m,
+      list_all-map (is_in_range
+          last words n) (key_at words n) (numbers_below m),
+      both_tests (is_next_key words n) (λ j.
+          is_in_range last words n (key_at words n j)) 0 m,
+    )
   where
     m : ℕ
     m = min (count_of words n) 4
@@ -113,8 +97,7 @@ sound_keys_are last words n =
     keys = map (key_at words n) (numbers_below m)
 
     grouped : (a b c : Bool) → (a && b && c) ≡ (a && (b && c))
-    grouped true b c = refl
-    grouped false b c = refl
+    grouped a b c = search arith
 
 -- the entries of a node, place by place
 pub all_entries : (p : ℕ × ℕ → Bool) (words : List ℕ) (n : ℕ)
@@ -125,21 +108,13 @@ all_entries p words n = list_all-map p (entry_at words n) (numbers_below (min (c
 pub linked_end : (last : ℕ) (words : List ℕ) (n : ℕ) → have_one_left last words ≡ true → n ≤ last
     → right_of words n ≡ 0
     → is_linked last words n ≡ true
-linked_end last words n one low ends =
-    linked_is last words n one low
-    ∙ ap (λ b. b || nat_le (right_of words n) last && level_of words (right_of words n) == level_of
-    words n) (is_same (right_of words n) 0 ends)
+linked_end last words n one low ends = grind (arith, ends, linked_is, is_same)
 
 pub linked_on : (last : ℕ) (words : List ℕ) (n : ℕ) → have_one_left last words ≡ true → n ≤ last
     → right_of words n ≢ 0
     → right_of words n ≤ last → is_linked last words n
     ≡ (level_of words (right_of words n) == level_of words n)
-linked_on last words n one low on in_use =
-    linked_is last words n one low
-    ∙ ap (λ b. b || nat_le (right_of words n) last && level_of words (right_of words n) == level_of
-    words n) (isnt_same (right_of words n) 0 on)
-    ∙ ap (λ b. b && level_of words (right_of words n) == level_of words n)
-    (is_at_most (right_of words n) last in_use)
+linked_on last words n one low on in_use = grind (arith, linked_is, isnt_same, is_at_most)
 
 -- a key that isn't sound, and keys that all are
 pub keys_fail : (last : ℕ) (words : List ℕ) (n j : ℕ) → j < min (count_of words n) 4
@@ -155,12 +130,7 @@ pub keys_pass : (last : ℕ) (words : List ℕ) (n m : ℕ) → count_of words n
     → m ≡ min (count_of words n) 4
     → list_all (is_sound_key last words n) (numbers_below m) ≡ true
     → true ≡ has_sound_keys last words n
-keys_pass last words n m few is all =
-    sym (sound_keys_are last words n
-    ∙ both_true (nat_le (count_of words n) 4)
-    (list_all (is_sound_key last words n) (numbers_below (min (count_of words n) 4)))
-    (is_at_most (count_of words n) 4 few)
-    (ap (λ k. list_all (is_sound_key last words n) (numbers_below k)) (sym is) ∙ all))
+keys_pass last words n m few is all = grind (arith, few, sound_keys_are, both_true, is_at_most)
 
 -- an entry that fails a test, and entries that all pass
 pub entries_fail : (p : ℕ × ℕ → Bool) (words : List ℕ) (n j : ℕ) → j < min (count_of words n) 4
@@ -173,6 +143,4 @@ entries_fail p words n j low fails =
 pub entries_pass : (p : ℕ × ℕ → Bool) (words : List ℕ) (n m : ℕ) → m ≡ min (count_of words n) 4
     → list_all (λ j. p (entry_at words n j)) (numbers_below m) ≡ true
     → true ≡ list_all p (entries_of words n)
-entries_pass p words n m is all =
-    sym (all_entries p words n ∙ ap (λ k. list_all (λ j. p (entry_at words n j)) (numbers_below k))
-    (sym is) ∙ all)
+entries_pass p words n m is all = grind (arith, all_entries)

@@ -30,20 +30,7 @@ map_push f (k ∷ ks) n = ap (λ xs. pair_by f k ∷ xs) (map_push f ks n)
 -- one number more
 one_more : (f : ℕ → ℕ) (q n : ℕ) → cond (nat_lt q n) (f q) 0 + part_given q (n, f n)
     ≡ cond (nat_lt q (suc n)) (f q) 0
-one_more f q n = by_tests (nat_lt q n) (q == n) refl refl
-  where
-    by_tests : (a b : Bool) → nat_lt q n ≡ a → (q == n) ≡ b → cond a (f q) 0 + cond b (f n) 0
-        ≡ cond (nat_lt q (suc n)) (f q) 0
-    by_tests true true e g = absurd (omega (arith, below_of q n e, same_of q n g))
-    by_tests true false e g =
-        (let z : f q + 0 ≡ f q = omega arith in z) ∙ ap (λ t. cond t (f q) 0)
-        (sym (is_below q (suc n) (omega (arith, below_of q n e))))
-    by_tests false true e g =
-        (let z : 0 + f n ≡ f n = omega arith in z) ∙ ap f (sym (same_of q n g))
-        ∙ ap (λ t. cond t (f q) 0) (sym (is_below q (suc n) (omega (arith, same_of q n g))))
-    by_tests false false e g =
-        ap (λ t. cond {A = ℕ} t (f q) 0)
-        (sym (isnt_below q (suc n) (omega (arith, not_below_of q n e, apart_of q n g))))
+one_more f q n = grind (arith, below_of, same_of, is_below, isnt_below, not_below_of, apart_of)
 
 given_numbered : (f : ℕ → ℕ) (q n : ℕ) → given q (numbered f n) ≡ cond (nat_lt q n) (f q) 0
 given_numbered f q zero = ap (λ t. cond {A = ℕ} t (f q) 0) (sym (isnt_below q 0 (omega arith)))
@@ -80,12 +67,8 @@ row_set row h a low =
   where
     by_key : (q : ℕ) (b : Bool) → (q == h) ≡ b → get_or (set row h a) q 0 ≡ cond (q == h) a
         (amount_of (row_amounts row) q)
-    by_key q true e =
-        ap (λ k. get_or (set row h a) k 0) (same_of q h e) ∙ get_or-set_same row h a 0 low
-        ∙ sym (ap (λ b. cond b a (amount_of (row_amounts row) q)) e)
-    by_key q false e =
-        get_or-set_other row h q a 0 (apart_of q h e) ∙ sym (row_amount row q)
-        ∙ sym (ap (λ b. cond b a (amount_of (row_amounts row) q)) e)
+    by_key q true e = cc (same_of q h e, get_or-set_same row h a 0 low)
+    by_key q false e = cc (get_or-set_other row h q a 0 (apart_of q h e), row_amount row q)
 
 -- all amounts are 0
 nothing_there : (n q : ℕ) → get_or {A = ℕ} (replicate n 0) q 0 ≡ 0
@@ -115,11 +98,7 @@ pushed n a [] all = (omega arith, tt)
 pushed n a (e ∷ s) all = (omega (arith, all.0), pushed n a s all.1)
 
 pub has_none : (row : List ℕ) → HasBelow row 0 []
-has_none row = record {
-  below = tt;
-  formed = record { rising = tt; some = tt };
-  shown = λ q. ap (λ t. cond {A = ℕ} t (get_or row q 0) 0) (sym (isnt_below q 0 (omega arith)));
-}
+has_none row = grind arith
 
 pub has_pushed : (row : List ℕ) (n a : ℕ) (view : Amounts) → get_or row n 0 ≡ a → a ≢ 0
     → HasBelow row n view
@@ -144,22 +123,7 @@ has_pushed row n a view is some has = record {
 
 pub has_skipped : (row : List ℕ) (n : ℕ) (view : Amounts) → get_or row n 0 ≡ 0 → HasBelow row n view
     → HasBelow row (n + 1) view
-has_skipped row n view none has = record {
-  below = raised n view has.below;
-  formed = has.formed;
-  shown = λ q.
-      has.shown q ∙ (let z : cond (nat_lt q n) (get_or row q 0) 0 ≡ cond (nat_lt q n)
-      (get_or row q 0) 0 + 0 = omega arith in z)
-      ∙ ap (λ m. cond (nat_lt q n) (get_or row q 0) 0 + m) (sym (nothing q (q == n)))
-      ∙ ap (λ v. cond (nat_lt q n) (get_or row q 0) 0 + part_given q (n, v)) (sym none)
-      ∙ one_more (λ h. get_or row h 0) q n
-      ∙ ap (λ m. cond (nat_lt q m) (get_or row q 0) 0)
-      (let one : suc n ≡ n + 1 = omega arith in one);
-}
-  where
-    nothing : (q : ℕ) (b : Bool) → cond {A = ℕ} b 0 0 ≡ 0
-    nothing q true = refl
-    nothing q false = refl
+has_skipped row n view none has = grind (arith, raised n view has.below, has.formed)
 
 pub has_all : (row : List ℕ) (n : ℕ) (view : Amounts) → length row ≤ n → HasBelow row n view
     → view ≡ row_amounts row

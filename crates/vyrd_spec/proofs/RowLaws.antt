@@ -1,7 +1,7 @@
 -- Tests of the numbers in a row, and what is given by each of them.
 use Rattle.std.proofs.Common.{◌≡◌, ◌≢◌, ℕ, zero, suc, ◌+◌, ◌-◌, ◌<◌, ◌≤◌, Bool, true, false, cond}
 use Rattle.std.proofs.Common.{◌&&◌, List, [], ◌∷◌, ◌++◌, map, Option, Some, None, refl, ap, ◌∙◌}
-use Rattle.std.proofs.Common.{sym, arith}
+use Rattle.std.proofs.Common.{arith}
 use Rattle.std.specs.Prelude.{◌==◌, find, count_by, is_some}
 use Rattle.std.specs.Option.{option_or}
 use Rattle.std.specs.List.{list_all}
@@ -28,11 +28,7 @@ fails_from p k (suc n) i from to fails = by_place (k == i) refl (p k) refl
     by_place : (b : Bool) → (k == i) ≡ b → (c : Bool) → p k ≡ c
         → (k ≢ i → list_all p (numbers_from (k + 1) n) ≡ false)
         → (p k && list_all p (numbers_from (k + 1) n)) ≡ false
-    by_place true e c here later = ap (λ x. x && list_all p (numbers_from (k + 1) n))
-        (ap p (same_of k i e) ∙ fails)
-    by_place false e true here later = ap (λ x. x && list_all p (numbers_from (k + 1) n)) here
-        ∙ later (apart_of k i e)
-    by_place false e false here later = ap (λ x. x && list_all p (numbers_from (k + 1) n)) here
+    by_place b e c here later = search (here, same_of, apart_of, arith)
 
 pub one_fails : (p : ℕ → Bool) (n i : ℕ) → i < n → p i ≡ false → list_all p (numbers_below n)
     ≡ false
@@ -68,37 +64,21 @@ counted p i = cond (p i) 1 0
 pub count-push : (p : ℕ → Bool) (n : ℕ) → count_by p (numbers_below (n + 1))
     ≡ count_by p (numbers_below n) + cond (p n) 1 0
 count-push p n =
-    ap (count_by p) (numbers_below-push n) ∙ sum_by-append (counted p) (numbers_below n) (n ∷ [])
-    ∙ (let z : count_by p (numbers_below n) + (0 + counted p n) ≡ count_by p (numbers_below n)
-    + counted p n = omega arith in z)
+    grind (arith, numbers_below-push n, sum_by-append (counted p) (numbers_below n) (n ∷ []))
 
 count-cons : (p : ℕ → Bool) (k n : ℕ) → count_by p (numbers_from k (suc n)) ≡ cond (p k) 1 0
     + count_by p (numbers_from (k + 1) n)
-count-cons p k n =
-    sum_by-append (counted p) (k ∷ []) (numbers_from (k + 1) n)
-    ∙ (let z : 0 + counted p k + count_by p (numbers_from (k + 1) n) ≡ counted p k
-    + count_by p (numbers_from (k + 1) n) = omega arith in z)
+count-cons p k n = grind (arith, sum_by-append (counted p) (k ∷ []) (numbers_from (k + 1) n))
 
 -- no fewer pass of more numbers
 count_grows_by : (p : ℕ → Bool) (n k : ℕ) → count_by p (numbers_below n)
     ≤ count_by p (numbers_below (n + k))
-count_grows_by p n zero = let e : n + 0 ≡ n = omega arith in
-    omega (arith, ap (λ m. count_by p (numbers_below m)) e)
-count_grows_by p n (suc k) =
-    let e : n + suc k ≡ n + k + 1 = omega arith in
-    omega (
-      arith,
-      count_grows_by p n k,
-      count-push p (n + k),
-      ap (λ m. count_by p (numbers_below m))
-          e,
-    )
+count_grows_by p n zero = grind arith
+count_grows_by p n (suc k) = grind (arith, count_grows_by p n k, count-push p (n + k))
 
 pub count_grows : (p : ℕ → Bool) (n m : ℕ) → n ≤ m → count_by p (numbers_below n)
     ≤ count_by p (numbers_below m)
-count_grows p n m le =
-    let e : n + (m - n) ≡ m = omega arith in
-    omega (arith, count_grows_by p n (m - n), ap (λ k. count_by p (numbers_below k)) e)
+count_grows p n m le = grind (arith, count_grows_by p n (m - n))
 
 -- the first that passes, with one number more
 pub find-push : (p : ℕ → Bool) (n : ℕ) → find p (numbers_below (n + 1))
@@ -114,10 +94,7 @@ found_from p k (suc n) i e = by_first (p k) refl e (found_from p (k + 1) n i)
     by_first : (b : Bool) → p k ≡ b → cond b (Some k) (find p (numbers_from (k + 1) n)) ≡ Some i
         → (find p (numbers_from (k + 1) n) ≡ Some i → (p i ≡ true) × (k + 1 ≤ i) × (i < k + 1 + n))
         → (p i ≡ true) × (k ≤ i) × (i < k + suc n)
-    by_first true here e later = let same : k ≡ i = cc in
-        (ap p (sym same) ∙ here, omega (arith, same), omega (arith, same))
-    by_first false here e later = let rest = later e in
-        (rest.0, omega (arith, rest.1), omega (arith, rest.2))
+    by_first b here e later = search (here, arith)
 
 pub found_below : (p : ℕ → Bool) (n i : ℕ) → find p (numbers_below n) ≡ Some i → (p i ≡ true)
     × (i < n)
@@ -132,9 +109,7 @@ none_counted p k (suc n) e = by_first (p k) refl e (none_counted p (k + 1) n)
     by_first : (b : Bool) → p k ≡ b → cond b (Some k) (find p (numbers_from (k + 1) n)) ≡ None
         → (find p (numbers_from (k + 1) n) ≡ None → count_by p (numbers_from (k + 1) n) ≡ 0)
         → count_by p (numbers_from k (suc n)) ≡ 0
-    by_first true here e later = cc
-    by_first false here e later =
-        omega (arith, count-cons p k n, later e, ap (λ b. cond {A = ℕ} b 1 0) here)
+    by_first b here e later = search (here, count-cons, arith)
 
 pub none_found : (p : ℕ → Bool) (n : ℕ) → find p (numbers_below n) ≡ None
     → count_by p (numbers_below n) ≡ 0
@@ -150,8 +125,7 @@ one_counted p k (suc n) e = by_first (p k) refl e (one_counted p (k + 1) n)
         → (is_some (find p (numbers_from (k + 1) n)) ≡ true
         → 1 ≤ count_by p (numbers_from (k + 1) n))
         → 1 ≤ count_by p (numbers_from k (suc n))
-    by_first true here e later = omega (arith, count-cons p k n, ap (λ b. cond {A = ℕ} b 1 0) here)
-    by_first false here e later = omega (arith, count-cons p k n, later e)
+    by_first b here e later = search (here, count-cons, arith)
 
 pub some_found : (p : ℕ → Bool) (n : ℕ) → is_some (find p (numbers_below n)) ≡ true
     → 1 ≤ count_by p (numbers_below n)
@@ -159,20 +133,10 @@ some_found p n e = one_counted p 0 n e
 
 pub count_at_most : (p : ℕ → Bool) (n : ℕ) → count_by p (numbers_below n) ≤ n
 count_at_most p zero = omega arith
-count_at_most p (suc n) =
-    let e : suc n ≡ n + 1 = omega arith in
-    omega (
-      arith,
-      count_at_most p n,
-      count-push p n,
-      ap (λ m. count_by p (numbers_below m))
-          e,
-      one_at_most (p n),
-    )
+count_at_most p (suc n) = grind (arith, count_at_most p n, count-push p n, one_at_most (p n))
   where
     one_at_most : (b : Bool) → cond {A = ℕ} b 1 0 ≤ 1
-    one_at_most true = omega arith
-    one_at_most false = omega arith
+    one_at_most b = search arith
 
 -- one number more that passes, and one that doesn't
 pub counted_one : (p : ℕ → Bool) (n m : ℕ) → p n ≡ true → m ≡ count_by p (numbers_below n)
@@ -191,12 +155,14 @@ only_found p (suc m) n one low here =
     let e : suc m ≡ m + 1 = omega arith in
     let grown : count_by p (numbers_below (m + 1))
     ≤ 1 = omega (arith, one, ap (λ k. count_by p (numbers_below k)) e) in
-    ap (λ k. find p (numbers_below k)) e ∙ find-push p m
-    ∙ by_place (m == n) refl grown (λ lower fewer. only_found p m n fewer lower here)
+    cc (
+      find-push p m,
+      by_place (m == n) refl grown (λ lower fewer. only_found p m n fewer lower
+          here),
+    )
   where
     kept : (o : Option ℕ) → o ≡ Some n → (x : Option ℕ) → option_or o x ≡ Some n
-    kept None f x = cc
-    kept (Some k) f x = f
+    kept o f x = search arith
 
     by_place : (b : Bool) → (m == n) ≡ b → count_by p (numbers_below (m + 1)) ≤ 1
         → (n < m → count_by p (numbers_below m) ≤ 1 → find p (numbers_below m) ≡ Some n)
@@ -206,17 +172,7 @@ only_found p (suc m) n one low here =
         by_found : (o : Option ℕ) → find p (numbers_below m) ≡ o → m ≡ n
             → count_by p (numbers_below (m + 1)) ≤ 1
             → option_or (find p (numbers_below m)) (cond (p m) (Some m) None) ≡ Some n
-        by_found None g same few' =
-            ap (λ o. option_or o (cond (p m) (Some m) None)) g
-            ∙ ap (λ b. cond {A = Option ℕ} b (Some m) None) (ap p same ∙ here) ∙ ap Some same
-        by_found (Some k) g same few' =
-            absurd (omega (
-              arith,
-              few',
-              count-push p m,
-              ap (λ b. cond {A = ℕ} b 1 0) (ap p same ∙ here),
-              some_found p m (ap is_some g),
-            ))
+        by_found o g same few' = search (count-push, some_found, is_some, arith)
     by_place false f few later =
         kept (find p (numbers_below m))
         (later (let apart = apart_of m n f in omega (arith, low, apart))

@@ -1,10 +1,10 @@
 -- By any rules that a charter names what is shown is amounts; a state shows at the start no more
 -- keys
 -- than the words for which it stands; and words show no more than the charter says.
-use Rattle.std.proofs.Common.{◌≡◌, ℕ, zero, suc, ◌+◌, ◌*◌, ◌/◌, ◌^◌, ◌≤◌, Bool, true, false, cond}
+use Rattle.std.proofs.Common.{◌≡◌, ℕ, zero, suc, ◌+◌, ◌*◌, ◌/◌, ◌≤◌, Bool, true, false, cond}
 use Rattle.std.proofs.Common.{List, [], ◌∷◌, ◌++◌, map, length, Some, None, refl, ap, subst}
 use Rattle.std.proofs.Common.{◌∙◌, sym, arith, length-append}
-use Rattle.std.specs.Prelude.{◌==◌, ◌||◌, not, nat_le, min, filter, flat_map, option_map, T}
+use Rattle.std.specs.Prelude.{◌==◌, ◌||◌, not, nat_le, filter, flat_map, option_map, T}
 use Rattle.std.specs.Bool.{then_some}
 use Rattle.std.specs.List.{list_any, list_all}
 use Rattle.std.specs.Ordering.{nat_cmp}
@@ -26,7 +26,7 @@ use Rattle.vyrd_base.specs.Buffers.{Buffer, buffer_at, buffer_parts}
 use Rattle.vyrd_base.specs.Cache.{Chunk, chunk_at, chunk_parts}
 use Rattle.vyrd_base.specs.Layout.{plain_words, plain_words_of}
 use Rattle.vyrd_base.specs.Multiset.{slot_parts}
-use Rattle.vyrd_base.specs.Own.OwnRules.{own_view, own_shown, own_start, may_stand}
+use Rattle.vyrd_base.specs.Own.OwnRules.{own_view, own_shown, own_start}
 use Rattle.vyrd_base.specs.Own.Programs.{Written}
 use Rattle.vyrd_base.specs.Own.Reader.{written_in}
 use Rattle.vyrd_base.specs.Own.Steps.{given_by, part_gives, part_words, view_of}
@@ -34,8 +34,8 @@ use Rattle.vyrd_base.specs.Places.{numbers_from, numbers_below}
 use Rattle.vyrd_base.specs.Represented.{is_sound}
 use Rattle.vyrd_base.specs.Rules.{Rules, Charter, built_in, own, rules_by}
 use Rattle.vyrd_base.specs.States.{State, showing}
-use Rattle.vyrd_base.specs.Tree.{right_of, count_of, entries_of, entry_parts, node_parts, damage}
-use Rattle.vyrd_base.specs.Tree.{node_word, chain_parts_from}
+use Rattle.vyrd_base.specs.Tree.{right_of, entry_parts, node_parts, damage}
+use Rattle.vyrd_base.specs.Tree.{chain_parts_from}
 use Rattle.vyrd_base.specs.Views.{parts_of, view_of_words}
 use Rattle.vyrd_base.proofs.AmountLaws.{no_amounts}
 use Rattle.vyrd_base.proofs.PlaceLaws.{length-mapped}
@@ -68,9 +68,7 @@ view_formed (built_in h) words = IsAmounts-collected (parts_of h.subject h.size 
 view_formed (own h lines) words = own_view_formed (written_in lines) words
 
 shown_formed : (c : Charter) (s : State) → IsAmounts s.shown → IsAmounts ((rules_by c).shown s)
-shown_formed (built_in h) s is = is
-shown_formed (own h lines) s is = unless_formed (h.size == 0) (own_shown (written_in lines) s)
-    (unless_formed ((written_in lines).words == 0) s.shown is)
+shown_formed c s is = grind (arith, unless_formed, own_shown)
 
 pub formed_rules : (c : Charter) → AreFormed (rules_by c)
 formed_rules c = record { next = formed_next c; shown = shown_formed c; view = view_formed c }
@@ -89,10 +87,7 @@ built_starts : (h : Header) (words : List ℕ) (state : State) (b : Bool)
     → option_map showing (then_some b (view_of_words h words)) ≡ Some state
     → StartsFew (rules_by (built_in h)) words state
 built_starts h words state true begins =
-    subst (StartsFew (rules_by (built_in h)) words) (same_Some _ _ begins) (record {
-      few = omega arith;
-      formed = view_formed (built_in h) words;
-    })
+    grind (arith, same_Some _ _ begins, view_formed (built_in h) words)
 built_starts h words state false begins = cc
 
 own_starts : (h : Header) (lines : List (List ℕ)) (words : List ℕ) (state : State) (b : Bool)
@@ -105,8 +100,7 @@ own_starts h lines words state true begins =
     })
   where
     by_parts : (b : Bool) (s : Amounts) → cond b [] (cond b [] s) ≡ cond b [] s
-    by_parts true s = refl
-    by_parts false s = refl
+    by_parts b s = search arith
 own_starts h lines words state false begins = cc
 
 pub starts_few : (c : Charter) (words : List ℕ) (state : State)
@@ -115,8 +109,7 @@ pub starts_few : (c : Charter) (words : List ℕ) (state : State)
 starts_few (built_in h) words state many begins =
     built_starts h words state (is_sound h.subject h.size words)
     (ap (option_map showing) (sym (with_free_locks h words many)) ∙ begins)
-starts_few (own h lines) words state many begins =
-    own_starts h lines words state (may_stand (written_in lines) words) begins
+starts_few (own h lines) words state many begins = search (own_starts, begins, arith)
 
 -- each part shows one key at most
 few_put : (k a : ℕ) (s : Amounts) → T (is_sorted nat_cmp s)
@@ -125,8 +118,7 @@ few_put k a s rising = by_test _ (length-put nat_cmp nat_cmp_total k a s rising)
   where
     by_test : (b : Bool) → length (put nat_cmp k a s) ≡ cond b (length s) (length s + 1)
         → length (put nat_cmp k a s) ≤ suc (length s)
-    by_test true is = omega (arith, is)
-    by_test false is = omega (arith, is)
+    by_test b is = search arith
 
 few_with : (s : Amounts) (k a : ℕ) → IsAmounts s → length (with_amount s k a) ≤ suc (length s)
 few_with s k a is = by_zero (a == 0)
@@ -162,37 +154,16 @@ few_flat f most each k (suc n) = omega (
 )
 
 few_slot : (words : List ℕ) (i : ℕ) → length (slot_parts words i) ≤ 1
-few_slot words i = by_test _ _
-  where
-    by_test : (b : Bool) (key : ℕ) → length {A = ℕ × ℕ} (cond b ((key, 1) ∷ []) []) ≤ 1
-    by_test true key = omega arith
-    by_test false key = omega arith
+few_slot words i = grind arith
 
 few_chunk : (size h : ℕ) (c : Chunk) → length (chunk_parts size h c) ≤ 2
-few_chunk size h c = by_test _ _ _
-  where
-    by_test : (b d : Bool) (pair : ℕ)
-        → length {A = ℕ × ℕ}
-        (cond b ((size + h, 2) ∷ []) ((h, pair) ∷ cond d ((size + h, 1) ∷ []) [])) ≤ 2
-    by_test true d pair = omega arith
-    by_test false true pair = omega arith
-    by_test false false pair = omega arith
+few_chunk size h c = grind arith
 
 few_buffer : (size b : ℕ) (buffer : Buffer) → length (buffer_parts size b buffer) ≤ 1
-few_buffer size b buffer = by_test _ _
-  where
-    by_test : (is : Bool) (text : ℕ)
-        → length {A = ℕ × ℕ} (cond is ((b, text) ∷ []) ((size + b, 1) ∷ [])) ≤ 1
-    by_test true text = omega arith
-    by_test false text = omega arith
+few_buffer size b buffer = grind arith
 
 few_entry : (entry : ℕ × ℕ) → length (entry_parts entry) ≤ 1
-few_entry (key, value) = by_test _
-  where
-    by_test : (b : Bool)
-        → length {A = ℕ × ℕ} (cond b ((key, 2 ^ 32 + value) ∷ []) damage) ≤ 1
-    by_test true = omega arith
-    by_test false = omega arith
+few_entry entry = grind arith
 
 few_entries : (entries : List (ℕ × ℕ)) → length (flat_map entry_parts entries) ≤ length entries
 few_entries [] = omega arith
@@ -205,11 +176,7 @@ few_entries (entry ∷ entries) = omega (
 )
 
 few_node : (words : List ℕ) (n : ℕ) → length (node_parts words n) ≤ 4
-few_node words n =
-    let all : length (entries_of words n) ≡ min (count_of words n) 4 =
-    length-mapped (λ j. (node_word words n (4 + j), node_word words n (8 + j))) 0
-    (min (count_of words n) 4) in
-    omega (arith, few_entries (entries_of words n), all)
+few_node words n = grind (arith, length-mapped, few_entries)
 
 -- a chain shows four keys for each node, and damage at its end
 few_chain : (size : ℕ) (words : List ℕ) (left : ℕ) (seen : List ℕ) (n : ℕ)
@@ -227,17 +194,7 @@ few_chain size words (suc left) seen n =
             | false ↦ chain_parts_from size words left (n ∷ seen) (right_of words n)
           ]
         ]) ≤ suc left * 5
-    by_end rest true back =
-        omega (arith, length-append (node_parts words n) [], few_node words n)
-    by_end rest false true =
-        omega (arith, length-append (node_parts words n) damage, few_node words n)
-    by_end rest false false = omega (
-      arith,
-      length-append (node_parts words n)
-          (chain_parts_from size words left (n ∷ seen) (right_of words n)),
-      few_node words n,
-      rest,
-    )
+    by_end rest ends back = search (back, length-append, few_node, left, arith)
 
 few_parts : (subject : Subject) (size : ℕ) (words : List ℕ)
     → length (parts_of subject size words) ≤ plain_words_of subject size

@@ -1,9 +1,8 @@
 -- What the slots of a multiset give.
-use Rattle.std.proofs.Common.{◌≡◌, ◌≢◌, ℕ, ◌+◌, ◌*◌, ◌^◌, ◌<◌, ◌≤◌, Bool, true, false, cond, List}
-use Rattle.std.proofs.Common.{[], ◌∷◌, length, refl, ap, ◌∙◌, sym, subst, arith}
-use Rattle.std.specs.Prelude.{◌==◌, nat_lt, flat_map, slice_index, All}
+use Rattle.std.proofs.Common.{◌≡◌, ◌≢◌, ℕ, ◌+◌, ◌*◌, ◌^◌, ◌<◌, ◌≤◌, Bool, true, false, List}
+use Rattle.std.proofs.Common.{length, refl, ap, arith}
+use Rattle.std.specs.Prelude.{nat_lt, flat_map, slice_index, All}
 use Rattle.std.proofs.lemmas.List.{get_or_past}
-use Rattle.std.proofs.lemmas.List.Elements.{All-get_or}
 use Rattle.vyrd_base.specs.Places.{numbers_below}
 use Rattle.vyrd_base.specs.Amounts.{Amounts, amount_of, collected, given}
 use Rattle.vyrd_base.specs.Multiset.{slot_parts}
@@ -18,42 +17,32 @@ small_word : (words : List ℕ) (i : ℕ) → All (λ word. word < 2 ^ 63) words
 small_word words i small = by_place (nat_lt i (length words)) refl
   where
     by_place : (b : Bool) → nat_lt i (length words) ≡ b → slice_index words i < 2 ^ 63
-    by_place true e = All-get_or (λ word. word < 2 ^ 63) words i 0 (below_of i (length words) e)
-        small
-    by_place false e = subst (λ word. word < 2 ^ 63)
-        (sym (get_or_past words i 0 (not_below_of i (length words) e))) (omega arith)
+    by_place true e = search (below_of, small, arith)
+    by_place false e = grind (arith, get_or_past words i 0 (not_below_of i (length words) e))
 
 -- what a slot gives to a number that no word has
 none_of_slot : (words : List ℕ) (q i : ℕ) → q ≢ slice_index words (2 * i + 1)
     → given q (slot_parts words i) ≡ 0
-none_of_slot words q i other = by_state (slice_index words (2 * i) == 2)
-  where
-    by_state : (b : Bool) → given q (cond b ((slice_index words (2 * i + 1), 1) ∷ []) []) ≡ 0
-    by_state true = ap (λ b. cond b 1 0 + 0) (isnt_same q (slice_index words (2 * i + 1)) other)
-    by_state false = refl
+none_of_slot words q i other = grind (arith, given, isnt_same)
 
 -- what is shown is below 2^63, as words are
 pub small_value : (words : List ℕ) (n q : ℕ) → All (λ word. word < 2 ^ 63) words
     → amount_of (collected (flat_map (slot_parts words) (numbers_below n))) q ≢ 0 → q < 2 ^ 63
-small_value words n q small some = by_test (nat_lt q (2 ^ 63)) refl
-  where
-    high : nat_lt q (2 ^ 63) ≡ false → (i : ℕ) → q ≢ slice_index words i
-    high e i same = let low = small_word words i small in let at = not_below_of q (2 ^ 63) e in
-        omega (arith, low, at, same)
-
-    by_test : (b : Bool) → nat_lt q (2 ^ 63) ≡ b → q < 2 ^ 63
-    by_test true e = below_of q (2 ^ 63) e
-    by_test false e = absurd
-        (some (amount_of-collected (flat_map (slot_parts words) (numbers_below n)) q
-        ∙ given_nothing (slot_parts words) q 0 n
-        (λ i from to. none_of_slot words q i (high e (2 * i + 1)))))
+small_value words n q small some =
+    grind (
+      arith,
+      small,
+      small_word,
+      not_below_of,
+      below_of,
+      amount_of-collected,
+      given_nothing,
+      none_of_slot,
+    )
 
 -- the counts that the slots of a multiset show
 pub first_counts : (words : List ℕ) (size : ℕ) (counts : Amounts) → size ≤ 1024
     → All (λ word. word < 2 ^ 63) words
     → counts ≡ collected (flat_map (slot_parts words) (numbers_below (4 * size)))
     → AllAmounts (λ value count. (value < 2 ^ 63) × (count ≤ most_after 0)) counts
-first_counts words size counts few small is = λ value some. (
-  small_value words (4 * size) value small (λ z. some (ap (λ s. amount_of s value) is ∙ z)),
-  omega (arith, ap (λ s. amount_of s value) is, slots_at_most words (4 * size) value, few),
-)
+first_counts words size counts few small is = grind (arith, few, small, small_value, slots_at_most)

@@ -19,8 +19,7 @@ use Rattle.vyrd_spec.proofs.RowLaws.{one_fails, each_passes, passes_more, map-pu
 -- a part that isn't sound
 pub no_row : (p : ℕ → Bool) (f : ℕ → ℕ) (n i : ℕ) → i < n → then_some (p i) (f i) ≡ None
     → sound_row p f n ≡ None
-no_row p f n i low none = ap (λ b. then_some b (map f (numbers_below n)))
-    (one_fails p n i low (then_some_false (p i) (f i) none))
+no_row p f n i low none = cc (one_fails p n i low (then_some_false (p i) (f i) none))
 
 -- one more that is
 pub sound_more : (p : ℕ → Bool) (f : ℕ → ℕ) (i value : ℕ) → then_some (p i) (f i) ≡ Some value
@@ -30,26 +29,20 @@ sound_more p f i value some all = passes_more p i all (then_some_true (p i) (f i
 pub shown_more : (p : ℕ → Bool) (f : ℕ → ℕ) (row new : List ℕ) (i value : ℕ) → then_some (p i) (f i)
     ≡ Some value
     → row ≡ map f (numbers_below i) → new ≡ row ++ value ∷ [] → new ≡ map f (numbers_below (i + 1))
-shown_more p f row new i value some all more =
-    more ∙ ap (λ xs. xs ++ value ∷ []) all
-    ∙ ap (λ x. map f (numbers_below i) ++ x ∷ []) (sym (then_some_true (p i) (f i) value some).1)
-    ∙ sym (map-push f i)
+shown_more p f row new i value some all more = grind (arith, more, then_some_true, map-push)
 
 -- the row, if there is one
 pub sound_where : (p : ℕ → Bool) (f : ℕ → ℕ) (n : ℕ) (row : List ℕ) → sound_row p f n ≡ Some row
     → list_all p (numbers_below n) ≡ true
-sound_where p f n row some =
-    (then_some_true (list_all p (numbers_below n)) (map f (numbers_below n)) row some).0
+sound_where p f n row some = search (then_some_true, arith)
 
 pub unsound_where : (p : ℕ → Bool) (f : ℕ → ℕ) (n : ℕ) → sound_row p f n ≡ None
     → list_all p (numbers_below n) ≡ false
-unsound_where p f n none = then_some_false (list_all p (numbers_below n)) (map f (numbers_below n))
-    none
+unsound_where p f n none = search (then_some_false, arith)
 
 values : (p : ℕ → Bool) (f : ℕ → ℕ) (n : ℕ) (row : List ℕ) → sound_row p f n ≡ Some row
     → map f (numbers_below n) ≡ row
-values p f n row some =
-    (then_some_true (list_all p (numbers_below n)) (map f (numbers_below n)) row some).1
+values p f n row some = search (then_some_true, arith)
 
 pub many_in : (p : ℕ → Bool) (f : ℕ → ℕ) (n : ℕ) (row : List ℕ) → sound_row p f n ≡ Some row
     → length row ≡ n

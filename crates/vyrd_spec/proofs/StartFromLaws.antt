@@ -1,8 +1,7 @@
 -- When words stand for a state, and for which, of each subject.
 use Rattle.std.proofs.Common.{◌≡◌, ℕ, ◌+◌, ◌≤◌, true, false, ◌++◌, List, length, Some, None, ap}
-use Rattle.std.proofs.Common.{◌∙◌, sym, arith}
+use Rattle.std.proofs.Common.{arith}
 use Rattle.std.specs.Prelude.{replicate, option_map}
-use Rattle.std.specs.Bool.{then_some}
 use Rattle.vyrd_base.specs.Subjects.{is_built_in}
 use Rattle.vyrd_base.specs.declared.header.Header.{Header}
 use Rattle.vyrd_base.specs.declared.subject.Subject.{Subject}
@@ -20,10 +19,7 @@ pub no_state : (h : Header) (subject : Subject) (words : List ℕ) → h.subject
     → length words ≡ plain_words h
     → is_sound subject h.size words ≡ false → None ≡ option_map showing
     (state_of_words h (words ++ replicate (lock_words h) 0))
-no_state h subject words of many unsound =
-    ap (option_map showing) (sym (with_free_locks h words many
-    ∙ ap (λ b. then_some b (view_of_words h words)) (ap (λ s. is_sound s h.size words) of
-    ∙ unsound)))
+no_state h subject words of many unsound = grind (arith, with_free_locks)
 
 -- what the words of a subject show
 shown : (h : Header) (subject : Subject) (words : List ℕ) → h.subject ≡ subject
@@ -36,10 +32,7 @@ pub a_state : (h : Header) (subject : Subject) (words : List ℕ) (s : Amounts) 
     → length words ≡ plain_words h
     → is_sound subject h.size words ≡ true → s ≡ collected (parts_of subject h.size words)
     → Some (showing s) ≡ option_map showing (state_of_words h (words ++ replicate (lock_words h) 0))
-a_state h subject words s of many sound is =
-    ap (option_map showing) (sym (with_free_locks h words many
-    ∙ ap (λ b. then_some b (view_of_words h words)) (ap (λ x. is_sound x h.size words) of ∙ sound)
-    ∙ ap Some (shown h subject words of ∙ sym is)))
+a_state h subject words s of many sound is = grind (arith, with_free_locks, shown)
 
 -- zeroed words, with all locks free, stand for the empty state
 pub zeros_start : (h : Header)

@@ -69,8 +69,7 @@ AllAmounts-with_amount passes s k a all new =
 -- a key other than the one that gets an amount
 pub other_key : (s : Amounts) (k a q : ℕ) → (k == q) ≡ false → amount_of (with_amount s k a) q
     ≡ amount_of s q
-other_key s k a q other = amount_of-with_amount s k a q ∙ ap (λ b. cond b a (amount_of s q))
-    (flipped k q other)
+other_key s k a q other = cc (amount_of-with_amount s k a q, flipped k q other)
 
 pub or_false : (b : Bool) → (b || false) ≡ false → b ≡ false
 or_false true e = e
@@ -95,8 +94,7 @@ of_first false e = e
 
 -- the key that was set
 pub set_amount : (s : Amounts) (k a q : ℕ) → (k == q) ≡ true → amount_of (with_amount s k a) q ≡ a
-set_amount s k a q e = ap (amount_of (with_amount s k a)) (sym (same_of k q e))
-    ∙ amount_of-with_amount s k a k ∙ ap (λ b. cond b a (amount_of s k)) (same_number k)
+set_amount s k a q e = cc (same_of k q e, amount_of-with_amount s k a k, same_number k)
 
 -- one key alone, which is there
 pub lone : ℕ → Amounts

@@ -75,11 +75,8 @@ key_amount k t s q = amount_of-with_amount s k (amount_of t k) q ∙ by_key (k =
   where
     by_key : (b : Bool) → (k == q) ≡ b
         → cond (q == k) (amount_of t k) (amount_of s q) ≡ cond b (amount_of t q) (amount_of s q)
-    by_key true e =
-        ap (λ x. cond (x == k) (amount_of t k) (amount_of s q)) (sym (same_of k q e))
-        ∙ ap (λ b. cond b (amount_of t k) (amount_of s q)) (same_number k)
-        ∙ ap (amount_of t) (same_of k q e)
-    by_key false e = ap (λ b. cond b (amount_of t k) (amount_of s q)) (flipped k q e)
+    by_key true e = cc (same_of k q e, same_number k)
+    by_key false e = cc (flipped k q e)
 
 -- each of the keys has its amount in the other amounts, and no other key has changed
 pub with_amounts : (ks : List ℕ) (t s : Amounts) (q : ℕ)

@@ -1,7 +1,6 @@
 -- The steps of the tree.
-use Rattle.std.proofs.Common.{◌≡◌, ℕ, ◌+◌, ◌-◌, ◌^◌, ◌<◌, ◌≤◌, true, false, cond, not, [], Some}
+use Rattle.std.proofs.Common.{◌≡◌, ℕ, ◌+◌, ◌-◌, ◌^◌, ◌<◌, ◌≤◌, true, false, not, [], Some}
 use Rattle.std.proofs.Common.{refl, ap, arith}
-use Rattle.std.specs.Prelude.{◌==◌}
 use Rattle.std.specs.Bool.{then_some}
 use Rattle.vyrd_base.specs.declared.tree.TreeMethod.{TreeMethod}
 use Rattle.vyrd_base.specs.declared.tree.TreeMethod.TheVariants.{Insert, Delete, Lookup}
@@ -38,10 +37,7 @@ untouched : (method : TreeMethod) (args : Args) (reply key : ℕ) (s t : Amounts
     → tree.next method args reply s ≡ Some t → is_touched (touches method args) key ≡ false
     → amount_of t key ≡ amount_of s key
 untouched Insert args reply q s t e none =
-    let set = other_key s args.a (2 ^ 32 + args.b) q (or_false _ none) in
-    by_replies (Stays s q) reply _ _ _ t refl
-    (where_allowed (Stays s q) (not (is_present s args.a)) _ set)
-    (where_allowed (Stays s q) (is_present s args.a) _ set) e
+    search (other_key, or_false, by_replies, where_allowed, arith)
 untouched Delete args reply q s t e none =
     by_replies (Stays s q) reply _ _ _ t
     (where_allowed (Stays s q) (not (is_present s args.a)) s refl)
@@ -53,9 +49,7 @@ untouched Lookup args reply q s t e none = cc
 answers : (s t : Amounts) (method : TreeMethod) (args : Args) → amount_of t args.a
     ≡ amount_of s args.a
     → tree.answer t method args ≡ tree.answer s method args
-answers s t Lookup args same = ap (λ n. cond (not (n == 0)) (n - 2 ^ 32 + 1) 0) same
-answers s t Insert args same = refl
-answers s t Delete args same = refl
+answers s t method args same = grind arith
 
 -- each key that a call touches is changed by a step with that call
 changes : (method : TreeMethod) (args : Args) (key : ℕ) → is_touched (touches method args) key

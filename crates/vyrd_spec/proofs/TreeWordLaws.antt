@@ -4,11 +4,10 @@ use Rattle.std.proofs.Common.{Some, refl, ap, ◌∙◌, sym, arith}
 use Rattle.std.specs.Prelude.{◌==◌, nat_lt, nat_le, count_by}
 use Rattle.std.specs.Option.{option_map_or}
 use Rattle.std.specs.List.{list_all}
-use Rattle.std.proofs.Math.Bool.{and-false}
-use Rattle.vyrd_base.specs.Tree.{level_of, count_of, bound_of, right_of, entries_of}
+use Rattle.vyrd_base.specs.Tree.{level_of, bound_of, right_of, entries_of}
 use Rattle.vyrd_base.specs.Tree.{root_of, last_of, nodes, leads_to, left_of, is_first, low_of}
-use Rattle.vyrd_base.specs.Tree.{is_linked, is_bounded, has_sound_keys, keys_at, begins_with}
-use Rattle.vyrd_base.specs.Tree.{is_leaf_entry, is_child_entry, has_sound_entries, is_only_first}
+use Rattle.vyrd_base.specs.Tree.{is_linked, is_bounded, has_sound_keys, begins_with}
+use Rattle.vyrd_base.specs.Tree.{is_leaf_entry, has_sound_entries, is_only_first}
 use Rattle.vyrd_base.specs.Tree.{is_sound_node, is_tree}
 use Rattle.vyrd_base.proofs.TestLaws.{first_true, second_true, at_most_of, below_of, is_below}
 use Rattle.vyrd_base.proofs.TestLaws.{is_at_most, is_same, isnt_same, same_of}
@@ -26,20 +25,11 @@ pub record IsSoundNode (last : ℕ) (words : List ℕ) (n : ℕ) : Type 0 where
 
 five : (a b c d e : Bool) → (a && b && c && d && e) ≡ true → (a ≡ true) × (b ≡ true) × (c ≡ true)
     × (d ≡ true) × (e ≡ true)
-five true true true true true x = (refl, refl, refl, refl, refl)
-five true true true true false x = cc
-five true true true false e x = cc
-five true true false d e x = cc
-five true false c d e x = cc
-five false b c d e x = cc
+five a b c d e x = grind arith
 
 sound_node : (last : ℕ) (words : List ℕ) (n : ℕ) → is_sound_node last words n ≡ true
     → IsSoundNode last words n
-sound_node last words n sound =
-    let all = five (is_linked last words n) (is_bounded last words n) (has_sound_keys last words n)
-    (has_sound_entries last words n)
-    (is_only_first last words n) sound in
-    record { linked = all.0; bounded = all.1; keys = all.2; entries = all.3; only = all.4 }
+sound_node last words n sound = grind (arith, five)
 
 -- what is left to test of a tree, once its numbers of nodes are in range
 abbrev pub are_nodes : ℕ → List ℕ → ℕ → Bool
@@ -49,18 +39,7 @@ are_nodes last words root = level_of words 0 == 0 && is_first last words root
 pub tree_is : (size : ℕ) (words : List ℕ) → last_of size words < size → root_of size words
     ≤ last_of size words
     → is_tree size words ≡ are_nodes (last_of size words) words (root_of size words)
-tree_is size words low within =
-    ap (λ b. b && nat_le (root_of size words) last && level_of words 0 == 0 && is_first last words
-    (root_of size words) && all)
-    (is_below last size low)
-    ∙ ap (λ b. b && level_of words 0 == 0 && is_first last words (root_of size words) && all)
-    (is_at_most (root_of size words) last within)
-  where
-    last : ℕ
-    last = last_of size words
-
-    all : Bool
-    all = list_all (is_sound_below last words (level_of words (root_of size words))) (nodes last)
+tree_is size words low within = grind (arith, within, is_below, is_at_most, last_of)
 
 -- each node of sound nodes
 each_sound : (last : ℕ) (words : List ℕ) (highest n : ℕ)
@@ -73,8 +52,7 @@ each_sound last words highest n all low =
 
 one_link : (last : ℕ) (words : List ℕ) (n : ℕ) → IsSoundNode last words n
     → nat_le (count_by (leads_to words n) (nodes last)) 1 ≡ true
-one_link last words n node = first_true (nat_le (count_by (leads_to words n) (nodes last)) 1) _
-    node.linked
+one_link last words n node = search (first_true, arith)
 
 -- two links that lead to one node aren't a tree's
 pub two_links : (size : ℕ) (words : List ℕ) → last_of size words < size → root_of size words
@@ -96,9 +74,7 @@ two_links size words low within twice = sym (tree_is size words low within ∙ b
         (λ q below. one_link last words q
         (each_sound last words (level_of words (root_of size words)) q e (omega (arith, below)))) in
         let no : false ≡ true = sym twice ∙ one in cc
-    by_all false e =
-        ap (λ b. level_of words 0 == 0 && is_first last words (root_of size words) && b) e
-        ∙ and-false (level_of words 0 == 0 && is_first last words (root_of size words))
+    by_all false e = search arith
 
 -- a tree in words
 pub record IsTreeOf (size : ℕ) (words : List ℕ) : Type 0 where
@@ -121,10 +97,7 @@ tree_of size words tree = record {
         × (is_first last words (root_of size words) ≡ true)
         × (list_all (is_sound_below last words (level_of words (root_of size words))) (nodes last)
         ≡ true)
-    all = five (nat_lt last size) (nat_le (root_of size words) last) (level_of words 0 == 0)
-        (is_first last words (root_of size words))
-        (list_all (is_sound_below last words (level_of words (root_of size words))) (nodes last))
-        tree
+    all = search (five, arith)
 
 -- a right link leads to a node in use of the same level, which begins where this one ends, above
 -- this one's low
@@ -160,19 +133,13 @@ leads_on size words n tree low on = record {
     away = isnt_same right 0 on
 
     linked : (nat_le right last && level_of words right == level_of words n) ≡ true
-    linked = or_second (right == 0) (nat_le right last && level_of words right == level_of words n)
-        (second_true (nat_le (count_by (leads_to words n) (nodes last)) 1) _
-        (tree.sound n low).linked) away
+    linked = search (or_second, second_true, arith)
 
     in_use : right ≤ last
-    in_use = at_most_of right last
-        (first_true (nat_le right last) (level_of words right == level_of words n) linked)
+    in_use = search (at_most_of, first_true, arith)
 
     bounded : (not (right == 0) && nat_lt (low_of last words n) (bound_of words n)) ≡ true
-    bounded = or_second (bound_of words n == 0 && right == 0)
-        (not (right == 0) && nat_lt (low_of last words n) (bound_of words n))
-        (tree.sound n low).bounded (ap (λ b. bound_of words n == 0 && b) away
-        ∙ and-false (bound_of words n == 0))
+    bounded = search (or_second, arith)
 
     left : left_of last words right ≡ Some n
     left = only_found (leads_to words right) (last + 1) n
@@ -185,21 +152,4 @@ leads_on size words n tree low on = record {
 pub leaf_entries : (size : ℕ) (words : List ℕ) (n : ℕ) → IsTreeOf size words
     → n ≤ last_of size words → level_of words n ≡ 0
     → list_all is_leaf_entry (entries_of words n) ≡ true
-leaf_entries size words n tree low leaf =
-    second_true (level_of words n == 0) (list_all is_leaf_entry (entries_of words n))
-    (or_first (level_of words n == 0 && list_all is_leaf_entry (entries_of words n)) _
-    (tree.sound n low).entries inner)
-  where
-    last : ℕ
-    last = last_of size words
-
-    or_first : (a b : Bool) → (a || b) ≡ true → b ≡ false → a ≡ true
-    or_first true b e f = refl
-    or_first false b e f = let no : false ≡ true = sym f ∙ e in cc
-
-    inner : (nat_lt 0 (level_of words n) && nat_le 2 (count_of words n)
-        && begins_with (low_of last words n) (keys_at words n)
-        && list_all (is_child_entry last words (level_of words n)) (entries_of words n)) ≡ false
-    inner = ap (λ level. nat_lt 0 level && nat_le 2 (count_of words n)
-        && begins_with (low_of last words n) (keys_at words n)
-        && list_all (is_child_entry last words (level_of words n)) (entries_of words n)) leaf
+leaf_entries size words n tree low leaf = grind (arith, second_true, last_of, begins_with)

@@ -12,7 +12,7 @@ use Rattle.vyrd_base.specs.declared.log.Kind.TheVariants.{Call, Return, Write, C
 use Rattle.vyrd_base.specs.declared.log.Kind.TheVariants.{BlockClose, BlockCommit}
 use Rattle.vyrd_base.specs.Callers.{Called, open_call, by_caller, call_or_return}
 use Rattle.vyrd_base.specs.Callers.{entries_before_call}
-use Rattle.vyrd_base.specs.Commits.{is_commit, next_reply, returned, committed_at, state_after}
+use Rattle.vyrd_base.specs.Commits.{next_reply, returned, committed_at, state_after}
 use Rattle.vyrd_base.specs.Entries.{has_method, place_of}
 use Rattle.vyrd_base.specs.Front.{first_break, WellFormed}
 use Rattle.vyrd_base.specs.Places.{newest_first, first_answer}
@@ -31,7 +31,7 @@ use Rattle.vyrd_base.proofs.VerdictLaws.{first_break-append}
 use Rattle.vyrd_witness.specs.declared.execution.Execution.{Execution}
 use Rattle.vyrd_witness.specs.declared.execution.Returned.{Returned}
 use Rattle.vyrd_witness.specs.Executions.{execution_in, next_return}
-use Rattle.vyrd_states.specs.Running.{called_by, state_by, state_beyond, state_past}
+use Rattle.vyrd_states.specs.Running.{called_by, state_by, state_past}
 use Rattle.vyrd_states.proofs.KnownLaws.{later_is}
 
 -- an entry of the caller calls what may be called, or goes on with what may be
@@ -47,10 +47,7 @@ still_allowed h c kind earlier called before kept is =
         → option_flatten (option_or (call_or_return k)
         (first_answer (by_caller c call_or_return) earlier)) ≡ Some called
         → has_method h called.method called.args ≡ true
-    by_kind (Call method args) keeps it =
-        let same : record { method = method; args = args } ≡ called = cc in
-        ap (λ x. has_method h x.method x.args) (sym same)
-        ∙ call_kept h c method args earlier keeps
+    by_kind (Call method args) keeps it = cc (call_kept h c method args earlier keeps)
     by_kind (Return reply) keeps it = cc
     by_kind (Write word value) keeps it = before it
     by_kind Commit keeps it = before it
@@ -215,14 +212,4 @@ pub state_past-commit : (r : Rules) (front : List Entry) (at : ℕ) (e : Entry) 
     → slice_get front at ≡ Some e → Commits e.kind → state_past r front at s
     ≡ option_and_then (λ x. state_by r x s) (execution_in front at e.caller)
 state_past-commit r front at e s here commits =
-    ap (option_and_then (state_beyond r front at s)) here
-    ∙ ap (λ b. cond b (state_after r s (committed_at (place_of e (newest_first (take at front))
-    (drop (at + 1) front)))) (Some s)) (commits_is e.kind commits)
-    ∙ commit_by r front at e.caller e.kind s commits here
-
-pub state_past-quiet : (r : Rules) (front : List Entry) (at : ℕ) (e : Entry) (s : State)
-    → slice_get front at ≡ Some e → is_commit e.kind ≡ false → state_past r front at s ≡ Some s
-state_past-quiet r front at e s here quiet =
-    ap (option_and_then (state_beyond r front at s)) here
-    ∙ ap (λ b. cond b (state_after r s (committed_at (place_of e (newest_first (take at front))
-    (drop (at + 1) front)))) (Some s)) quiet
+    cc (commits_is e.kind commits, commit_by r front at e.caller e.kind s commits here)

@@ -76,22 +76,12 @@ quiet_next r states e earlier later s quiet going =
 some_next : (r : Rules) (states : List State) (e : Entry) (earlier later : List Entry) (s : State)
     → GoesOn r states earlier (e ∷ later) (Some s)
     → GoesOn r states (e ∷ earlier) later (beyond r e earlier later s)
-some_next r states e earlier later s going = by_test (is_commit e.kind) refl
-  where
-    after : Option State
-    after = state_after r s (committed_at (place_of e earlier later))
-
-    by_test : (b : Bool) → is_commit e.kind ≡ b
-        → GoesOn r states (e ∷ earlier) later (cond b after (Some s))
-    by_test true is = commit_next r states e earlier later s after is refl going
-    by_test false is = quiet_next r states e earlier later s is going
+some_next r states e earlier later s going = grind (arith, commit_next, quiet_next)
 
 goes_on_next : (r : Rules) (states : List State) (e : Entry) (earlier later : List Entry)
     (o : Option State) → GoesOn r states earlier (e ∷ later) o
     → GoesOn r states (e ∷ earlier) later (option_and_then (beyond r e earlier later) o)
-goes_on_next r states e earlier later None past = ended_next r states e earlier later past
-goes_on_next r states e earlier later (Some s) going =
-    some_next r states e earlier later s going
+goes_on_next r states e earlier later o past = grind (arith, past, ended_next, some_next)
 
 -- the entries from a place on, and those before the next one
 pub later_is : (front : List Entry) (n : ℕ) (e : Entry) → slice_get front n ≡ Some e
@@ -115,12 +105,7 @@ goes_on_past : (r : Rules) (states : List State) (front : List Entry) (n : ℕ) 
     → GoesOn r states (newest_first (take (n + 1) front)) (drop (n + 1) front)
     (option_and_then (beyond r e (newest_first (take n front)) (drop (n + 1) front)) o)
 goes_on_past r states front n e o here goes =
-    let earlier = newest_first (take n front) in
-    let later = drop (n + 1) front in
-    subst (λ es. GoesOn r states es later (option_and_then (beyond r e earlier later) o))
-    (sym (earlier_is front n e here))
-    (goes_on_next r states e earlier later o
-    (subst (λ es. GoesOn r states earlier es o) (later_is front n e here) goes))
+    grind (arith, here, earlier_is, goes_on_next, later_is)
 
 -- an entry at each place
 pub some_at : (front : List Entry) (n : ℕ) → n < length front
@@ -183,27 +168,23 @@ state_then-next r starting front n within =
     by_entry : (e : Entry) (o : Option State) (p : Option Entry) → p ≡ Some e
         → option_and_then (λ s. state_beyond r front n s e) o
         ≡ option_and_then (λ s. option_and_then (state_beyond r front n s) p) o
-    by_entry e o p is = ap (λ q. option_and_then
-        (λ s. option_and_then (state_beyond r front n s) q) o) (sym is)
+    by_entry e o p is = grind arith
 
 -- a state that isn't known is never known again
 unknown_later : (r : Rules) (starting : List StartWord) (front : List Entry) (n k : ℕ)
     → n + k ≤ length front → state_then r starting front n ≡ None
     → state_then r starting front (n + k) ≡ None
-unknown_later r starting front n zero within none =
-    let same : n ≡ n + 0 = omega arith in
-    ap (state_then r starting front) (sym same) ∙ none
+unknown_later r starting front n zero within none = grind arith
 unknown_later r starting front n (suc k) within none =
-    let same : n + k + 1 ≡ n + suc k = omega arith in
-    ap (state_then r starting front) (sym same)
-    ∙ state_then-next r starting front (n + k) (omega (arith, within))
-    ∙ ap (option_and_then (state_past r front (n + k)))
-    (unknown_later r starting front n k (omega (arith, within)) none)
+    grind (
+      arith,
+      state_then-next r starting front (n + k) (omega (arith, within)),
+      unknown_later r
+          starting front n k (omega (arith, within)) none,
+    )
 
 pub unknown_past : (r : Rules) (starting : List StartWord) (front : List Entry) (n m : ℕ)
     → n ≤ m → m ≤ length front → state_then r starting front n ≡ None
     → state_then r starting front m ≡ None
 unknown_past r starting front n m low within none =
-    let same : n + (m - n) ≡ m = omega (arith, low) in
-    ap (state_then r starting front) (sym same)
-    ∙ unknown_later r starting front n (m - n) (omega (arith, low, within)) none
+    grind (arith, unknown_later r starting front n (m - n) (omega (arith, low, within)) none)

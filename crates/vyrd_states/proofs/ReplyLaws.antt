@@ -1,13 +1,13 @@
 -- The replies that a state allows, one more.
 use Rattle.std.proofs.Common.{◌≡◌, ℕ, ◌+◌, Bool, true, false, cond, List, [], ◌∷◌, ◌++◌, map}
 use Rattle.std.proofs.Common.{Option, Some, None, refl, ap, ◌∙◌, sym, append-nil}
-use Rattle.std.proofs.Common.{append_assoc, take, slice_get}
-use Rattle.std.specs.Prelude.{is_some, filter, option_and_then}
+use Rattle.std.proofs.Common.{append_assoc, slice_get}
+use Rattle.std.specs.Prelude.{is_some, filter}
 use Rattle.std.specs.Option.{option_map_or}
 use Rattle.vyrd_base.specs.declared.log.Entry.{Entry}
 use Rattle.vyrd_base.specs.declared.log.StartWord.{StartWord}
-use Rattle.vyrd_base.specs.Callers.{Called, open_call}
-use Rattle.vyrd_base.specs.Places.{newest_first, numbers_below}
+use Rattle.vyrd_base.specs.Callers.{Called}
+use Rattle.vyrd_base.specs.Places.{numbers_below}
 use Rattle.vyrd_base.specs.Rules.{Rules}
 use Rattle.vyrd_base.specs.States.{State}
 use Rattle.vyrd_base.proofs.PlaceLaws.{numbers_below-push}
@@ -48,8 +48,7 @@ filter_push p (y ∷ xs) x = by_test (p y) (filter_push p xs x)
 one_more : (r : Rules) (called : Called) (s : State) (n : ℕ)
     → allowed_below r called (Some s) (n + 1) ≡ allowed_below r called (Some s) n
     ++ cond (is_some (r.next called.method called.args n s)) (Allowed n ∷ []) []
-one_more r called s n =
-    ap (λ xs. map Allowed (filter p xs)) (numbers_below-push n) ∙ filter_push p (numbers_below n) n
+one_more r called s n = cc (numbers_below-push n, filter_push p (numbers_below n) n)
   where
     p : ℕ → Bool
     p reply = is_some (r.next called.method called.args reply s)
@@ -61,13 +60,7 @@ pub reply_allowed : (r : Rules) (called : Called) (o : Option State) (s : State)
     → before ≡ first ++ allowed_below r called o n → after ≡ before ++ Allowed n ∷ []
     → after ≡ first ++ allowed_below r called o (n + 1)
 reply_allowed r called o s n first before after b known is allowed so next =
-    next ∙ ap (λ xs. xs ++ Allowed n ∷ []) so ∙ append_assoc first (allowed_below r called o n)
-    (Allowed n ∷ [])
-    ∙ ap (λ q. first ++ (allowed_below r called q n ++ Allowed n ∷ [])) known
-    ∙ ap (λ t. first ++ (allowed_below r called (Some s) n ++ cond t (Allowed n ∷ []) []))
-    (sym allowed ∙ is)
-    ∙ ap (λ xs. first ++ xs) (sym (one_more r called s n))
-    ∙ ap (λ q. first ++ allowed_below r called q (n + 1)) (sym known)
+    cc (append_assoc first (allowed_below r called o n) (Allowed n ∷ []), one_more r called s n)
 
 pub reply_refused : (r : Rules) (called : Called) (o : Option State) (s : State) (n : ℕ)
     (first before : List Item) (b : Bool) → o ≡ Some s
@@ -75,26 +68,17 @@ pub reply_refused : (r : Rules) (called : Called) (o : Option State) (s : State)
     → before ≡ first ++ allowed_below r called o n
     → before ≡ first ++ allowed_below r called o (n + 1)
 reply_refused r called o s n first before b known is refused so =
-    so ∙ ap (λ q. first ++ allowed_below r called q n) known
-    ∙ ap (λ xs. first ++ xs) (sym (append-nil (allowed_below r called (Some s) n)))
-    ∙ ap (λ t. first ++ (allowed_below r called (Some s) n ++ cond t (Allowed n ∷ []) []))
-    (sym refused ∙ is)
-    ∙ ap (λ xs. first ++ xs) (sym (one_more r called s n))
-    ∙ ap (λ q. first ++ allowed_below r called q (n + 1)) (sym known)
+    cc (append-nil (allowed_below r called (Some s) n), one_more r called s n)
 
 -- what the entry's caller has called, and what is said of it
 pub called_there : (front : List Entry) (at : ℕ) (e : Entry) (x : Execution)
     → slice_get front at ≡ Some e → execution_in front at e.caller ≡ Some x
     → called_at front at ≡ Some (called_by x)
-called_there front at e x here is =
-    ap (option_and_then (λ d. open_call d.caller (newest_first (take at front)))) here
-    ∙ (execution_is front at e.caller x is).0
+called_there front at e x here is = cc ((execution_is front at e.caller x is).0)
 
 pub called_nothing : (front : List Entry) (at : ℕ) (e : Entry) → slice_get front at ≡ Some e
     → execution_in front at e.caller ≡ None → called_at front at ≡ None
-called_nothing front at e here is =
-    ap (option_and_then (λ d. open_call d.caller (newest_first (take at front)))) here
-    ∙ no_execution front at e.caller is
+called_nothing front at e here is = cc (no_execution front at e.caller is)
 
 pub replies_to : (r : Rules) (starting : List StartWord) (front : List Entry) (at : ℕ) (e : Entry)
     (x : Execution) → slice_get front at ≡ Some e → execution_in front at e.caller ≡ Some x

@@ -14,11 +14,8 @@ use Rattle.vyrd_states.proofs.KnownLaws.{state_then-first, state_then-next, unkn
 pub known_first : (c : Charter) (starting : List StartWord) (front : List Entry) (run : Run)
     → Some run.state ≡ state_at_start (rules_by c) starting → run.charter ≡ c → run.made ≡ 0
     → IsKnown c starting front 0 (Some run)
-known_first c starting front run begins charter made = record {
-  state_is = begins ∙ sym (state_then-first (rules_by c) starting front);
-  charter = charter;
-  made = omega (arith, made);
-}
+known_first c starting front run begins charter made =
+    grind (arith, starting, begins, made, state_then-first)
 
 -- one entry more
 pub known_next : (c : Charter) (starting : List StartWord) (front : List Entry) (at : ℕ)
@@ -40,24 +37,17 @@ pub none_next : (c : Charter) (starting : List StartWord) (front : List Entry) (
     → LeadsTo run (state_past (rules_by run.charter) front at run.state) None
     → state_then (rules_by c) starting front (at + 1) ≡ None
 none_next c starting front at run within is leads =
-    state_then-next (rules_by c) starting front at within
-    ∙ ap (option_and_then (state_past (rules_by c) front at)) (sym is.state_is)
-    ∙ ap (λ d. state_past (rules_by d) front at run.state) (sym is.charter)
-    ∙ sym leads.state_is
+    grind (arith, starting, within, leads, state_then-next)
 
 pub known_none : (c : Charter) (starting : List StartWord) (front : List Entry) (at n : ℕ)
     → at ≤ n → n ≤ length front → state_then (rules_by c) starting front at ≡ None
     → IsKnown c starting front n None
-known_none c starting front at n low within none = record {
-  state_is = sym (unknown_past (rules_by c) starting front at n low within none);
-  charter = tt;
-  made = tt;
-}
+known_none c starting front at n low within none =
+    grind (arith, unknown_past (rules_by c) starting front at n low within none)
 
 -- nothing that begins, and no state anywhere
 pub never_known : (c : Charter) (starting : List StartWord) (front : List Entry) (n : ℕ)
     → n ≤ length front → None ≡ state_at_start (rules_by c) starting
     → IsKnown c starting front n None
 never_known c starting front n within begins =
-    known_none c starting front 0 n (omega arith) within
-    (state_then-first (rules_by c) starting front ∙ sym begins)
+    grind (arith, starting, within, begins, known_none, state_then-first)

@@ -1,20 +1,19 @@
 -- The words at the start are small, so that a specification can start from them.
 use Rattle.std.proofs.Common.{◌≡◌, ℕ, zero, suc, ◌+◌, ◌<◌, ◌^◌, Bool, true, false, not, cond, ◌||◌}
 use Rattle.std.proofs.Common.{List, [], ◌∷◌, ◌++◌, map, Option, Some, None, ap, arith}
-use Rattle.std.specs.Prelude.{◌==◌, nat_le, All, unwrap_or, option_map, replicate}
+use Rattle.std.specs.Prelude.{◌==◌, All, unwrap_or, option_map, replicate}
 use Rattle.std.specs.Option.{option_or}
-use Rattle.std.proofs.lemmas.Bool.{not-true}
 use Rattle.std.proofs.lemmas.List.Elements.{All-nil, All-cons}
 use Rattle.vyrd_base.specs.declared.header.Header.{Header}
 use Rattle.vyrd_base.specs.declared.log.StartWord.{StartWord}
-use Rattle.vyrd_base.specs.Layout.{plain_words, lock_words}
+use Rattle.vyrd_base.specs.Layout.{lock_words}
 use Rattle.vyrd_base.specs.Places.{numbers_from, first_answer}
 use Rattle.vyrd_base.specs.Rules.{rules_of}
 use Rattle.vyrd_base.specs.Starts.{is_out_of_range, is_out_of_order, do_follow, may_start}
 use Rattle.vyrd_base.specs.Starts.{words_at_start, state_at_start}
 use Rattle.vyrd_base.specs.States.{showing}
 use Rattle.vyrd_base.specs.Represented.{state_of_words}
-use Rattle.vyrd_base.specs.Words.{given_to, value_at_start, value_after}
+use Rattle.vyrd_base.specs.Words.{given_to, value_at_start}
 use Rattle.vyrd_base.proofs.TestLaws.{above_of, first_true, second_true, neither_true}
 
 value_small : (h : Header) (last : Option StartWord) (starting : List StartWord) (w : ℕ)
@@ -27,24 +26,19 @@ value_small h last (s ∷ starting) w e =
     keeps = not (is_out_of_range h s || is_out_of_order last s)
 
     in_range : is_out_of_range h s ≡ false
-    in_range = (neither_true (is_out_of_range h s) (is_out_of_order last s)
-        (not-true _ (first_true keeps (do_follow h (Some s) starting) e))).0
+    in_range = search (neither_true, first_true, starting, arith)
 
     value : s.value < 2 ^ 63
-    value = above_of (2 ^ 63) s.value (neither_true (nat_le (plain_words h) s.word || s.value == 0)
-        (nat_le (2 ^ 63) s.value) in_range).1
+    value = search (above_of, neither_true, in_range, arith)
 
     by_word : (b : Bool) → value_at_start starting w < 2 ^ 63
         → unwrap_or (option_or (cond b (Some s.value) None)
         (first_answer (λ t. given_to w (t.word, t.value)) starting)) 0 < 2 ^ 63
-    by_word true rest = value
-    by_word false rest = rest
+    by_word b rest = search arith
 
 start_small : (h : Header) (starting : List StartWord) (w : ℕ) → may_start h starting ≡ true
     → value_at_start starting w < 2 ^ 63
-start_small h [] w may = omega arith
-start_small h (s ∷ starting) w may =
-    value_small h None (s ∷ starting) w (second_true (h.version == 2) _ may)
+start_small h starting w may = grind (arith, starting, value_small, second_true)
 
 all_small : (f : ℕ → ℕ) (k n : ℕ) → ((w : ℕ) → f w < 2 ^ 63)
     → All (λ value. value < 2 ^ 63) (map f (numbers_from k n))
@@ -55,8 +49,7 @@ all_small f k (suc n) small =
 
 pub words_small : (h : Header) (starting : List StartWord) → may_start h starting ≡ true
     → All (λ value. value < 2 ^ 63) (words_at_start h starting)
-words_small h starting may =
-    all_small (value_after starting []) 0 (plain_words h) (λ w. start_small h starting w may)
+words_small h starting may = search (all_small, starting, start_small, arith)
 
 -- the state at the start of a structure that is built in
 pub begins_so : (h : Header) (starting : List StartWord) (words : List ℕ)

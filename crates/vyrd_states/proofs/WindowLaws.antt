@@ -1,7 +1,7 @@
 -- The answers to a call, one entry more.
-use Rattle.std.proofs.Common.{◌≡◌, ℕ, zero, suc, ◌+◌, ◌-◌, ◌<◌, ◌≤◌, Bool, true, false, cond, List}
+use Rattle.std.proofs.Common.{◌≡◌, ℕ, zero, suc, ◌+◌, ◌-◌, ◌<◌, ◌≤◌, Bool, cond, List}
 use Rattle.std.proofs.Common.{[], ◌∷◌, ◌++◌, length, take, Option, Some, None, refl, ap}
-use Rattle.std.proofs.Common.{subst, ◌∙◌, sym, arith, append-nil, append_assoc}
+use Rattle.std.proofs.Common.{◌∙◌, sym, arith, append-nil, append_assoc}
 use Rattle.std.specs.Prelude.{◌==◌, ◌&&◌, option_map}
 use Rattle.std.proofs.lemmas.List.{length-take}
 use Rattle.vyrd_base.specs.declared.log.Entry.{Entry}
@@ -51,9 +51,7 @@ pub answer_known : (r : Rules) (starting : List StartWord) (front : List Entry) 
     (position reply : ℕ) (s : State) → Some s ≡ state_then r starting front (position + 1)
     → reply ≡ r.answer s called.method called.args
     → answer_after r starting front called position ≡ Some reply
-answer_known r starting front called position reply s known is =
-    ap (option_map (λ state. r.answer state called.method called.args)) (sym known)
-    ∙ ap Some (sym is)
+answer_known r starting front called position reply s known is = grind (arith, starting)
 
 -- once the state isn't known, nothing is answered
 pub answers_end : (r : Rules) (starting : List StartWord) (front : List Entry) (called : Called)
@@ -85,18 +83,11 @@ before_call c (e ∷ earlier) =
   where
     by_call : (b : Bool) → length (entries_before_call c earlier) ≤ length earlier
         → length (cond b earlier (entries_before_call c earlier)) ≤ length (e ∷ earlier)
-    by_call true rest = omega arith
-    by_call false rest = omega (arith, rest)
+    by_call b rest = search arith
 
 called_before : (front : List Entry) (at c : ℕ)
     → length (entries_before_call c (newest_first (take at front))) ≤ at
-called_before front at c =
-    omega (
-      arith,
-      before_call c (newest_first (take at front)),
-      length-newest_first (take at front),
-      length-take at front,
-    )
+called_before front at c = grind (arith, before_call, length-newest_first, length-take)
 
 -- where an execution was called
 pub call_is : (front : List Entry) (at : ℕ) (e : Entry) (x : Execution)
@@ -105,5 +96,4 @@ call_is front at e x is = ap (λ y. y.called_at) (execution_is front at e.caller
 
 pub call_low : (front : List Entry) (at : ℕ) (e : Entry) (x : Execution)
     → execution_in front at e.caller ≡ Some x → x.called_at ≤ at
-call_low front at e x is =
-    subst (λ n. n ≤ at) (sym (call_is front at e x is)) (called_before front at e.caller)
+call_low front at e x is = grind (arith, call_is front at e x is, called_before front at e.caller)

@@ -1,7 +1,6 @@
 -- What growing costs, and what a table has saved by then.
-use Rattle.std.proofs.Common.{◌≡◌, ℕ, zero, suc, Bool, true, false, cond, ◌+◌, ◌-◌, ◌*◌, ◌/◌, ◌^◌}
-use Rattle.std.proofs.Common.{◌<◌, ◌≤◌, min, refl, ap, ◌∙◌, sym, subst, arith}
-use Rattle.std.specs.Prelude.{nat_lt}
+use Rattle.std.proofs.Common.{◌≡◌, ℕ, zero, suc, Bool, ◌+◌, ◌-◌, ◌*◌, ◌/◌, ◌^◌}
+use Rattle.std.proofs.Common.{◌<◌, ◌≤◌, min, ap, ◌∙◌, arith}
 use Rattle.std.proofs.Math.Pow.{pow_mono}
 use Rattle.vyrd_base.proofs.TestLaws.{below_of}
 use Rattle.vyrd_table.specs.Prices.{moving_price, growing_share, first_room}
@@ -20,29 +19,12 @@ pub next_power : (b : ℕ) → 2 ^ (b + 1) ≡ 2 * 2 ^ b
 next_power b = ap (λ n. 2 ^ n) (let e : b + 1 ≡ suc b = omega arith in e) ∙ doubled b
 
 pub power_after : (b : ℕ) → 2 ^ (b + 2) ≡ 4 * 2 ^ b
-power_after b = ap (λ n. 2 ^ n) (let e : b + 2 ≡ suc (b + 1) = omega arith in e) ∙ doubled (b + 1)
-    ∙ (let n = next_power b in let e : 2 * 2 ^ (b + 1) ≡ 4 * 2 ^ b = omega (arith, n) in e)
+power_after b = grind (arith, doubled (b + 1), next_power b)
 
 -- no key, or few, in places that have room for a quarter
 pub first_has_room : (bits most keys : ℕ) → 3 ≤ bits → most ≤ 20 → keys ≤ 2 ^ bits / 4
     → HasRoom bits keys most (first_room bits most)
-first_has_room bits most keys least limit few = by_test (nat_lt bits most) refl
-  where
-    by_test : (b : Bool) → nat_lt bits most ≡ b → HasRoom bits keys most (cond b (2 ^ bits / 4) 0)
-    by_test true e = record {
-      half = λ some. omega (arith, few, quarter_is bits (omega (arith, least)));
-      quarter = λ some. omega arith;
-      larger = λ some. below_of bits most e;
-      least = least;
-      limit = limit;
-    }
-    by_test false e = record {
-      half = λ some. absurd (omega (arith, some));
-      quarter = λ some. absurd (omega (arith, some));
-      larger = λ some. absurd (omega (arith, some));
-      least = least;
-      limit = limit;
-    }
+first_has_room bits most keys least limit few = grind (arith, least, few, quarter_is, below_of)
 
 module _ (b most keys : ℕ) (half : keys ≤ 2 ^ b / 2) (least : 3 ≤ b) (larger : b < most)
     (limit : most ≤ 20) where
@@ -77,13 +59,8 @@ module _ (b most keys : ℕ) (half : keys ≤ 2 ^ b / 2) (least : 3 ≤ b) (larg
 -- with fewer names there is as much room
 pub fewer_names : (bits names fewer most room : ℕ) → fewer ≤ names → HasRoom bits names most room
     → HasRoom bits fewer most room
-fewer_names bits names fewer most room less has = record {
-  half = λ some. omega (arith, less, has.half some);
-  quarter = has.quarter;
-  larger = has.larger;
-  least = has.least;
-  limit = has.limit;
-}
+fewer_names bits names fewer most room less has =
+    grind (arith, has.quarter, has.larger, has.least, has.limit)
 
 -- places that keep their number and have no more names make a table again
 pub table_kept : {V : Type 0} (nothing : V) (is_nothing : V → Bool) (old new : Places V)
@@ -91,9 +68,5 @@ pub table_kept : {V : Type 0} (nothing : V) (is_nothing : V → Bool) (old new :
     → IsTable nothing is_nothing old room most → ArePlaced nothing is_nothing new → new.shift
     ≡ old.shift → names_of new ≤ names_of old
     → IsTable nothing is_nothing new room most
-table_kept nothing is_nothing old new room most table placed same less = record {
-  placed = placed;
-  shifted = omega (arith, same, table.shifted);
-  growing = subst (λ s. HasRoom (64 - s) (names_of new) most room) (sym same)
-      (fewer_names (64 - old.shift) (names_of old) (names_of new) most room less table.growing);
-}
+table_kept nothing is_nothing old new room most table placed same less =
+    search (placed, room, fewer_names, arith)

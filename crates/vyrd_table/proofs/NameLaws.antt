@@ -163,8 +163,4 @@ module _ {V : Type 0} where
 
 -- a key has one name at most
 pub one_at_most : (key : ℕ) → one_name key ≤ 1
-one_at_most key = by_test (key == 0)
-  where
-    by_test : (b : Bool) → cond {A = ℕ} b 0 1 ≤ 1
-    by_test true = omega arith
-    by_test false = omega arith
+one_at_most key = grind arith

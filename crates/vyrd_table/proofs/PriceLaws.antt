@@ -55,17 +55,13 @@ digits_next n = by_test (nat_le (2 ^ digits n) (suc n))
     by_test false = omega arith
 
 pub digits_mono : (a b : ℕ) → a ≤ b → digits a ≤ digits b
-digits_mono a zero le = let e : a ≡ 0 = omega (arith, le) in let is : digits a ≡ digits 0 =
-    ap digits e in omega (arith, is)
+digits_mono a zero le = grind arith
 digits_mono a (suc b) le = by_test (nat_le a b) refl (digits_mono a b)
   where
     by_test : (t : Bool) → nat_le a b ≡ t → (a ≤ b → digits a ≤ digits b) → digits a
         ≤ digits (suc b)
     by_test true e lower = omega (arith, lower (grind (arith, nat_tests)), digits_next b)
-    by_test false e lower =
-        let high : b < a = grind (arith, nat_tests) in
-        let is : digits a ≡ digits (suc b) =
-        ap digits (let same : a ≡ suc b = omega (arith, le, high) in same) in omega (arith, is)
+    by_test false e lower = grind arith
 
 pub question_mono : (a b : ℕ) → a ≤ b → question a ≤ question b
 question_mono a b le = omega (arith, digits_mono a b le)

@@ -1,6 +1,6 @@
 -- How many starting words may come in further bytes.
-use Rattle.std.proofs.Common.{◌≡◌, ℕ, ◌+◌, ◌≤◌, Bool, true, false, cond, List, [], ◌∷◌, ◌++◌}
-use Rattle.std.proofs.Common.{Option, Some, None, refl, ap, sym, ◌∙◌, arith}
+use Rattle.std.proofs.Common.{◌≡◌, ℕ, ◌+◌, ◌≤◌, Bool, true, cond, List, [], ◌∷◌, ◌++◌}
+use Rattle.std.proofs.Common.{Option, Some, None, refl, ap, ◌∙◌, arith}
 use Rattle.std.specs.Prelude.{◌==◌}
 use Rattle.std.specs.List.{slice_split, onto_first}
 use Rattle.std.proofs.lemmas.Bool.{not-true}
@@ -21,25 +21,19 @@ parts_of xs = by_parts (slice_split (λ b. b == 10) xs) refl (split_longer (λ b
   where
     by_parts : (ps : List (List ℕ)) → slice_split (λ b. b == 10) xs ≡ ps → Longer ([] ∷ []) ps
         → (next : List ℕ) × (lines : List (List ℕ)) × (slice_split (λ b. b == 10) xs ≡ next ∷ lines)
-    by_parts [] e h = absurd h
-    by_parts (p ∷ ps) e h = (p, ps, e)
+    by_parts ps e h = search arith
 
 -- one line more, which counts where it begins as a starting line
 pub front_step : (line more : List ℕ) → lacks 10 line ≡ true
     → front_starts (cut (line ++ 10 ∷ more)) ≡ cond (begins_start line)
     (1 + front_starts (cut more)) 0
-front_step line more lack =
-    let p = parts_of more in
-    ap front_starts (split_at 10 line more lack ∙ ap (λ ps. line ∷ ps) p.2)
-    ∙ ap (λ ps. cond (begins_start line) (1 + front_starts ps) 0) (sym p.2)
+front_step line more lack = cc (split_at 10 line more lack, (parts_of more).2)
 
 -- a starting line begins with its first letter, and so it counts
 pub one_start_more : (line more : List ℕ) (s : StartWord) → lacks 10 line ≡ true → start_in line
     ≡ Some s
     → front_starts (cut (line ++ 10 ∷ more)) ≡ 1 + front_starts (cut more)
-one_start_more line more s lack is =
-    front_step line more lack ∙ ap (λ b. cond b (1 + front_starts (cut more)) 0)
-    (ap begins_start (start_in_sound line s is).0)
+one_start_more line more s lack is = cc (front_step line more lack, (start_in_sound line s is).0)
 
 -- an unfinished line doesn't count
 pub front_last : (text : List ℕ) → lacks 10 text ≡ true → front_starts (cut text) ≡ 0
@@ -68,43 +62,22 @@ after_same (x ∷ xs) text lack =
 
 -- the first line counts for one at most
 front_cap : (lines : List (List ℕ)) → front_starts lines ≤ 1 + front_starts (after_first lines)
-front_cap [] = omega arith
-front_cap (rest ∷ []) = omega arith
-front_cap (line ∷ next ∷ lines) = by_test (begins_start line)
-  where
-    by_test : (b : Bool) → cond b (1 + front_starts (next ∷ lines)) 0 ≤ 1 + front_starts
-        (next ∷ lines)
-    by_test true = omega arith
-    by_test false = omega arith
+front_cap lines = grind arith
 
 pub ahead_first : (fault : Option TextFault) (o : Option Header) (starting : Bool)
     (xs text : List ℕ) → o ≡ None → lacks 10 xs ≡ true
     → starts_in_lines fault o starting (cut (xs ++ text)) ≤ front_starts (after_first (cut text))
-ahead_first (Some f) o starting xs text e lack = omega arith
-ahead_first None None starting xs text e lack =
-    let same = ap front_starts (after_same xs text lack) in
-    omega (arith, same)
-ahead_first None (Some h) starting xs text e lack = cc
+ahead_first fault o starting xs text e lack = grind (arith, starting, after_same)
 
 -- how many may come in lines, where some may come
 ahead_some : (fault : Option TextFault) (o : Option Header) (h : Header) (starting : Bool)
     (lines : List (List ℕ)) → o ≡ Some h
     → starts_in_lines fault o starting lines ≤ front_starts lines
-ahead_some (Some f) o h starting lines e = omega arith
-ahead_some None None h starting lines e = cc
-ahead_some None (Some x) h true lines e = omega arith
-ahead_some None (Some x) h false lines e = omega arith
+ahead_some fault o h starting lines e = grind (arith, starting)
 
 pub ahead_begun : (fault : Option TextFault) (o : Option Header) (h : Header) (starting : Bool)
     (xs text : List ℕ) → o ≡ Some h → lacks 10 xs ≡ true
     → starts_in_lines fault o starting (cut (xs ++ text)) ≤ 1 + front_starts
     (after_first (cut text))
 ahead_begun fault o h starting xs text e lack =
-    let same = ap front_starts (after_same xs text lack) in
-    omega (
-      arith,
-      ahead_some fault o h starting (cut (xs ++ text)) e,
-      front_cap
-          (cut (xs ++ text)),
-      same,
-    )
+    grind (arith, starting, after_same, ahead_some, front_cap)

@@ -1,17 +1,16 @@
 -- What a reader makes of entries that lie whole in a piece.
 use Rattle.std.proofs.Common.{◌≡◌, ℕ, suc, ◌+◌, ◌≤◌, true, false, cond, List, [], ◌∷◌, ◌++◌, length}
-use Rattle.std.proofs.Common.{Option, Some, None, refl, ap, sym, ◌∙◌, arith, subst, append_assoc}
+use Rattle.std.proofs.Common.{Option, Some, None, refl, ap, ◌∙◌, arith, subst, append_assoc}
 use Rattle.std.specs.Prelude.{is_some, option_map}
 use Rattle.std.specs.List.{list_all}
 use Rattle.std.proofs.lemmas.List.{append-nil}
 use Rattle.vyrd_base.specs.declared.header.Header.{Header}
 use Rattle.vyrd_base.specs.declared.log.Entry.{Entry}
 use Rattle.vyrd_base.specs.declared.log.StartWord.{StartWord}
-use Rattle.vyrd_base.specs.Lines.{start_in}
 use Rattle.vyrd_base.specs.Spelling.{entry_line, is_entry_of}
 use Rattle.vyrd_base.proofs.LineLaws.{entry_line_whole, entry_line_isnt_end, entry_in-entry_line}
 use Rattle.vyrd_base.proofs.TestLaws.{isnt_below, first_true, second_true}
-use Rattle.vyrd_text.specs.Readers.{LineState, Follows}
+use Rattle.vyrd_text.specs.Readers.{LineState}
 use Rattle.vyrd_text.specs.Steps.{IsTaken, IsFed, IsFedFront}
 use Rattle.vyrd_text.specs.Quick.{entries_text, AreEntriesAtFront}
 use Rattle.vyrd_text.proofs.ReaderLaws.{taken_then, line_at_once}
@@ -21,10 +20,9 @@ use Rattle.vyrd_text.proofs.LineSteps.{entry_read}
 pub nothing_taken : (r : LineState) → IsTaken r [] [] [] r
 nothing_taken r = record {
   max_lines = refl;
-  follows = λ ss es before f. subst (λ xs. Follows r xs (es ++ []) (before ++ []))
-      (sym (append-nil ss))
-      (subst (λ xs. Follows r ss xs (before ++ [])) (sym (append-nil es))
-      (subst (λ xs. Follows r ss es xs) (sym (append-nil before)) f));
+  follows = λ ss es before f. rw (append-nil ss)
+      (rw (append-nil es)
+      (rw (append-nil before) f));
   noticed = λ n. n;
   room = λ after. omega arith;
 }
@@ -32,13 +30,7 @@ nothing_taken r = record {
 -- nothing of a piece was taken in
 pub nothing_fed : (r : LineState) (piece : List ℕ) (entries : List Entry)
     → IsFedFront r piece entries entries r piece
-nothing_fed r piece entries = record {
-  read = [];
-  parted = refl;
-  found = [];
-  grown = sym (append-nil entries);
-  taken = nothing_taken r;
-}
+nothing_fed r piece entries = grind (arith, append-nil entries, nothing_taken r)
 
 -- entries that fit are taken in one by one
 entries_taken : (h : Header) (es : List Entry) (r : LineState) → r.header ≡ Some h → r.fault ≡ None
@@ -47,10 +39,7 @@ entries_taken : (h : Header) (es : List Entry) (r : LineState) → r.header ≡ 
     → list_all (is_entry_of h.subject) es ≡ true
     → IsTaken r (entries_text es) [] es
     (record r { line = r.line + length es; starting = false; unfinished = [] })
-entries_taken h [] r has fine plain not_ended empty low fits all =
-    let same : r.line ≡ r.line + 0 = omega arith in
-    subst (IsTaken r [] [] [])
-    (λ i. record r { line = same i; starting = plain i; unfinished = empty i }) (nothing_taken r)
+entries_taken h [] r has fine plain not_ended empty low fits all = grind (arith, nothing_taken r)
 entries_taken h (e ∷ es) r has fine plain not_ended empty low fits all =
     let is = first_true _ _ all in
     let line = entry_line e in
@@ -60,16 +49,15 @@ entries_taken h (e ∷ es) r has fine plain not_ended empty low fits all =
     (e ∷ []) empty
     (entry_read r line (entry_line_whole h.subject e is) fine low h has
     (isnt_below r.max_lines r.line (omega arith)) not_ended
-    (ap (λ b. cond b (start_in line) None) plain) (entry_line_isnt_end e) e
+    (cc) (entry_line_isnt_end e) e
     (entry_in-entry_line h.subject e is)) in
     let more = entries_taken h es next has fine refl not_ended refl low (omega arith)
     (second_true (is_entry_of h.subject e) _ all) in
     let both = taken_then r next (last (r.line + 1 + length es)) (line ++ 10 ∷ []) (entries_text es)
     [] [] (e ∷ []) es one more in
     let same : r.line + 1 + length es ≡ r.line + suc (length es) = omega arith in
-    subst (λ xs. IsTaken r xs [] (e ∷ es) (last (r.line + suc (length es))))
-    (append_assoc line (10 ∷ []) (entries_text es))
-    (subst (λ n. IsTaken r ((line ++ 10 ∷ []) ++ entries_text es) [] (e ∷ es) (last n)) same both)
+    rw (← append_assoc line (10 ∷ []) (entries_text es))
+    (rw (← same) both)
 
 -- entries at the front of a piece were taken in
 pub entries_fed : (h : Header) (r : LineState) (piece rest : List ℕ) (before after : List Entry)
@@ -78,20 +66,16 @@ pub entries_fed : (h : Header) (r : LineState) (piece rest : List ℕ) (before a
     ≤ r.max_lines + 1
     → AreEntriesAtFront h.subject piece before after rest count
     → IsFedFront r piece before after (record r { line = r.line + count }) rest
-entries_fed h r piece rest before after count has fine plain not_ended empty low fits are = record {
-  read = entries_text are.found;
-  parted = are.spelled;
-  found = are.found;
-  grown = are.grown;
-  taken = subst (IsTaken r (entries_text are.found) [] are.found)
-      (λ i. record r {
-        line = r.line + are.counted i;
-        starting = sym plain i;
-        unfinished = sym empty i;
-      })
-      (entries_taken h are.found r has fine plain not_ended empty low (omega (arith, are.counted))
-      are.of_subject);
-}
+entries_fed h r piece rest before after count has fine plain not_ended empty low fits are =
+    grind (
+      arith,
+      entries_text are.found,
+      are.spelled,
+      are.found,
+      are.grown,
+      entries_taken h
+          are.found r has fine plain not_ended empty low (omega (arith, are.counted)) are.of_subject,
+    )
 
 -- entries at the front of what was left of a piece were taken in
 pub fed_on : (a b c : LineState) (xs piece rest : List ℕ) (start start_new : List StartWord)

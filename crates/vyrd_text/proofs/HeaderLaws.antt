@@ -13,7 +13,7 @@ use Rattle.vyrd_base.specs.declared.verdict.Rule.TheVariants.{BadHeader, Unknown
 use Rattle.vyrd_base.specs.Limits.{is_sized}
 use Rattle.vyrd_base.specs.Subjects.{is_built_in, limits_of}
 use Rattle.vyrd_base.specs.Spelling.{header_line, subject_name}
-use Rattle.vyrd_base.specs.Lines.{fields_of, number_of, subject_called, header_if, header_of}
+use Rattle.vyrd_base.specs.Lines.{fields_of, number_of, header_if, header_of}
 use Rattle.vyrd_base.specs.Lines.{header_spelled, header_from, header_in}
 use Rattle.vyrd_base.proofs.HeaderLaws.{small_size, small_callers}
 use Rattle.vyrd_base.proofs.SplitLaws.{split-join, number_of_decimal, bytes_same}
@@ -29,9 +29,7 @@ use Rattle.vyrd_text.proofs.PartLaws.{one_before_space}
 pub no_callers : (text : List ℕ) (m : ℕ) (r : List ℕ) → m < 2 ^ 64 → text ≡ decimal m ++ 32 ∷ r
     → ((n : ℕ) → n < 2 ^ 32 → r ≡ decimal n → ⊥) → AreLimitsRead text None
 no_callers text m r low e none size callers sized f =
-    let is = one_before_space m size r (decimal callers) low
-    (let h = small_size size callers sized in omega (arith, h)) (sym e ∙ f) in
-    none callers (small_callers size callers sized) is.1
+    search (one_before_space, small_size, sized, small_callers, arith)
 
 -- numbers that aren't within the limits
 pub not_sized : (text : List ℕ) (m n : ℕ) (r : List ℕ) → m < 2 ^ 64 → n < 2 ^ 64 → text ≡ decimal m
@@ -143,8 +141,7 @@ from_none line (a ∷ []) none = refl
 from_none line (a ∷ b ∷ []) none = refl
 from_none line (a ∷ b ∷ c ∷ []) none = refl
 from_none line (a ∷ b ∷ c ∷ d ∷ []) none = refl
-from_none line (a ∷ b ∷ c ∷ d ∷ e ∷ more) none = spelled_none line (number_of b) (subject_called c)
-    (number_of d) (number_of e) (called_built_in c) none
+from_none line (a ∷ b ∷ c ∷ d ∷ e ∷ more) none = search (spelled_none, called_built_in, arith)
 
 pub header_unknown : (line : List ℕ) → AreNumbersRead line None → Err BadHeader ≡ header_in line
 unfolding header_in
@@ -168,8 +165,7 @@ pub made : (version : ℕ) (subject : Subject) (size callers : ℕ) (h : Header)
     → h.size ≡ size → h.callers ≡ callers
     → header_of version subject size callers ≡ Some h
 made version subject size callers h v s n c =
-    (λ i. header_of (sym v i) (sym s i) (sym n i) (sym c i))
-    ∙ sym (made_if h (limits_of h.subject h.version h.size h.callers) refl h.within)
+    cc (made_if h (limits_of h.subject h.version h.size h.callers) refl h.within)
 
 not_made_if : (version : ℕ) (subject : Subject) (size callers : ℕ) (b : Bool)
     (e : limits_of subject version size callers ≡ b)
@@ -181,5 +177,4 @@ not_made_if version subject size callers false e no_header = refl
 pub not_made : (version : ℕ) (subject : Subject) (size callers : ℕ)
     → ¬ (limits_of subject version size callers ≡ true)
     → header_of version subject size callers ≡ None
-not_made version subject size callers no_header = not_made_if version subject size callers
-    (limits_of subject version size callers) refl no_header
+not_made version subject size callers no_header = search (not_made_if, no_header, arith)

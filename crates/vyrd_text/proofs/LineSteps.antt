@@ -116,15 +116,7 @@ header_step : (input : Input) (line more : List ℕ) → lacks 10 line ≡ true
           (body_read input h (cut more))
       | Err rule ↦ stopped 1 (Some rule)
     ]
-header_step input line more lack =
-    let p = parts_of more in
-    ap (text_read input) (split_at 10 line more lack ∙ ap (λ ps. line ∷ ps) p.2)
-    ∙ ap (λ ps. elim (header_in line) as
-    (λ _. Reading) [
-      | Ok h ↦ header_before h (body_read input h ps)
-      | Err rule ↦ stopped 1
-          (Some rule)
-    ]) (sym p.2)
+header_step input line more lack = grind (arith, split_at 10 line more lack, (parts_of more).2)
 
 -- nothing stands after a line feed yet
 nothing_more : (max : ℕ) (h : Header) (starting : Bool) (last : Option StartWord) (n : ℕ)

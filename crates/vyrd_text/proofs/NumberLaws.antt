@@ -9,7 +9,6 @@ use Rattle.std.proofs.lemmas.List.{take_at, take-append-le, get_or_append_left, 
 use Rattle.std.proofs.lemmas.List.{length-take-le}
 use Rattle.std.proofs.lemmas.Bool.Decides.{nat_tests}
 use Rattle.std.proofs.lemmas.Str.Parse.{numerals_by_value, tells_digits, digits_value-take-le}
-use Rattle.std.proofs.lemmas.Str.Parse.{digit_from_value}
 use Rattle.std.proofs.lemmas.Int.Digits.{digits_more, digits_value_more}
 use Rattle.std.proofs.lemmas.Fmt.{decimal_is_IsNumeral, decimal-digits_value, decimal_injective}
 use Rattle.std.proofs.lemmas.Fmt.{decimal_nonempty, decimal_digit, first_decimal}
@@ -49,9 +48,7 @@ field_end : (k : ℕ) (ds : List ℕ) (rest : Option (List ℕ)) → AllDigits 1
     → (k < length (ds ++ after_field rest) → get_or (ds ++ after_field rest) k 0 ≡ 32)
     → k ≡ length ds
 field_end zero [] rest all front h ended = refl
-field_end zero (d ∷ ds) rest all front h ended =
-    let is : d ≡ 32 = ended (omega arith) in
-    absurd (no_space (rw is at all.0))
+field_end zero (d ∷ ds) rest all front h ended = search (ended, no_space, arith)
 field_end (suc k) [] None all front h ended = absurd (omega arith)
 field_end (suc k) [] (Some r) all front h ended = absurd (no_space front.0)
 field_end (suc k) (d ∷ ds) rest all front h ended =
@@ -109,8 +106,7 @@ number_end text value end n rest field small e =
 pub empty_field : (text : List ℕ) (value end : ℕ) → IsDigitField text value end → end ≡ 0
     → HasNoNumberField text
 empty_field text value end field empty n rest small e =
-    let is = number_end text value end n rest field small e in
-    omega (arith, is, empty, decimal_nonempty n small)
+    grind (arith, number_end text value end n rest field small e, decimal_nonempty n small)
 
 -- a number that begins with 0 is 0
 first_zero : (n : ℕ) → n < 2 ^ 64 → get_or (decimal n) 0 0 ≡ 48 → length (decimal n) ≡ 1
@@ -123,8 +119,7 @@ pub leading_zero : (text : List ℕ) (value end : ℕ) → IsDigitField text val
 leading_zero text value end field long first n rest small e =
     let is = number_end text value end n rest field small e in
     let same : get_or text 0 0 ≡ get_or (decimal n) 0 0 =
-    ap (λ t. get_or t 0 0) e ∙ get_or_append_left (decimal n) (after_field rest) 0 0
-    (decimal_nonempty n small) in
+    cc (get_or_append_left (decimal n) (after_field rest) 0 0 (decimal_nonempty n small)) in
     omega (arith, is, first_zero n small (sym same ∙ first))
 
 -- digits that are canonical are the number's spelling
@@ -146,8 +141,7 @@ number_found text value end field small some canonical =
 -- so is one digit
 pub one_digit : (text : List ℕ) (value end : ℕ) → IsDigitField text value end → value < 2 ^ 64
     → end ≡ 1 → IsNumberField text value end
-one_digit text value end field small one = number_found text value end field small (omega arith)
-    (λ e. length-take-le end text field.within ∙ one)
+one_digit text value end field small one = search (number_found, small, arith)
 
 -- and so are more that don't begin with 0
 pub more_digits : (text : List ℕ) (value end : ℕ) → IsDigitField text value end → value < 2 ^ 64
@@ -173,6 +167,4 @@ one_number text m end n rest field low small e =
 
 -- a digit's value
 pub digit_is : (c : ℕ) → digit_value c < 10 → digit_value c ≡ c - 48
-digit_is c h =
-    let r = digit_from_value c h in
-    grind (arith, nat_tests)
+digit_is c h = grind (arith, nat_tests)

@@ -1,31 +1,23 @@
 -- A line has one reading: its parts are what stands between its spaces.
-use Rattle.std.proofs.Common.{◌≡◌, ℕ, ◌<◌, ◌^◌, true, ◌&&◌, List, ◌∷◌, ◌++◌, get_or, Option, Some}
+use Rattle.std.proofs.Common.{◌≡◌, ℕ, ◌<◌, ◌^◌, true, List, ◌∷◌, ◌++◌, Option, Some}
 use Rattle.std.proofs.Common.{None, refl, ap, sym, ◌∙◌, arith}
 use Rattle.std.specs.Prelude.{◌==◌, nat_lt, codes, decimal}
 use Rattle.std.specs.List.{slice_split}
 use Rattle.std.proofs.lemmas.List.{append_cancel_left}
 use Rattle.std.proofs.lemmas.Fmt.{decimal_injective}
 use Rattle.vyrd_base.specs.declared.subject.Subject.{Subject}
-use Rattle.vyrd_base.specs.declared.subject.Subject.TheVariants.{Multiset, Buffers}
-use Rattle.vyrd_base.specs.declared.subject.Method.{Method}
-use Rattle.vyrd_base.specs.declared.subject.Method.TheVariants.{Multiset as OfMultiset}
-use Rattle.vyrd_base.specs.declared.subject.Method.TheVariants.{Buffers as OfBuffers}
-use Rattle.vyrd_base.specs.declared.multiset.MultisetMethod.TheVariants.{Insert, InsertPair, Delete}
-use Rattle.vyrd_base.specs.declared.multiset.MultisetMethod.TheVariants.{Lookup}
-use Rattle.vyrd_base.specs.declared.buffers.BuffersMethod.TheVariants.{Append, AppendFrom, Cut}
-use Rattle.vyrd_base.specs.declared.buffers.BuffersMethod.TheVariants.{Length, Read}
+use Rattle.vyrd_base.specs.declared.buffers.BuffersMethod.TheVariants.{Read}
 use Rattle.vyrd_base.specs.declared.log.Kind.{Kind}
 use Rattle.vyrd_base.specs.declared.log.Kind.TheVariants.{Call, Return, Write, Commit, BlockOpen}
 use Rattle.vyrd_base.specs.declared.log.Kind.TheVariants.{BlockClose, BlockCommit}
 use Rattle.vyrd_base.specs.declared.log.Entry.{Entry}
-use Rattle.vyrd_base.specs.Subjects.{arity_of, are_padded, is_named}
-use Rattle.vyrd_base.specs.Spelling.{method_name, entry_line, is_entry_of}
+use Rattle.vyrd_base.specs.Spelling.{entry_line, is_entry_of}
 use Rattle.vyrd_base.specs.Lines.{entry_in}
 use Rattle.vyrd_base.proofs.SplitLaws.{split_at, decimal_lacks, no_space}
 use Rattle.vyrd_base.proofs.LineLaws.{entry_in-entry_line}
 use Rattle.vyrd_base.proofs.ReadingSound.{entry_in_sound}
 use Rattle.vyrd_base.proofs.TestLaws.{both_true, first_true, second_true, below_of, is_below}
-use Rattle.vyrd_text.specs.Spelled.{kind_text, call_text, AreArgsRead, IsCallRead, IsKindRead}
+use Rattle.vyrd_text.specs.Spelled.{kind_text, AreArgsRead, IsCallRead, IsKindRead}
 
 -- the number before a space and what follows the space are one
 pub one_before_space : (m n : ℕ) (r s : List ℕ) → m < 2 ^ 64 → n < 2 ^ 64 → decimal m ++ 32 ∷ r
@@ -51,65 +43,27 @@ no_value text w r low e none subject (Write word value) ok f =
     let is = one_before_space w word r (decimal value) low (omega arith)
     (sym e ∙ append_cancel_left (codes "write ") text (decimal word ++ 32 ∷ decimal value) f) in
     none value fits is.1
-no_value text w r low e none subject (Call method args) ok f = absurd
-    (let h : 119 ≡ 99 = ap (λ t. get_or t 0 0) f in omega (arith, h))
-no_value text w r low e none subject (Return reply) ok f = absurd
-    (let h : 119 ≡ 114 = ap (λ t. get_or t 0 0) f in omega (arith, h))
-no_value text w r low e none subject Commit ok f = absurd
-    (let h : 119 ≡ 99 = ap (λ t. get_or t 0 0) f in omega (arith, h))
-no_value text w r low e none subject BlockOpen ok f = absurd
-    (let h : 119 ≡ 111 = ap (λ t. get_or t 0 0) f in omega (arith, h))
-no_value text w r low e none subject BlockClose ok f = absurd
-    (let h : 119 ≡ 99 = ap (λ t. get_or t 0 0) f in omega (arith, h))
-no_value text w r low e none subject BlockCommit ok f = absurd
-    (let h : 119 ≡ 99 = ap (λ t. get_or t 0 0) f in omega (arith, h))
+no_value text w r low e none subject (Call method args) ok f = grind arith
+no_value text w r low e none subject (Return reply) ok f = grind arith
+no_value text w r low e none subject Commit ok f = grind arith
+no_value text w r low e none subject BlockOpen ok f = grind arith
+no_value text w r low e none subject BlockClose ok f = grind arith
+no_value text w r low e none subject BlockCommit ok f = grind arith
 
 -- nor is a word before what no call spells a call
 pub no_call : (subject : Subject) (text : List ℕ) → IsCallRead subject text None
     → IsKindRead subject (codes "call " ++ text) None
-no_call subject text none (Call method args) ok e =
-    let same_padded : (is_named method subject && are_padded (arity_of method) args) ≡ true =
-    first_true _ _ (first_true _ _ (first_true _ _ ok)) in
-    none method args
-    (first_true _ _ same_padded)
-    (second_true (is_named method subject) _ same_padded)
-    (below_of args.a (2 ^ 32)
-    (second_true (is_named method subject && are_padded (arity_of method) args) _
-    (first_true _ _ (first_true _ _ ok))))
-    (below_of args.b (2 ^ 32)
-    (second_true (is_named method subject && are_padded (arity_of method) args
-    && nat_lt args.a (2 ^ 32)) _ (first_true _ _ ok)))
-    (below_of args.c (2 ^ 32)
-    (second_true (is_named method subject && are_padded (arity_of method) args
-    && nat_lt args.a (2 ^ 32) && nat_lt args.b (2 ^ 32)) _ ok))
-    (append_cancel_left (codes "call ") text (call_text method args) e)
-no_call subject text none (Return reply) ok e = absurd
-    (let h : 99 ≡ 114 = ap (λ t. get_or t 0 0) e in omega (arith, h))
-no_call subject text none (Write word value) ok e = absurd
-    (let h : 99 ≡ 119 = ap (λ t. get_or t 0 0) e in omega (arith, h))
-no_call subject text none Commit ok e = absurd
-    (let h : 97 ≡ 111 = ap (λ t. get_or t 1 0) e in omega (arith, h))
-no_call subject text none BlockOpen ok e = absurd
-    (let h : 99 ≡ 111 = ap (λ t. get_or t 0 0) e in omega (arith, h))
-no_call subject text none BlockClose ok e = absurd
-    (let h : 97 ≡ 108 = ap (λ t. get_or t 1 0) e in omega (arith, h))
-no_call subject text none BlockCommit ok e = absurd
-    (let h : 97 ≡ 108 = ap (λ t. get_or t 1 0) e in omega (arith, h))
+no_call subject text none = grind (arith, first_true, second_true, below_of)
 
 -- one number before a space and no number after it are not two arguments
 pub no_second : (text : List ℕ) (m : ℕ) (r : List ℕ) → m < 2 ^ 64 → text ≡ decimal m ++ 32 ∷ r
     → ((n : ℕ) → n < 2 ^ 32 → r ≡ decimal n → ⊥) → AreArgsRead 2 text None
-no_second text m r low e none args padded a b c f =
-    let is = one_before_space m args.a r (decimal args.b) low (omega arith) (sym e ∙ f) in
-    none args.b b is.1
+no_second text m r low e none args padded a b c f = search (one_before_space, arith)
 
 -- nor three
 pub no_middle : (text : List ℕ) (m : ℕ) (r : List ℕ) → m < 2 ^ 64 → text ≡ decimal m ++ 32 ∷ r
     → ((n : ℕ) (s : List ℕ) → n < 2 ^ 32 → r ≡ decimal n ++ 32 ∷ s → ⊥) → AreArgsRead 3 text None
-no_middle text m r low e none args padded a b c f =
-    let is = one_before_space m args.a r (decimal args.b ++ 32 ∷ decimal args.c) low (omega arith)
-    (sym e ∙ f) in
-    none args.b (decimal args.c) b is.1
+no_middle text m r low e none args padded a b c f = search (one_before_space, arith)
 
 pub no_third : (text : List ℕ) (m n : ℕ) (r s : List ℕ) → m < 2 ^ 64 → n < 2 ^ 64 → text ≡ decimal m
     ++ 32 ∷ r
@@ -123,13 +77,7 @@ no_third text m n r s low small e f none args padded a b c g =
 -- an entry's line is its caller, a space and what it says
 pub entry_line_is : (caller : ℕ) (kind : Kind)
     → entry_line (record { caller = caller; kind = kind }) ≡ decimal caller ++ 32 ∷ kind_text kind
-entry_line_is caller (Call method args) = refl
-entry_line_is caller (Return reply) = refl
-entry_line_is caller (Write word value) = refl
-entry_line_is caller Commit = refl
-entry_line_is caller BlockOpen = refl
-entry_line_is caller BlockClose = refl
-entry_line_is caller BlockCommit = refl
+entry_line_is caller kind = grind arith
 
 -- a line that isn't an entry's
 pub no_entry : (subject : Subject) (line : List ℕ)
@@ -145,9 +93,7 @@ no_entry subject line none = by_answer (entry_in subject line) refl
 pub no_caller : (subject : Subject) (line : List ℕ)
     → ((n : ℕ) (rest : List ℕ) → n < 2 ^ 32 → line ≡ decimal n ++ 32 ∷ rest → ⊥)
     → None ≡ entry_in subject line
-no_caller subject line none = no_entry subject line
-    (λ e ok same. none e.caller (kind_text e.kind) (below_of e.caller (2 ^ 32) (first_true _ _ ok))
-    (same ∙ entry_line_is e.caller e.kind))
+no_caller subject line none = grind (arith, no_entry, below_of, first_true, entry_line_is)
 
 -- a line that says nothing after its caller
 pub no_kind : (subject : Subject) (line : List ℕ) (caller : ℕ) (rest : List ℕ) → caller < 2 ^ 64
@@ -166,7 +112,6 @@ pub entry_read : (subject : Subject) (line : List ℕ) (caller : ℕ) (kind : Ki
     → Some (record { caller = caller; kind = kind }) ≡ entry_in subject line
 entry_read subject line caller kind rest low is read =
     let entry : Entry = record { caller = caller; kind = kind } in
-    let same : line ≡ entry_line entry = is ∙ ap (λ t. decimal caller ++ 32 ∷ t) read.1
-    ∙ sym (entry_line_is caller kind) in
+    let same : line ≡ entry_line entry = cc (read.1, entry_line_is caller kind) in
     sym (ap (entry_in subject) same ∙ entry_in-entry_line subject entry
     (both_true _ _ (is_below caller (2 ^ 32) low) read.0))

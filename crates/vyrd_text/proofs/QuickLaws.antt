@@ -79,10 +79,9 @@ pub one_more : (subject : Subject) (text : List ℕ) (before middle after : List
     → AreEntriesAtFront subject text before after more (count + 1)
 one_more subject text before middle after rest more count e are is grown = record {
   found = are.found ++ e ∷ [];
-  grown = grown ∙ ap (λ t. t ++ e ∷ []) are.grown ∙ append_assoc before are.found (e ∷ []);
+  grown = cc (are.grown, append_assoc before are.found (e ∷ []));
   counted = length-append are.found (e ∷ []) ∙ ap (λ n. n + 1) are.counted;
-  spelled = are.spelled ∙ ap (λ t. entries_text are.found ++ t) is.1
-      ∙ sym (entries_more are.found e more);
+  spelled = cc (are.spelled, is.1, entries_more are.found e more);
   of_subject = all_more subject are.found e are.of_subject is.0;
 }
 
@@ -136,18 +135,15 @@ no_digits text = (omega arith, search rules, refl)
 pub digit_after : (text : List ℕ) (value end more : ℕ) → AreFrontDigits text value end
     → end < length text → digit_value (get_or text end 0) < 10
     → more ≡ value * 10 + (get_or text end 0 - 48) → AreFrontDigits text more (end + 1)
-digit_after text value end more are within digit is = (
-  omega arith,
-  digits_more 10 text end within are.1 digit,
-  omega (
-    arith,
-    is,
-    are.2,
-    digit_is (get_or text end 0) digit,
-    digits_value_more 10 text end
-        within,
-  ),
-)
+digit_after text value end more are within digit is =
+    grind (
+      arith,
+      digits_more 10 text end within are.1 digit,
+      are.2,
+      digit_is (get_or text end 0)
+          digit,
+      digits_value_more 10 text end within,
+    )
 
 -- digits that don't begin with 0, before a byte
 pub digits_front : (text : List ℕ) (value end byte : ℕ) → AreFrontDigits text value end → 1 < end

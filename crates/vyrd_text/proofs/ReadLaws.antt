@@ -40,8 +40,7 @@ nothing_read r = refl
 read_now : (r : LineState) (bytes : List ℕ) (is_whole : Bool) (ss : List StartWord)
     (es : List Entry) → Follows r ss es bytes
     → reading (input_to r is_whole) bytes ≡ with_read ss es (goes_on r is_whole [])
-read_now r bytes is_whole ss es follows =
-    ap (reading (input_to r is_whole)) (sym (append-nil bytes)) ∙ follows is_whole []
+read_now r bytes is_whole ss es follows = cc (append-nil bytes, follows is_whole [])
 
 -- a list that is the front of itself has nothing after that
 nothing_after : {A : Type 0} (xs ys : List A) → xs ≡ xs ++ ys → ys ≡ []
@@ -149,10 +148,9 @@ pub fed_then : (a b c : LineState) (xs ys : List ℕ)
 fed_then a b c xs ys start start_middle start_new ts before middle after hs fed taken start_grown
     grown = record {
       starts = fed.starts ++ ts;
-      start_grown = start_grown ∙ ap (λ t. t ++ ts) fed.start_grown
-          ∙ append_assoc start fed.starts ts;
+      start_grown = cc (fed.start_grown, append_assoc start fed.starts ts);
       found = fed.found ++ hs;
-      grown = grown ∙ ap (λ t. t ++ hs) fed.grown ∙ append_assoc before fed.found hs;
+      grown = cc (fed.grown, append_assoc before fed.found hs);
       taken = taken_then a b c xs ys fed.starts ts fed.found hs fed.taken taken;
     }
 

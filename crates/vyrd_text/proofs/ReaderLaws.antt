@@ -8,7 +8,7 @@ use Rattle.std.proofs.lemmas.List.{append-nil}
 use Rattle.vyrd_base.specs.declared.header.Header.{Header}
 use Rattle.vyrd_base.specs.declared.log.Entry.{Entry}
 use Rattle.vyrd_base.specs.declared.log.StartWord.{StartWord}
-use Rattle.vyrd_base.specs.Reading.{Reading, TextFault, Input, reading}
+use Rattle.vyrd_base.specs.Reading.{Reading, TextFault, reading}
 use Rattle.vyrd_base.proofs.ReadingGrows.{reading_grows, input_of}
 use Rattle.vyrd_text.specs.Readers.{LineState, ReaderState, fresh, input_to, with_read, known}
 use Rattle.vyrd_text.specs.Readers.{unless_faulty, goes_on, Follows, HasRead}
@@ -27,11 +27,7 @@ twice ss ts es gs r = λ i. record r {
 pub longer_line : (r : LineState) (ss : List StartWord) (es : List Entry) (before xs : List ℕ)
     → Follows r ss es before
     → Follows (with_line r (r.unfinished ++ xs)) ss es (before ++ xs)
-longer_line r ss es before xs follows is_whole more =
-    let input : Input = input_to r is_whole in
-    ap (reading input) (append_assoc before xs more) ∙ follows is_whole (xs ++ more)
-    ∙ ap (λ t. with_read ss es (unless_faulty r input (slice_split (λ b. b == 10) t) r.fault))
-    (sym (append_assoc r.unfinished xs more))
+longer_line r ss es before xs follows is_whole more = search (reading, append_assoc, more, arith)
 
 -- a fault that is found stays
 pub fault_found : (r : LineState) (ss : List StartWord) (es : List Entry) (before xs : List ℕ)
@@ -51,10 +47,7 @@ pub step : (r new : LineState) (ss ts : List StartWord) (es gs : List Entry) (be
     (goes_on new is_whole more))
     → Follows r ss es before → Follows new (ss ++ ts) (es ++ gs) (before ++ xs)
 step r new ss ts es gs before xs same on follows is_whole more =
-    ap (λ n. reading (record { max_lines = n; is_whole = is_whole }) ((before ++ xs) ++ more)) same
-    ∙ ap (reading (input_to r is_whole)) (append_assoc before xs more)
-    ∙ follows is_whole (xs ++ more)
-    ∙ ap (with_read ss es) (on is_whole more) ∙ twice ss ts es gs (goes_on new is_whole more)
+    search (reading, more, append_assoc, twice, goes_on, arith)
 
 -- what was taken in turn was taken together
 pub taken_then : (a b c : LineState) (xs ys : List ℕ) (ss ts : List StartWord) (gs hs : List Entry)
@@ -125,8 +118,7 @@ faulty_taken a f xs low is = record {
   noticed = λ n. n;
   room = λ after.
       let none : starts_ahead a after ≡ 0 =
-      ap (λ o. starts_in_lines o a.header a.starting
-      (slice_split (λ b. b == 10) (a.unfinished ++ after))) is in
+      cc in
       omega (arith, none);
 }
 

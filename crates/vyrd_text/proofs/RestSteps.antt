@@ -4,12 +4,11 @@ use Rattle.std.proofs.Common.{◌∷◌, ◌++◌, length, Option, Some, None, r
 use Rattle.std.proofs.Common.{length-append}
 use Rattle.std.specs.Prelude.{◌==◌, nat_lt, option_map}
 use Rattle.std.specs.List.{slice_split}
-use Rattle.std.proofs.Math.Bool.{and-false}
 use Rattle.vyrd_base.specs.declared.header.Header.{Header}
 use Rattle.vyrd_base.specs.declared.log.StartWord.{StartWord}
 use Rattle.vyrd_base.specs.declared.verdict.Rule.{Rule}
 use Rattle.vyrd_base.specs.declared.verdict.Rule.TheVariants.{TooManyLines, AfterEnd, BadHeader}
-use Rattle.vyrd_base.specs.declared.verdict.Rule.TheVariants.{BadEntry, NoLineFeed}
+use Rattle.vyrd_base.specs.declared.verdict.Rule.TheVariants.{BadEntry}
 use Rattle.vyrd_base.specs.Shape.{◌breaks◌, first_broken}
 use Rattle.vyrd_base.specs.Reading.{Input, has_any, stopped, ended, unfinished_rule, header_before}
 use Rattle.vyrd_base.specs.Reading.{fault_on}
@@ -23,10 +22,7 @@ unfinished_cases : (max n : ℕ) (bad : Rule) (ys : List ℕ)
     → unfinished_rule (record { max_lines = max; is_whole = false }) n bad ys
     ≡ cond (has_any ys && nat_lt max n) (Some TooManyLines)
     (cond (nat_lt 64 (length ys)) (Some bad) None)
-unfinished_cases max n bad ys =
-    ap (λ b. cond (has_any ys && nat_lt max n) (Some TooManyLines)
-    (cond (nat_lt 64 (length ys)) (Some bad) (cond b (Some NoLineFeed) None)))
-    (and-false (has_any ys))
+unfinished_cases max n bad ys = grind (arith, has_any)
 
 some_bytes : (ys : List ℕ) → 0 < length ys → has_any ys ≡ true
 some_bytes [] h = absurd (omega arith)

@@ -28,10 +28,7 @@ no_word line none = no_start line (λ s ok same. none (decimal s.word ++ 32 ∷ 
 pub no_number : (line rest : List ℕ) → line ≡ codes "start " ++ rest
     → ((n : ℕ) (more : List ℕ) → n < 2 ^ 32 → rest ≡ decimal n ++ 32 ∷ more → ⊥)
     → None ≡ start_in line
-no_number line rest is none = no_start line (λ s ok same.
-    none s.word (decimal s.value) (below_of s.word (2 ^ 32) (first_true _ _ ok))
-    (append_cancel_left (codes "start ") rest (decimal s.word ++ 32 ∷ decimal s.value)
-    (sym is ∙ same)))
+no_number line rest is none = grind (arith, no_start, below_of, first_true)
 
 -- a line without a value after the number
 pub no_start_value : (line rest : List ℕ) (word : ℕ) (more : List ℕ) → line ≡ codes "start " ++ rest
@@ -53,8 +50,7 @@ pub start_made : (line rest : List ℕ) (word : ℕ) (more : List ℕ) (value : 
     → Some (record { word = word; value = value }) ≡ start_in line
 start_made line rest word more value is low parts small end =
     let s : StartWord = record { word = word; value = value } in
-    let same : line ≡ start_line s = is ∙ ap (λ t. codes "start " ++ t)
-    (parts ∙ ap (λ t. decimal word ++ 32 ∷ t) end) in
+    let same : line ≡ start_line s = cc in
     sym (ap start_in same
     ∙ start_in-start_line s
     (both_true _ _ (is_below word (2 ^ 32) low) (is_below value (2 ^ 64) small)))

@@ -1,8 +1,8 @@
 -- What is appended in turn.
-use Rattle.std.proofs.Common.{◌≡◌, ℕ, ◌≤◌, ◌^◌, true, cond, ◌&&◌, List, [], ◌∷◌, ◌++◌, take, length}
+use Rattle.std.proofs.Common.{◌≡◌, ℕ, ◌≤◌, true, cond, List, [], ◌∷◌, ◌++◌, take, length}
 use Rattle.std.proofs.Common.{Result, Ok, Err, refl, ap, sym, ◌∙◌, arith, append_assoc, append-nil}
 use Rattle.std.proofs.Common.{length-append}
-use Rattle.std.specs.Prelude.{codes, decimal, map, flat_map, nat_lt, OnOk}
+use Rattle.std.specs.Prelude.{codes, decimal, map, flat_map, OnOk}
 use Rattle.std.specs.List.{AllByRecursion}
 use Rattle.std.specs.Result.{is_ok}
 use Rattle.std.proofs.lemmas.List.{take_at, take-take}
@@ -10,18 +10,15 @@ use Rattle.vyrd_base.specs.declared.header.Header.{Header}
 use Rattle.vyrd_base.specs.declared.subject.Subject.{Subject}
 use Rattle.vyrd_base.specs.declared.subject.Method.{Method}
 use Rattle.vyrd_base.specs.declared.subject.Args.{Args}
-use Rattle.vyrd_base.specs.declared.log.Kind.{Kind}
-use Rattle.vyrd_base.specs.declared.log.Kind.TheVariants.{Call, Return, Write, Commit, BlockOpen}
-use Rattle.vyrd_base.specs.declared.log.Kind.TheVariants.{BlockClose, BlockCommit}
 use Rattle.vyrd_base.specs.declared.log.Entry.{Entry}
 use Rattle.vyrd_base.specs.declared.log.StartWord.{StartWord}
 use Rattle.vyrd_base.specs.Subjects.{arity_of}
 use Rattle.vyrd_base.specs.Spelling.{ended_line, start_line, entry_line, header_line, log_text}
-use Rattle.vyrd_base.specs.Spelling.{is_kind_of, is_entry_of, spaced, method_name}
+use Rattle.vyrd_base.specs.Spelling.{is_entry_of, spaced, method_name}
 use Rattle.vyrd_base.proofs.ReadingLaws.{AllOf}
 use Rattle.vyrd_base.proofs.TestLaws.{first_true, second_true}
 use Rattle.vyrd_text.specs.Spelled.{call_text}
-use Rattle.vyrd_text.specs.Written.{is_padded, is_of_subject, is_writable}
+use Rattle.vyrd_text.specs.Written.{is_writable}
 
 -- the front of a list that goes on from a longer front
 pub front_of_front : (old more middle now : List ℕ) → middle ≡ old ++ more
@@ -59,17 +56,7 @@ whole_log h start entries old first second third e f g =
 -- an entry that has a spelling can be written
 entry_writable : (subject : Subject) (e : Entry) → is_entry_of subject e ≡ true
     → is_writable subject e ≡ true
-entry_writable subject e is = by_kind e.kind (second_true (nat_lt e.caller (2 ^ 32)) _ is)
-  where
-    by_kind : (kind : Kind) → is_kind_of subject kind ≡ true
-        → (is_of_subject subject kind && is_padded kind) ≡ true
-    by_kind (Call method args) k = first_true _ _ (first_true _ _ (first_true _ _ k))
-    by_kind (Return reply) k = refl
-    by_kind (Write word value) k = refl
-    by_kind Commit k = refl
-    by_kind BlockOpen k = refl
-    by_kind BlockClose k = refl
-    by_kind BlockCommit k = refl
+entry_writable subject e is = grind (arith, second_true, first_true)
 
 pub all_writable : (subject : Subject) (es : List Entry) → AllOf subject es
     → AllByRecursion (λ e. is_writable subject e ≡ true) es
@@ -86,5 +73,4 @@ spaced_fields field (n ∷ ns) = ap (λ rest. field ++ 32 ∷ rest) (spaced_fiel
 pub call_text_after : (method : Method) (args : Args) → call_text method args
     ≡ method_name method ++ flat_map (λ n. 32 ∷ decimal n)
     (take (arity_of method) (args.a ∷ args.b ∷ args.c ∷ []))
-call_text_after method args =
-    spaced_fields (method_name method) (take (arity_of method) (args.a ∷ args.b ∷ args.c ∷ []))
+call_text_after method args = search (spaced_fields, arith)

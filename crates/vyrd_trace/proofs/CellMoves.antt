@@ -21,9 +21,7 @@ use Rattle.vyrd_trace.proofs.Stays.{St, Same, refit}
 fits_other : (plain : ℕ) (f h : ℕ → Stage) (k w n : ℕ) (o : Option ℕ)
     → ((c : ℕ) → o ≡ Some c → h c ≡ f c)
     → FitsCell plain f k w n o → FitsCell plain h k w n o
-fits_other plain f h k w n None same fits = fits
-fits_other plain f h k w n (Some c) same fits = subst (InHand plain c k w n)
-    (sym (same c refl)) fits
+fits_other plain f h k w n o same fits = grind (arith, plain, fits)
 
 -- a cell in hand is that of its claimer's action
 pub in_hand : (plain : ℕ) (f : ℕ → Stage) (k w n by : ℕ) (o : Option ℕ) → o ≡ Some by
@@ -105,50 +103,28 @@ module _ (p : Plan) (s : St) (r : TraceKept p s) (id : ℕ) (v : Record)
 pub free_cell : (plain : ℕ) (f : ℕ → Stage) (k w n : ℕ) (o : Option ℕ) → w % 2 ≡ 0
     → (plain ≤ k → w ≡ 0)
     → FitsCell plain f k w n o → (o ≡ None) × (w ≡ 2 * n)
-free_cell plain f k w n None even lock fits = (refl, fits)
-free_cell plain f k w n (Some c) even lock fits = absurd (taken (f c) fits)
-  where
-    taken : (st : Stage) → InHand plain c k w n st → ⊥
-    taken Rest h = h
-    taken (Claimed c' b) h = let a = h.1 in omega arith
-    taken (Drawn c' b m) h = let a = h.1 in omega arith
-    taken (Giving c') h = let a = h.2 in let z = lock h.1 in omega arith
+free_cell plain f k w n o even lock fits = grind (arith, plain, fits)
 
 -- a held lock of a caller at rest: nobody has it in hand
 pub held_cell : (plain : ℕ) (f : ℕ → Stage) (k w n by : ℕ) (o : Option ℕ) → plain ≤ k → n ≡ by + 1
     → f by ≡ Rest
     → FitsCell plain f k w n o → (o ≡ None) × (w ≡ 2 * n)
-held_cell plain f k w n by None lock held rest fits = (refl, fits)
-held_cell plain f k w n by (Some c) lock held rest fits = absurd (taken (f c) refl fits)
-  where
-    taken : (st : Stage) → f c ≡ st → InHand plain c k w n st → ⊥
-    taken Rest is h = h
-    taken (Claimed c' b) is h = let a = h.2 in let z = h.3 lock in omega arith
-    taken (Drawn c' b m) is h =
-        let a = h.2 in
-        let z = h.3 lock in
-        let same : c ≡ by = omega arith in
-        let e : f c ≡ f by = ap f same in absurd (cc)
-    taken (Giving c') is h = let a = h.3 in omega arith
+held_cell plain f k w n by o lock held rest fits = grind (arith, plain, held, fits)
 
 -- an action at one cell has no other cell in hand
 pub nowhere : (plain by k0 : ℕ) (b : ℕ) (st : Stage) → st ≡ Claimed k0 b → (k w n : ℕ) → k ≢ k0
     → InHand plain by k w n st → ⊥
-nowhere plain by k0 b st is k w n apart h = let x : InHand plain by k w n (Claimed k0 b) =
-    subst (InHand plain by k w n) is h in apart (sym x.0)
+nowhere plain by k0 b st is k w n apart h = search (plain, apart, arith)
 
 pub nowhere_drawn : (plain by k0 : ℕ) (b m : ℕ) (st : Stage) → st ≡ Drawn k0 b m → (k w n : ℕ)
     → k ≢ k0 → InHand plain by k w n st → ⊥
-nowhere_drawn plain by k0 b m st is k w n apart h = let x : InHand plain by k w n (Drawn k0 b m) =
-    subst (InHand plain by k w n) is h in apart (sym x.0)
+nowhere_drawn plain by k0 b m st is k w n apart h = search (plain, apart, arith)
 
 pub nowhere_giving : (plain by k0 : ℕ) (st : Stage) → st ≡ Giving k0 → (k w n : ℕ) → k ≢ k0
     → InHand plain by k w n st → ⊥
-nowhere_giving plain by k0 st is k w n apart h = let x : InHand plain by k w n (Giving k0) =
-    subst (InHand plain by k w n) is h in apart (sym x.0)
+nowhere_giving plain by k0 st is k w n apart h = search (plain, apart, arith)
 
 -- a caller at rest has none
 pub nowhere_rest : (plain by k0 : ℕ) (st : Stage) → st ≡ Rest → (k w n : ℕ) → k ≢ k0
     → InHand plain by k w n st → ⊥
-nowhere_rest plain by k0 st is k w n apart h = let x : InHand plain by k w n Rest =
-    subst (InHand plain by k w n) is h in x
+nowhere_rest plain by k0 st is k w n apart h = grind arith

@@ -47,8 +47,7 @@ lane_at (h ∷ hs) (suc c) l = lane_at hs c (omega arith)
 has_any : (n : ℕ) (g : Ghost) (id : ℕ) (v : Record) → v.stage ≡ Rest → Knows n g id v
     → (i : ℕ) (l : Lane)
     → slice_get (own_lane v ∷ v.gathered) i ≡ Some l → HasLane g id l
-has_any n g id v rest k zero l e = let same : own_lane v ≡ l = cc in
-    subst (HasLane g id) same record { owned = k.owned; whole = k.whole; rests = k.at_stage ∙ rest }
+has_any n g id v rest k zero l e = grind arith
 has_any n g id v rest k (suc i) l e = k.others i l e
 
 module _ (p : Plan) (s : St) (r : TraceKept p s) (id : ℕ) (v : Record) (hs : List HandView)
@@ -144,13 +143,7 @@ pub halved : (p : Plan) (h : List Stamped) (words halves : List ℕ) → AreTwic
     → length halves ≡ p.plain + p.locks
     → ((k : ℕ) → k < p.plain + p.locks → slice_index halves k ≡ slice_index words (k + 1) / 2)
     → halves ≡ last_values p h
-halved p h words halves twice long half =
-    from_places (last_value h) 0 halves (λ j l.
-    let a = twice j (omega arith) in
-    let b = half j (omega arith) in
-    let same : slice_index halves j ≡ last_value h j = omega arith in
-    let from : j ≡ 0 + j = omega arith in same ∙ ap (last_value h) from)
-    ∙ ap (λ (n : ℕ). map (last_value h) (numbers_from 0 n)) long
+halved p h words halves twice long half = grind (arith, halves, twice, long, from_places)
 
 -- A closed table has a history: a legal one, of which each hand's lane is its caller's part, and
 -- each word is twice the
@@ -203,6 +196,5 @@ is_merge p words hs count order one = (merge, total_length hs one.history merge)
 -- what a slice of a `Vec` that was lent whole writes back
 pub back : (len : ℕ) (new old : List Stamped) → length new ≡ length old → len ≡ length old
     → take len (new ++ drop (length new) old) ≡ new
-back len new old same is = ap (λ (l : List Stamped). take len (new ++ l))
-    (drop_all (length new) old (omega arith))
-    ∙ ap (take len) (append-nil new) ∙ take_all len new (omega arith)
+back len new old same is =
+    cc (drop_all (length new) old (omega arith), append-nil new, take_all len new (omega arith))

@@ -86,11 +86,8 @@ lane_kept : (g h : Ghost) (seat : ℕ) (l : Lane) → h.history ≡ g.history
     → ((c : ℕ) → h.stage c ≡ g.stage c)
     → (g.owner l.caller ≡ Some seat → h.owner l.caller ≡ Some seat) → HasLane g seat l
     → HasLane h seat l
-lane_kept g h seat l same stages owns has = record {
-  owned = owns has.owned;
-  whole = ap (part l.caller) same ∙ has.whole;
-  rests = stages l.caller ∙ has.rests;
-}
+lane_kept g h seat l same stages owns has =
+    grind (arith, owns has.owned, has.whole, stages l.caller, has.rests)
 
 -- the record of a seat where new owners are added
 knows_kept : (n : ℕ) (g h : Ghost) (j : ℕ) (u : Record) → h.history ≡ g.history
@@ -186,12 +183,7 @@ given other id None = None
 given other id (Some j) = cond (eqb j other) (Some id) (Some j)
 
 given_none : (other id : ℕ) (o : Option ℕ) → given other id o ≡ None → o ≡ None
-given_none other id None e = refl
-given_none other id (Some j) e = absurd (split (eqb j other) e)
-  where
-    split : (b : Bool) → cond b (Some id) (Some j) ≡ None → ⊥
-    split true x = cc
-    split false x = cc
+given_none other id o e = grind arith
 
 given_other : (other id : ℕ) → given other id (Some other) ≡ Some id
 given_other other id = ap (λ (b : Bool). cond b (Some id) (Some other)) (eq-eqb other other refl)
@@ -265,8 +257,7 @@ joins p id v other w live alive rest s r at differ there =
     their : {g : Ghost} (l : Lane) (j : ℕ) → slice_get (own_lane w ∷ w.gathered) j ≡ Some l
         → Knows p.callers g other w
         → g.owner l.caller ≡ Some other
-    their {g} l zero e k = let same : own_lane w ≡ l = cc in
-        subst (λ (q : Lane). g.owner q.caller ≡ Some other) same k.owned
+    their {g} l zero e k = cc (k.owned)
     their {g} l (suc j) e k = (k.others j l e).owned
 
     taken : {g : Ghost} (l : Lane) (j : ℕ) → slice_get (own_lane w ∷ w.gathered) j ≡ Some l
@@ -278,17 +269,6 @@ joins p id v other w live alive rest s r at differ there =
           stage = g.stage;
           claimer = g.claimer;
         }) id l
-    taken {g} l zero e k moves = let same : own_lane w ≡ l = cc in
-        subst (HasLane (record {
-          history = g.history;
-          owner = λ c. given other id (g.owner c);
-          stage = g.stage;
-          claimer = g.claimer;
-        }) id) same record {
-          owned = moves w.caller k.owned;
-          whole = k.whole;
-          rests = k.at_stage
-              ∙ rest;
-        }
+    taken {g} l zero e k moves = grind arith
     taken {g} l (suc j) e k moves = let x = k.others j l e in
         record { owned = moves l.caller x.owned; whole = x.whole; rests = x.rests }

@@ -10,7 +10,7 @@ use Rattle.vyrd_base.specs.declared.log.Kind.{Kind}
 use Rattle.vyrd_base.specs.declared.history.Did.{Did}
 use Rattle.vyrd_base.specs.declared.history.Did.TheVariants.{Read, Wrote, Took, Gave, Marked}
 use Rattle.vyrd_base.specs.declared.history.Stamped.{Stamped}
-use Rattle.vyrd_base.specs.Places.{places_after, first_answer, newest_first}
+use Rattle.vyrd_base.specs.Places.{places_after, newest_first}
 use Rattle.vyrd_base.specs.Histories.{Cells, made_of, value_in, is_write, may_do, is_legal_at}
 use Rattle.vyrd_base.specs.Histories.{is_legal}
 pub use Rattle.vyrd_base.proofs.PlaceLaws.{length-newest_first}
@@ -31,15 +31,12 @@ or_else (Some x) b = refl
 pub value_in-snoc : (h : List Stamped) (e : Stamped) (cell : ℕ)
     → value_in (newest_first (h ++ e ∷ [])) cell ≡ value_after cell (value_in (newest_first h) cell)
     e.caller e.did
-value_in-snoc h e cell = ap (λ earlier. value_in earlier cell) (newest_first-push h e)
-    ∙ or_else (made_of cell e.caller e.did)
-    (first_answer (λ x. made_of cell x.caller x.did) (newest_first h))
+value_in-snoc h e cell = grind (arith, newest_first-push, or_else)
 
 pub may_read : (z : Cells) (earlier : List Stamped) (caller c x : ℕ) → c < z.plain
     → x ≡ value_in earlier c
     → may_do z earlier caller (Read c x) ≡ true
-may_read z earlier caller c x l e = both_true _ _ (is_below c z.plain l)
-    (is_same x (value_in earlier c) e)
+may_read z earlier caller c x l e = search (both_true, is_below, is_same, arith)
 
 pub may_write : (z : Cells) (earlier : List Stamped) (caller c x : ℕ) → c < z.plain → x < 2 ^ 63
     → may_do z earlier caller (Wrote c x) ≡ true
@@ -48,14 +45,12 @@ may_write z earlier caller c x l e = both_true _ _ (is_below c z.plain l) (is_be
 pub may_take : (z : Cells) (earlier : List Stamped) (caller c : ℕ) → z.plain ≤ c → c < z.plain
     + z.locks → value_in earlier c ≡ 0
     → may_do z earlier caller (Took c) ≡ true
-may_take z earlier caller c a b e = both_true _ _ (is_lock_of z c a b)
-    (is_same (value_in earlier c) 0 e)
+may_take z earlier caller c a b e = search (both_true, is_lock_of, is_same, arith)
 
 pub may_give : (z : Cells) (earlier : List Stamped) (caller c : ℕ) → z.plain ≤ c → c < z.plain
     + z.locks
     → value_in earlier c ≡ caller + 1 → may_do z earlier caller (Gave c) ≡ true
-may_give z earlier caller c a b e = both_true _ _ (is_lock_of z c a b)
-    (is_same (value_in earlier c) (caller + 1) e)
+may_give z earlier caller c a b e = search (both_true, is_lock_of, is_same, arith)
 
 pub may_mark : (z : Cells) (earlier : List Stamped) (caller : ℕ) (kind : Kind) → is_write kind
     ≡ false → may_do z earlier caller (Marked kind) ≡ true
@@ -96,11 +91,7 @@ numbered_after : (z : Cells) (earlier xs : List Stamped) → list_all (is_legal_
     → (i : ℕ) (e : Stamped) → slice_get xs i ≡ Some e → (e.number ≡ length earlier + i)
     × (e.caller < z.callers)
 numbered_after z earlier [] legal i e at = absurd (cc)
-numbered_after z earlier (x ∷ xs) legal zero e at =
-    let f = facts_at z earlier x xs legal in
-    let same : x ≡ e = cc in
-    subst (λ (y : Stamped). (y.number ≡ length earlier + 0) × (y.caller < z.callers)) same
-    (f.0 ∙ omega arith, f.1)
+numbered_after z earlier (x ∷ xs) legal zero e at = search (facts_at, arith)
 numbered_after z earlier (x ∷ xs) legal (suc i) e at =
     let f = facts_at z earlier x xs legal in
     let r = numbered_after z (x ∷ earlier) xs f.3 i e at in

@@ -4,7 +4,7 @@ use Rattle.std.proofs.Common.{set, get_or, take, Some, refl, sym, ap, ◌∙◌,
 use Rattle.std.specs.Prelude.{slice_get, slice_index_or}
 use Rattle.std.specs.List.{All}
 use Rattle.std.proofs.lemmas.List.{take_all}
-use Rattle.std.proofs.lemmas.List.Elements.{All-more, All-take, All-same}
+use Rattle.std.proofs.lemmas.List.Elements.{All-more, All-take}
 use Rattle.std.proofs.lemmas.Option.{slice_get_within}
 use mathlib.Core.Logic.{dite}
 use native.Mathlib.Decide.{ℕ_discrete}
@@ -77,8 +77,7 @@ has_place h hist lane k d l stands long =
 
 pub all_placed : (hist lane : List Stamped) (k : ℕ) → length lane ≤ k
     → All (IsInPlace hist) (take k lane) → All (IsInPlace hist) lane
-all_placed hist lane k le placed = All-same (IsInPlace hist) lane (take k lane)
-    (sym (take_all k lane le)) placed
+all_placed hist lane k le placed = search (take_all, placed, arith)
 
 -- the lane of an item at its place
 pub lane_at_item : {A : Type 0} (f : A → List Stamped) (ls : List A) (i : ℕ) (v : A) → i < length ls

@@ -9,10 +9,9 @@ use Rattle.std.proofs.lemmas.Bool.Decides.{nat_tests}
 use mathlib.Core.Logic.{dite}
 use native.Mathlib.Decide.{ℕ_discrete}
 use Rattle.vyrd_base.specs.declared.history.Did.{Did}
-use Rattle.vyrd_base.specs.declared.history.Did.TheVariants.{Read, Wrote, Took, Gave, Marked}
 use Rattle.vyrd_base.specs.declared.history.Stamped.{Stamped}
 use Rattle.vyrd_base.specs.Places.{newest_first}
-use Rattle.vyrd_base.specs.Histories.{Cells, is_lock, may_do, is_legal}
+use Rattle.vyrd_base.specs.Histories.{Cells, may_do, is_legal}
 use Rattle.vyrd_base.proofs.TestLaws.{first_true, second_true, below_of, same_of}
 use Rattle.vyrd_base.specs.Parts.{part}
 use Rattle.vyrd_trace.specs.Lanes.{last_value, HoldsBy}
@@ -25,14 +24,12 @@ value-snoc h e cell = value_in-snoc h e cell
 -- one event more is in its caller's part, at the end, and in no other's
 pub part-mine : (c : ℕ) (h : List Stamped) (e : Stamped) → e.caller ≡ c → part c (h ++ e ∷ [])
     ≡ part c h ++ e ∷ []
-part-mine c h e is = filter-append (λ (x : Stamped). eqb x.caller c) h (e ∷ [])
-    ∙ ap (λ (b : Bool). part c h ++ cond b (e ∷ []) []) (eq-eqb e.caller c is)
+part-mine c h e is = search (filter-append, eq-eqb, arith)
 
 pub part-other : (c : ℕ) (h : List Stamped) (e : Stamped) → e.caller ≢ c → part c (h ++ e ∷ [])
     ≡ part c h
-part-other c h e apart = filter-append (λ (x : Stamped). eqb x.caller c) h (e ∷ [])
-    ∙ ap (λ (b : Bool). part c h ++ cond b (e ∷ []) []) (ne_eqb e.caller c apart)
-    ∙ append-nil (part c h)
+part-other c h e apart =
+    grind (arith, ne_eqb e.caller c apart, append-nil (part c h), filter-append, apart)
 
 get_there : (h : List Stamped) (i : ℕ) (d : Stamped) → i < length h → slice_get h i
     ≡ Some (get_or h i d)
@@ -113,23 +110,8 @@ held_step : (z : Cells) (k c : ℕ) (h : List Stamped) (by : ℕ) (d : Did) → 
     → (by ≡ c → value_after k (last_value (part c h) k) by d ≡ c + 1
     → value_after k (last_value h k) by d ≡ c + 1)
     × (by ≢ c → HoldsBy (part c h) c k → value_after k (last_value h k) by d ≡ c + 1)
-held_step z k c h by (Read c' x) lock holds may = ((λ _ t. holds t), (λ _ t. holds t))
-held_step z k c h by (Wrote c' x) lock holds may =
-    let a = below_of c' z.plain (first_true _ _ may) in
-    let no : c' ≢ k = λ e. omega arith in
-    rw (ne_eqb c' k no) ((λ _ t. holds t), (λ _ t. holds t))
-held_step z k c h by (Took c') lock holds may = dite (ℕ_discrete c' k)
-    (λ e. let now = same_of (last_value h c') 0 (second_true (is_lock z c') _ may) in
-    let z0 : last_value h k ≡ 0 = ap (last_value h) (sym e) ∙ now in
-    rw (eq-eqb c' k e)
-    ((λ same _. ap (λ n. n + 1) same), (λ _ t. let v = holds t in absurd (omega arith))))
-    (λ no. rw (ne_eqb c' k no) ((λ _ t. holds t), (λ _ t. holds t)))
-held_step z k c h by (Gave c') lock holds may = dite (ℕ_discrete c' k)
-    (λ e. let now = same_of (last_value h c') (by + 1) (second_true (is_lock z c') _ may) in
-    let z0 : last_value h k ≡ by + 1 = ap (last_value h) (sym e) ∙ now in
-    rw (eq-eqb c' k e) ((λ same t. t), (λ no t. let v = holds t in absurd (no (omega arith)))))
-    (λ no. rw (ne_eqb c' k no) ((λ _ t. holds t), (λ _ t. holds t)))
-held_step z k c h by (Marked m) lock holds may = ((λ _ t. holds t), (λ _ t. holds t))
+held_step z k c h by d lock holds may =
+    grind (arith, below_of, first_true, ne_eqb, same_of, second_true, eq-eqb)
 
 pub held_value : (z : Cells) (k c : ℕ) (h : List Stamped) → z.plain ≤ k → is_legal z h ≡ true
     → HoldsBy (part c h) c k → last_value h k ≡ c + 1
@@ -144,8 +126,7 @@ held_value z k c h lock legal =
 
 all_below : (z : Cells) (h : List Stamped) → is_legal z h ≡ true
     → All (λ (e : Stamped). e.number < length h) h
-all_below z h legal k d l = let n = (numbered z h legal k (get_or h k d) (get_there h k d l)).0 in
-    omega arith
+all_below z h legal k d l = search (numbered, get_there, arith)
 
 -- the numbers of a caller's events are below the history's length
 pub part_below : (z : Cells) (c : ℕ) (h : List Stamped) → is_legal z h ≡ true
@@ -186,30 +167,14 @@ pub in_part : (c : ℕ) (h : List Stamped) (i : ℕ) (e : Stamped) → slice_get
     ≡ c
     → (k : ℕ) × (k < length (part c h)) × ((d : Stamped) → slice_index_or (part c h) k d ≡ e)
 in_part c [] i e q is = absurd (cc)
-in_part c (x ∷ xs) zero e q is =
-    let same : x ≡ e = cc in
-    let b : eqb x.caller c ≡ true = eq-eqb x.caller c (ap (λ (s : Stamped). s.caller) same ∙ is) in
-    let p : part c (x ∷ xs) ≡ x ∷ part c xs = ap (λ (b : Bool). cond b (x ∷ part c xs) (part c xs))
-    b in (
-      0,
-      subst (λ (q : List Stamped). 0 < length q) (sym p) (omega arith),
-      λ d. ap
-          (λ (q : List Stamped). slice_index_or q 0 d) p ∙ same,
-    )
+in_part c (x ∷ xs) zero e q is = search (eq-eqb, arith)
 in_part c (x ∷ xs) (suc i) e q is = let f = in_part c xs i e q is in at (eqb x.caller c) refl f
   where
     at : (b : Bool) → eqb x.caller c ≡ b → (k : ℕ) × (k < length (part c xs))
         × ((d : Stamped) → slice_index_or (part c xs) k d ≡ e)
         → (k : ℕ) × (k < length (part c (x ∷ xs)))
         × ((d : Stamped) → slice_index_or (part c (x ∷ xs)) k d ≡ e)
-    at false is' f =
-        let p : part c (x ∷ xs) ≡ part c xs = ap (λ (b : Bool). cond b (x ∷ part c xs) (part c xs))
-        is' in (
-          f.0,
-          subst (λ (q : List Stamped). f.0 < length q) (sym p) f.1,
-          λ d. ap
-              (λ (q : List Stamped). slice_index_or q f.0 d) p ∙ f.2 d,
-        )
+    at false is' f = grind (arith, f.0, f.1)
     at true is' f =
         let p : part c (x ∷ xs) ≡ x ∷ part c xs =
         ap (λ (b : Bool). cond b (x ∷ part c xs) (part c xs)) is' in

@@ -143,8 +143,7 @@ turned p s r i n id c v lane st look h at live t =
 pub refit : (plain : ℕ) (stage : ℕ → Stage) (k w w' n n' : ℕ) (o : Option ℕ) → w' ≡ w → n' ≡ n
     → FitsCell plain stage k w n o
     → FitsCell plain stage k w' n' o
-refit plain stage k w w' n n' o a b f = subst (λ (y : ℕ × ℕ). FitsCell plain stage k y.0 y.1 o)
-    (λ i. (sym a i, sym b i)) f
+refit plain stage k w w' n n' o a b f = grind arith
 
 -- a ghost state that stays
 pub same_refl : (g : Ghost) (by : ℕ) → Same g g by
@@ -155,6 +154,4 @@ pub below : (p : Plan) (s : St) (r : TraceKept p s) (v : Record)
     → part v.caller r.ghost_state.history
     ≡ v.lane → (n : ℕ)
     → n ≡ length r.ghost_state.history → AreBelow n v.lane
-below p s r v whole n is = subst (λ (x : ℕ × List Stamped). AreBelow x.0 x.1)
-    (λ i. (sym is i, whole i))
-    (part_below (cells_in p) v.caller r.ghost_state.history r.legal)
+below p s r v whole n is = grind (arith, whole, part_below)

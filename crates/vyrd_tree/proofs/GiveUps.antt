@@ -32,10 +32,7 @@ leaf_found size m low key t (suc left) n used leaf from more =
     Found beyond = LeafOf size m low key (cond beyond (leaf_from left m key (right_at m n)) n)
 
     here : Below key (bound_at m n) → Found (is_past (bound_at m n) key)
-    here below =
-        subst (λ b. LeafOf size m low key (cond b (leaf_from left m key (right_at m n)) n))
-        (sym (not_past (bound_at m n) key below))
-        (record { in_use = used; leaf = leaf; covers = record { from = from; to = below } })
+    here below = grind (arith, not_past (bound_at m n) key below)
 
     by_bound : (bound_at m n ≡ 0) ⊎ (bound_at m n ≢ 0) → (bound_at m n ≤ key) ⊎ (key < bound_at m n)
         → (right_at m n ≤ last_in size m → level_at m (right_at m n) ≡ 0 → low (right_at m n) ≤ key
@@ -107,8 +104,4 @@ insert_gives_up h memory state c key value is e small_key small =
             → h.size ≤ last_in h.size memory + 1 → ⊥
         with_room (inl less) full none = omega (arith, less, full)
         with_room (inr room) full none = omega (arith, room, none)
-    says reply after (inr (inr d)) = (
-      λ none. absurd (let two = d.0 in omega (arith, none, two)),
-      λ room. absurd
-          (d.1 room.absent),
-    )
+    says reply after (inr (inr d)) = grind arith

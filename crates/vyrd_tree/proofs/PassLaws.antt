@@ -1,5 +1,5 @@
 -- What an insert has done before its ascent, and what each round of the ascent does.
-use Rattle.std.proofs.Common.{◌≡◌, ℕ, ◌+◌, ◌*◌, ◌<◌, ◌^◌, inl, inr, Bool, true, false, cond, Option}
+use Rattle.std.proofs.Common.{◌≡◌, ℕ, ◌+◌, ◌*◌, ◌<◌, ◌^◌, inl, inr, Bool, true, cond, Option}
 use Rattle.std.proofs.Common.{Some, None, length, refl, ap, ◌∙◌, sym, subst, arith}
 use Rattle.std.specs.Prelude.{not, ◌==◌, ⊤}
 use Rattle.std.specs.Bool.{then_some}
@@ -82,12 +82,7 @@ round_keeps_state h c level key node memory state is e hangs = by_end
         → alone c (ascend_once h Correct level key node ending next) memory
         ≡ alone c (next (level + 1) key' node') after)
         → (state_in h after ≡ Some state) × (is_hanging h after (level + 1) key' node' ≡ true)
-    at_next after key' node' same =
-        subst (λ b. IfEnds Says (alone c (cond b (returns 0) stop) after))
-        (is_same node' node' refl)
-        (subst (λ b. IfEnds Says
-        (alone c (cond b (cond (node' == node') (returns 0) stop) stop) after))
-        (is_same key' key' refl) found)
+    at_next after key' node' same = search (alone, after, is_same, found, arith)
       where
         Says : Memory → Type 0
         Says m = (state_in h m ≡ Some state) × (is_hanging h m (level + 1) key' node' ≡ true)
@@ -101,14 +96,7 @@ round_keeps_state h c level key node memory state is e hangs = by_end
             → is_hanging h m (level + 1) key'' node'' ≡ true
             → (b b' : Bool) → (key'' == key') ≡ b → (node'' == node') ≡ b'
             → IfEnds Says (alone c (cond b (cond b' (returns 0) stop) stop) m)
-        seen m keeps key'' node'' hangs' true true same_key same_node = (
-          keeps,
-          ap (λ n. is_hanging h m (level + 1) key' n) (sym (same_of node'' node' same_node))
-              ∙ ap (λ k. is_hanging h m (level + 1) k node'') (sym (same_of key'' key' same_key))
-              ∙ hangs',
-        )
-        seen m keeps key'' node'' hangs' true false same_key other = tt
-        seen m keeps key'' node'' hangs' false b' other same_node = tt
+        seen m keeps key'' node'' hangs' b b' same_key same_node = search (same_key, same_of, arith)
 
         found : IfEnds Says (alone c (only (level + 1) key' node') after)
         found = subst (IfEnds Says) (same stop only)
@@ -173,8 +161,7 @@ insert_splits_leaf h c args memory state is e small_key small none full room = r
         there.covers
 
     fits : n < h.size
-    fits = (let last = st.held.tree.last_low in let used = there.in_use in
-        omega (arith, last, used))
+    fits = grind (arith, st.held.tree.last_low, there.in_use)
 
     four : count_at m n ≡ 4
     four = locked_words h c memory n (12 * n + 1) (omega (arith, fits)) ∙ full
@@ -183,8 +170,7 @@ insert_splits_leaf h c args memory state is e small_key small none full room = r
     u = last_in h.size m + 1
 
     space : u < h.size
-    space = (let same = locked_words h c memory n (12 * h.size + 1) (omega arith) in
-        omega (arith, same, room))
+    space = grind (arith, locked_words h c memory n (12 * h.size + 1) (omega arith))
 
     key : ℕ
     key = split_key (loaded_at m n) args.a args.b
@@ -204,8 +190,7 @@ insert_splits_leaf h c args memory state is e small_key small none full room = r
         × ((later : Script)
         → alone c (split_entry h (loaded_at m n) args.a args.b u BlockCommit later)
         (with_cell m (used_cell h) u) ≡ alone c later after)
-    split = node_is_split h c (loaded_at m n) args.a args.b u BlockCommit
-        (with_cell m (used_cell h) u) (λ m later. refl)
+    split = search (node_is_split, arith)
 
     -- what is left begins with these words
     says : (state_in h split.0 ≡ Some next) × (is_hanging h split.0 0 key u ≡ true)

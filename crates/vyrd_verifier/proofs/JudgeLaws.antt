@@ -22,8 +22,7 @@ log_with history e entry is = log_more history e ∙ ap (λ o. log_of history ++
 
 pub log_without : (history : List Stamped) (e : Stamped) → logged e.caller e.did ≡ None
     → log_of (history ++ e ∷ []) ≡ log_of history
-log_without history e none = log_more history e ∙ ap (λ o. log_of history ++ cons_option o []) none
-    ∙ append-nil (log_of history)
+log_without history e none = cc (log_more history e, append-nil (log_of history))
 
 -- nothing was done yet
 pub no_log : log_of [] ≡ []

@@ -1,8 +1,8 @@
 -- One event more that is taken in, and one more that is handed out.
 use Rattle.std.proofs.Common.{◌≡◌, ◌≢◌, ℕ, zero, suc, ◌+◌, ◌<◌, ◌≤◌, List, [], ◌∷◌, ◌++◌, Bool}
-use Rattle.std.proofs.Common.{true, false, cond, ltb, Option, Some, None, refl, sym, ap, ◌∙◌, subst}
+use Rattle.std.proofs.Common.{true, false, cond, ltb, Some, None, refl, sym, ap, ◌∙◌, subst}
 use Rattle.std.proofs.Common.{arith, eq-eqb, ne_eqb}
-use Rattle.std.specs.Prelude.{◌==◌, is_some, if◌then◌else◌, ◌&&◌, ◌||◌, not}
+use Rattle.std.specs.Prelude.{◌==◌, is_some, if◌then◌else◌, ◌||◌, not}
 use Rattle.std.specs.Option.{option_to_list}
 use Rattle.std.proofs.lemmas.Bool.Decides.{nat_tests}
 use mathlib.Core.Logic.{dite}
@@ -10,7 +10,7 @@ use native.Mathlib.Decide.{ℕ_discrete, dec_lt}
 use Rattle.vyrd_base.specs.declared.history.Stamped.{Stamped}
 use Rattle.vyrd_relay.specs.Numbers.{ReorderKept, held, has}
 use Rattle.vyrd_verifier.specs.Taken.{numbered, in_order_below, SequencerView, has_failed}
-use Rattle.vyrd_verifier.specs.Taken.{has_number, AreKept, is_in, IsTaking, HasTakenIn}
+use Rattle.vyrd_verifier.specs.Taken.{has_number, AreKept, IsTaking, HasTakenIn}
 
 -- an event more at the end is found where none with its number was there
 pub numbered_new : (n : ℕ) (taken : List Stamped) (e : Stamped) → numbered n taken ≡ None → e.number
@@ -21,15 +21,13 @@ numbered_new n (x ∷ xs) e none is = at (x.number == n) none (λ q. numbered_ne
     at : (b : Bool) → (cond b (Some x) (numbered n xs)) ≡ None
         → (numbered n xs ≡ None → numbered n (xs ++ e ∷ []) ≡ Some e)
         → cond b (Some x) (numbered n (xs ++ e ∷ [])) ≡ Some e
-    at true q more = absurd (cc)
-    at false q more = more q
+    at b q more = search (more, arith)
 
 -- and what is found with another number is as it was
 pub numbered_old : (n : ℕ) (taken : List Stamped) (e : Stamped) → e.number ≢ n
     → numbered n (taken ++ e ∷ []) ≡ numbered n taken
 numbered_old n [] e apart = ap (λ (b : Bool). cond b (Some e) None) (ne_eqb e.number n apart)
-numbered_old n (x ∷ xs) e apart = ap (λ (o : Option Stamped). cond (x.number == n) (Some x) o)
-    (numbered_old n xs e apart)
+numbered_old n (x ∷ xs) e apart = cc (numbered_old n xs e apart)
 
 pub in_order_same : (n : ℕ) (taken : List Stamped) (e : Stamped) → n ≤ e.number
     → in_order_below n (taken ++ e ∷ []) ≡ in_order_below n taken
@@ -41,45 +39,20 @@ in_order_same (suc n) taken e l = let a = in_order_same n taken e (omega arith) 
 -- the events in their order when the one with the next number is there too
 pub in_order_more : (n : ℕ) (taken : List Stamped) (e : Stamped) → numbered n taken ≡ Some e
     → in_order_below (n + 1) taken ≡ in_order_below n taken ++ e ∷ []
-in_order_more n taken e found = ap (λ (m : ℕ). in_order_below m taken) (one_more n)
-    ∙ ap (λ (o : Option Stamped). in_order_below n taken ++ option_to_list o) found
-  where
-    one_more : (n : ℕ) → n + 1 ≡ suc n
-    one_more n = omega arith
+in_order_more n taken e found = grind (arith, taken, found)
 
 -- the event with the next number was handed out
 pub kept_after : (k after : ReorderKept) (taken : List Stamped) (e : Stamped) → held k k.next
     ≡ Some e
     → after.next ≡ k.next + 1
     → ((n : ℕ) → k.next < n → held after n ≡ held k n) → AreKept k taken → AreKept after taken
-kept_after k after taken e found next same kept = record {
-  gone = λ n l. dite (dec_lt n k.next) (λ less. kept.gone n less)
-      (λ no_less. let is : k.next ≡ n = omega arith in
-      ap is_some (ap (λ (m : ℕ). numbered m taken) (sym is) ∙ sym (kept.later k.next (omega arith))
-      ∙ found));
-  later = λ n l. same n (omega arith) ∙ kept.later n (omega arith);
-}
+kept_after k after taken e found next same kept = grind arith
 
 -- if a number wasn't had, it is from the next one on, and no event has it
 pub new_number : (k : ReorderKept) (taken : List Stamped) (number : ℕ) → has k number ≡ false
     → AreKept k taken
     → (k.next ≤ number) × (numbered number taken ≡ None)
-new_number k taken number not_had kept = dite (dec_lt number k.next)
-    (λ less. let b : ltb number k.next ≡ true = grind (arith, nat_tests) in
-    absurd (differ (sym not_had ∙ ap (λ (x : Bool). x || is_some (held k number)) b)))
-    (λ no_less. let l : k.next ≤ number = omega arith in let b : ltb number k.next
-    ≡ false = grind (arith, nat_tests) in (
-      l,
-      none (numbered number taken) (sym (ap is_some (kept.later number l))
-          ∙ ap (λ (x : Bool). x || is_some (held k number)) (sym b) ∙ not_had),
-    ))
-  where
-    differ : false ≢ true
-    differ e = cc
-
-    none : (o : Option Stamped) → is_some o ≡ false → o ≡ None
-    none None e = refl
-    none (Some x) e = absurd (differ (sym e))
+new_number k taken number not_had kept = search (taken, kept, is_some, held, numbered, arith)
 
 -- an event with a new number is put in
 pub kept_with : (k after : ReorderKept) (taken : List Stamped) (e : Stamped) → has k e.number
@@ -131,29 +104,13 @@ taking_with has_taken sink k after taken e not_had next put t =
 pub taking_none : {S : Type 0} (has_taken : S → List Stamped → Type 0) (sink : S) (k : ReorderKept)
     → k.next ≡ 0 → ((n : ℕ) → held k n ≡ None)
     → has_taken sink [] → IsTaking has_taken sink k []
-taking_none has_taken sink k next none shown = record {
-  in_hand = record { gone = λ n l. absurd (omega arith); later = λ n l. none n };
-  shown = subst (λ (n : ℕ). has_taken sink (in_order_below n [])) (sym next) shown;
-}
-
--- what is had is what was taken in
-pub knows_all : (k : ReorderKept) (taken : List Stamped) → AreKept k taken → (n : ℕ)
-    → is_in k None n
-    ≡ is_some (numbered n taken)
-knows_all k taken kept n = dite (dec_lt n k.next)
-    (λ less. let b : ltb n k.next ≡ true = grind (arith, nat_tests) in
-    ap (λ (x : Bool). x || is_some (held k n)) b ∙ sym (kept.gone n less))
-    (λ no_less. let b : ltb n k.next ≡ false = grind (arith, nat_tests) in
-    ap (λ (x : Bool). x || is_some (held k n)) b ∙ ap is_some (kept.later n (omega arith)))
+taking_none has_taken sink k next none shown = grind arith
 
 -- a new sequencer
 pub taken_first : {S : Type 0} (has_taken : S → List Stamped → Type 0) (q : SequencerView S)
     → q.refused ≡ None
     → IsTaking has_taken q.sink q.kept [] → HasTakenIn has_taken q []
-taken_first has_taken q none t = record {
-  known = λ n. ap (λ (r : Option ℕ). is_in q.kept r n) none ∙ knows_all q.kept [] t.in_hand n;
-  in_order = λ going. record { taking = t; missing = refl };
-}
+taken_first has_taken q none t = grind arith
 
 -- one event more was taken in
 pub taken_more : {S : Type 0} (has_taken : S → List Stamped → Type 0) (old new : SequencerView S)
@@ -163,53 +120,20 @@ pub taken_more : {S : Type 0} (has_taken : S → List Stamped → Type 0) (old n
     → IsTaking has_taken new.sink new.kept (xs ++ e ∷ []))
     → held new.kept new.kept.next ≡ None → HasTakenIn has_taken old taken → HasTakenIn has_taken new
     (taken ++ e ∷ [])
-taken_more has_taken old new taken e going none step gone t =
-    let now = step taken (t.in_order going).taking in record {
-      known = λ n. ap (λ (r : Option ℕ). is_in new.kept r n) none
-          ∙ knows_all new.kept (taken ++ e ∷ []) now.in_hand n;
-      in_order = λ still.
-          record {
-            taking = now;
-            missing = sym (now.in_hand.later new.kept.next (omega arith))
-                ∙ gone;
-          };
-    }
+taken_more has_taken old new taken e going none step gone t = grind arith
 
 -- an event was refused
 pub taken_same : {S : Type 0} (has_taken : S → List Stamped → Type 0) (old new : SequencerView S)
     (taken : List Stamped) (number : ℕ) → old.refused ≡ None → new.refused ≡ Some number
     → has_number old number ≡ false → ((n : ℕ) → n ≢ number → has new.kept n ≡ has old.kept n)
     → HasTakenIn has_taken old taken → HasTakenIn has_taken new taken
-taken_same has_taken old new taken number none some not_had same t = record {
-  known = λ n. ap (λ (r : Option ℕ). is_in new.kept r n) some ∙ dite (ℕ_discrete n number)
-      (λ is. ap (λ (b : Bool). has new.kept n && not b) (eq-eqb n number is)
-      ∙ no_and (has new.kept n)
-      ∙ sym not_had ∙ t.known number ∙ ap (λ (m : ℕ). is_some (numbered m taken)) (sym is))
-      (λ apart. ap (λ (b : Bool). has new.kept n && not b) (ne_eqb n number apart)
-      ∙ and_yes (has new.kept n) ∙ same n apart
-      ∙ ap (λ (r : Option ℕ). is_in old.kept r n) (sym none) ∙ t.known n);
-  in_order = λ still. absurd (differ (sym (ap (λ (r : Option ℕ). is_some r) some) ∙ still));
-}
-  where
-    differ : true ≢ false
-    differ e = cc
-
-    no_and : (b : Bool) → (b && false) ≡ false
-    no_and true = refl
-    no_and false = refl
-
-    and_yes : (b : Bool) → (b && true) ≡ b
-    and_yes true = refl
-    and_yes false = refl
+taken_same has_taken old new taken number none some not_had same t = grind arith
 
 -- what is had changes at the number of the event that is put in alone
 pub has_with : (k after : ReorderKept) (e : Stamped) → after.next ≡ k.next
     → ((n : ℕ) → held after n ≡ (if n == e.number then Some e else held k n))
     → (n : ℕ) → n ≢ e.number → has after n ≡ has k n
-has_with k after e next put n apart =
-    ap (λ (m : ℕ). ltb n m || is_some (held after n)) next
-    ∙ ap (λ (o : Option Stamped). ltb n k.next || is_some o)
-    (put n ∙ ap (λ (b : Bool). cond b (Some e) (held k n)) (ne_eqb n e.number apart))
+has_with k after e next put n apart = grind (arith, after, apart, is_some, held, ne_eqb)
 
 -- an event whose turn it is was shown at once
 pub taking_turn : {S : Type 0} (has_taken : S → List Stamped → Type 0) (sink sink' : S)

@@ -1,6 +1,6 @@
 -- The chain of a tree's leaves, node by node, with a flag for each node that was seen.
 use Rattle.std.proofs.Common.{◌≡◌, ℕ, zero, suc, ◌+◌, ◌-◌, ◌<◌, Bool, true, false, ◌||◌, List, []}
-use Rattle.std.proofs.Common.{◌∷◌, length, get_or, set, refl, ap, ◌∙◌, sym, subst, arith}
+use Rattle.std.proofs.Common.{◌∷◌, length, get_or, set, refl, ap, ◌∙◌, arith}
 use Rattle.std.proofs.Common.{get_or-set_same, get_or-set_other}
 use Rattle.std.specs.Prelude.{◌==◌, ◌≢◌, nat_le, replicate}
 use Rattle.std.specs.List.{list_any}
@@ -38,22 +38,15 @@ none_marked (suc n) (suc q) = none_marked n q ∙ ap (λ b. b || false) (one_les
 pub walk_begins : (size : ℕ) (words : List ℕ) (sums : Amounts) (flags : List Bool) (left : ℕ)
     → sums ≡ [] → left ≡ size → flags ≡ replicate size false
     → Walk size words sums flags left 0
-walk_begins size words sums flags left empty all none = record {
-  seen = [];
-  marks = λ q. ap (λ s. get_or s q true) none ∙ none_marked size q;
-  rest = ap (λ s. added s (chain_parts_from size words left [] 0)) empty
-      ∙ ap (λ n. added [] (chain_parts_from size words n [] 0)) all
-      ∙ added-collected (chain_parts size words);
-}
+walk_begins size words sums flags left empty all none =
+    grind (arith, sums, left, none_marked, added, added-collected)
 
 -- before the last turn a node is left
 pub walk_left : (size : ℕ) (words : List ℕ) (sums : Amounts) (flags : List Bool) (turn n : ℕ)
     → turn < size
     → Walk size words sums flags (size - turn) n
     → Walk size words sums flags (suc (size - (turn + 1))) n
-walk_left size words sums flags turn n more walk =
-    let one : size - turn ≡ suc (size - (turn + 1)) = omega arith in
-    subst (λ left. Walk size words sums flags left n) one walk
+walk_left size words sums flags turn n more walk = grind arith
 
 pub marked : (size n : ℕ) (flags : List Bool) (seen : List ℕ) → n < length flags
     → Marks size flags seen → Marks size (set flags n true) (n ∷ seen)
@@ -68,13 +61,8 @@ marked size n flags seen within marks q = by_test (n == q) refl
     by_test : (b : Bool) → (n == q) ≡ b → get_or (set flags n true) q true
         ≡ (nat_le size q || ((n == q) || list_any (λ m. m == q) seen))
     by_test true e =
-        ap (λ k. get_or (set flags n true) k true) (sym (same_of e))
-        ∙ get_or-set_same flags n true true within
-        ∙ sym (ap (λ b. nat_le size q || (b || list_any (λ m. m == q) seen)) e
-        ∙ or-true (nat_le size q))
-    by_test false e =
-        get_or-set_other flags n q true true (other_of e) ∙ marks q
-        ∙ sym (ap (λ b. nat_le size q || (b || list_any (λ m. m == q) seen)) e)
+        cc (same_of e, get_or-set_same flags n true true within, or-true (nat_le size q))
+    by_test false e = cc (get_or-set_other flags n q true true (other_of e), marks q)
 
 -- a node, and what follows it
 onward : (size : ℕ) (words : List ℕ) (sums : Amounts) (flags : List Bool) (left n : ℕ)
@@ -84,17 +72,7 @@ onward : (size : ℕ) (words : List ℕ) (sums : Amounts) (flags : List Bool) (l
     → added (added sums (node_parts words n)) (parts_after size words left walk.seen n ends back)
     ≡ collected (chain_parts size words)
 onward size words sums flags left n walk ends back within is_end is_back =
-    let marks : Marks size (set flags n true) (n ∷ walk.seen) = marked size n flags walk.seen within
-    walk.marks in
-    let right : ℕ = right_of words n in
-    let test : Bool = (nat_le size right || list_any (λ m. m == right) (n ∷ walk.seen)) in
-    let sums' : Amounts = added sums (node_parts words n) in
-    sym (ap (λ b. added sums' (parts_after size words left walk.seen n b test)) is_end
-    ∙ ap (λ b. added sums' (parts_after size words left walk.seen n ends b))
-    (sym (marks right) ∙ is_back))
-    ∙ sym (added-append (node_parts words n)
-    (parts_after size words left walk.seen n (right == 0) test) sums)
-    ∙ walk.rest
+    grind (arith, sums, left, ends, back, within, marked, added, added-append)
 
 -- at the node where the chain ends
 pub walk_ends : (size : ℕ) (words : List ℕ) (sums t : Amounts) (flags : List Bool) (left n : ℕ)

@@ -20,9 +20,8 @@ link_untouched : (w : ℕ) (changed : List ℕ) → w % 12 ≡ 3 → has_link ch
 link_untouched w [] at unlinked = refl
 link_untouched w (x ∷ changed) at unlinked =
     let both = neither_true (x % 12 == 3) (has_link changed) unlinked in
-    let apart : x ≢ w = λ same. apart_of (x % 12) 3 both.0 (ap (λ k. k % 12) same ∙ at) in
-    ap (λ b. b || list_any (λ y. y == w) changed) (isnt_same x w apart)
-    ∙ link_untouched w changed at both.1
+    let apart : x ≢ w = λ same. apart_of (x % 12) 3 both.0 (cc) in
+    cc (isnt_same x w apart, link_untouched w changed at both.1)
 
 -- what follows a node on the chain, and whether that is damage
 abbrev nodes_by : Bool → Bool → List ℕ → List ℕ
@@ -116,18 +115,7 @@ module _ (before words changed : List ℕ) (elsewhere : AgreeElsewhere before wo
 
 no_entry : (n node j : ℕ) → entry_pair (replicate n 0) node j ≡ (0, 0)
 no_entry n node j =
-    ap (λ (k : ℕ). cond {A = ℕ × ℕ} (nat_lt j k)
-    (cond {A = ℕ × ℕ} (nat_lt (node_word (replicate n 0) node (4 + j)) (2 ^ 32)
-    && nat_lt (node_word (replicate n 0) node (8 + j)) (2 ^ 32))
-    (node_word (replicate n 0) node (4 + j), 2 ^ 32 + node_word (replicate n 0) node (8 + j))
-    (2 ^ 33, 1))
-    (0, 0)) (zeros n (12 * node + 1))
-    ∙ ap (λ (b : Bool). cond {A = ℕ × ℕ} b
-    (cond {A = ℕ × ℕ} (nat_lt (node_word (replicate n 0) node (4 + j)) (2 ^ 32)
-    && nat_lt (node_word (replicate n 0) node (8 + j)) (2 ^ 32))
-    (node_word (replicate n 0) node (4 + j), 2 ^ 32 + node_word (replicate n 0) node (8 + j))
-    (2 ^ 33, 1))
-    (0, 0)) (isnt_below j 0 (omega arith))
+    cc (zeros n (12 * node + 1), isnt_below j 0 (omega arith))
 
 pub no_node : (n : ℕ) (marks : List Bool) (m : ℕ) → node_pair (replicate n 0) marks m ≡ (0, 0)
 no_node n marks m = by_mark (get_or marks (m / 4) false)

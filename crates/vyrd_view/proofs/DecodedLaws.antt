@@ -1,15 +1,15 @@
 -- Words that are decoded part by part: what is in which place, and what a changed word leaves.
 use Rattle.std.proofs.Common.{◌≡◌, ℕ, zero, suc, ◌+◌, ◌-◌, ◌*◌, ◌/◌, ◌%◌, ◌<◌, ◌≤◌, Bool, true}
-use Rattle.std.proofs.Common.{false, ◌||◌, List, [], ◌∷◌, ◌++◌, length, map, get_or}
+use Rattle.std.proofs.Common.{false, List, [], ◌∷◌, length, map, get_or}
 use Rattle.std.proofs.Common.{set, drop}
-use Rattle.std.proofs.Common.{take, replicate, refl, ap, ◌∙◌, sym, subst, arith}
+use Rattle.std.proofs.Common.{take, refl, ap, ◌∙◌, sym, arith}
 use Rattle.std.proofs.Common.{get_or-set_same, get_or-set_other}
 use Rattle.std.specs.Prelude.{◌==◌, ◌≢◌}
 use Rattle.std.specs.List.{list_any}
-use Rattle.std.proofs.lemmas.List.{same_lists, take-replicate, drop-replicate, length-take}
+use Rattle.std.proofs.lemmas.List.{same_lists, length-take}
 use Rattle.std.proofs.lemmas.List.{length-drop, get_or_default}
 use Rattle.std.proofs.lemmas.Nat.{div-mul-add}
-use Rattle.std.proofs.Math.Nat.{mul-le-mul_right, div-add-mod, div-lt_iff_lt-mul, mod-lt}
+use Rattle.std.proofs.Math.Nat.{div-add-mod, div-lt_iff_lt-mul}
 use Rattle.vyrd_base.specs.Places.{numbers_below}
 use Rattle.vyrd_base.specs.Amounts.{Amounts, plus_amount, collected, given, part_given}
 use Rattle.vyrd_base.proofs.AddedLaws.{collected-append}
@@ -25,37 +25,18 @@ use Rattle.vyrd_view.specs.Laws.Sums.{mapped-push, given_map_push, own_word}
 
 -- a part ends within all parts
 pub part_within : (part parts width : ℕ) → part < parts → part * width + width ≤ parts * width
-part_within part parts width low =
-    let up : (part + 1) * width ≤ parts * width = mul-le-mul_right width (omega (arith, low)) in
-    let next : (part + 1) * width ≡ part * width + width = omega arith in
-    omega (arith, up, next)
+part_within part parts width low = grind (arith, parts)
 
 -- so does a place of it
 pub place_within : (part parts places j : ℕ) → part < parts → j < places
     → part * places + j < parts * places
-place_within part parts places j low inside =
-    omega (arith, part_within part parts places low, inside)
+place_within part parts places j low inside = search (part_within, parts, arith)
 
 -- the words of a part are as many as a part has
 pub own_length : (width part parts : ℕ) (words : List ℕ) → part < parts
     → length words ≡ parts * width → length (words_of width part words) ≡ width
 own_length width part parts words low count =
-    let all : part * width + width - part * width ≡ width = omega arith in
-    let enough : part * width + width ≤ length words =
-    omega (arith, part_within part parts width low, count) in
-    ap (λ n. length (take n (drop (part * width) words))) all
-    ∙ length-take width (drop (part * width) words)
-    ∙ omega (arith, length-drop (part * width) words, enough)
-
--- a part of zeroed words
-pub own_zeros : (width part parts : ℕ) → part < parts
-    → words_of width part (replicate (parts * width) 0) ≡ replicate width 0
-own_zeros width part parts low =
-    let all : part * width + width - part * width ≡ width = omega arith in
-    ap (λ n. take n (drop (part * width) (replicate (parts * width) 0))) all
-    ∙ ap (take width) (drop-replicate (part * width) (parts * width) 0)
-    ∙ take-replicate width (parts * width - part * width) 0
-    (omega (arith, part_within part parts width low))
+    grind (arith, parts, count, part_within, length-take, length-drop)
 
 -- the part of a word, and of a place
 pub part_of_within : (n parts width : ℕ) → n < parts * width → n / width < parts
@@ -63,9 +44,7 @@ part_of_within n parts zero low = absurd (omega (arith, low))
 part_of_within n parts (suc w) low = (div-lt_iff_lt-mul (omega arith)).1 low
 
 pub is_place : (places m : ℕ) → (m / places) * places + m % places ≡ m
-is_place places m =
-    let swapped : (m / places) * places ≡ places * (m / places) = omega arith in
-    omega (arith, swapped, div-add-mod m places)
+is_place places m = grind (arith, div-add-mod m places)
 
 module _ (width places parts : ℕ) (gives : Gives) where
   -- all pairs are given by some words
@@ -121,9 +100,8 @@ pub word_untouched : (size part w : ℕ) (changed : List ℕ) → w / size ≡ p
 word_untouched size part w [] at untouched = refl
 word_untouched size part w (x ∷ changed) at untouched =
     let both = neither_true (x / size == part) (is_touched size part changed) untouched in
-    let apart : x ≢ w = λ same. apart_of (x / size) part both.0 (ap (λ k. k / size) same ∙ at) in
-    ap (λ b. b || list_any (λ y. y == w) changed) (isnt_same x w apart)
-    ∙ word_untouched size part w changed at both.1
+    let apart : x ≢ w = λ same. apart_of (x / size) part both.0 (cc) in
+    cc (isnt_same x w apart, word_untouched size part w changed at both.1)
 
 -- so its part has the words of before
 pub own_untouched : (width part parts : ℕ) (before words changed : List ℕ) → part < parts
@@ -150,10 +128,7 @@ pub sums_more : (f : ℕ → ℕ × ℕ) (m n : ℕ) (s t : Amounts) (p : ℕ ×
     → s ≡ collected (map f (numbers_below m)) → t ≡ plus_amount s p.0 p.1 → p ≡ f m → n ≡ m + 1
     → t ≡ collected (map f (numbers_below n))
 sums_more f m n s t p is more here next =
-    more ∙ ap (λ x. plus_amount x p.0 p.1) is
-    ∙ sym (collected-append (map f (numbers_below m)) (p ∷ []))
-    ∙ ap (λ q. collected (map f (numbers_below m) ++ q ∷ [])) here
-    ∙ ap collected (sym (mapped-push f m) ∙ ap (λ k. map f (numbers_below k)) (sym next))
+    grind (arith, more, here, collected-append, collected, mapped-push)
 
 -- and one that gives nothing
 pub sums_same : (f : ℕ → ℕ × ℕ) (m n : ℕ) (s t : Amounts) (p : ℕ × ℕ)
@@ -195,10 +170,7 @@ place_inside f part places place pairs pair within is before j low = by_test (j 
         → get_or (set pairs (part * places + place) pair) (part * places + j) (0, 0)
         ≡ f (part * places + j)
     by_test true e =
-        let same : j ≡ place = same_of j place e in
-        ap (λ k. get_or (set pairs (part * places + place) pair) (part * places + k) (0, 0)) same
-        ∙ get_or-set_same pairs (part * places + place) pair (0, 0) within ∙ is
-        ∙ ap (λ k. f (part * places + k)) (sym same)
+        cc (same_of j place e, get_or-set_same pairs (part * places + place) pair (0, 0) within)
     by_test false e =
         let other : j ≢ place = apart_of j place e in
         let apart : part * places + j ≢ part * places + place =
@@ -211,19 +183,14 @@ place_inside f part places place pairs pair within is before j low = by_test (j 
 pub place_outside : (part places place : ℕ) (pairs : List (ℕ × ℕ)) (pair : ℕ × ℕ)
     → place < places → (m : ℕ) → m / places ≢ part
     → get_or (set pairs (part * places + place) pair) m (0, 0) ≡ get_or pairs m (0, 0)
-place_outside part places place pairs pair low m other =
-    get_or-set_other pairs (part * places + place) m pair (0, 0)
-    (λ same. other (ap (λ k. k / places) same ∙ div-mul-add part places place low))
+place_outside part places place pairs pair low m other = grind (arith, get_or-set_other)
 
 -- the places of a part are all that divide to it
 pub part_places : (f : ℕ → ℕ × ℕ) (now : List (ℕ × ℕ)) (places part : ℕ)
     → ((j : ℕ) → j < places → get_or now (part * places + j) (0, 0) ≡ f (part * places + j))
     → (before : List (ℕ × ℕ)) → 1 ≤ places
     → (m : ℕ) → m < length before → m / places ≡ part → get_or now m (0, 0) ≡ f m
-part_places f now places part each before some m low at =
-    let whole : part * places + m % places ≡ m =
-    ap (λ p. p * places + m % places) (sym at) ∙ is_place places m in
-    subst (λ k. get_or now k (0, 0) ≡ f k) whole (each (m % places) (mod-lt m some))
+part_places f now places part each before some m low at = search (is_place, arith)
 
 -- ---- what is kept of the words before
 

@@ -1,6 +1,6 @@
 -- What is kept, and what one pair of it gives.
 use Rattle.std.proofs.Common.{◌≡◌, ℕ, zero, suc, ◌<◌, ◌≤◌, Bool, true, false, List, [], ◌∷◌, ◌++◌}
-use Rattle.std.proofs.Common.{length, get_or, refl, ap, arith}
+use Rattle.std.proofs.Common.{length, get_or, refl, arith}
 use Rattle.std.specs.Prelude.{nat_lt}
 use Rattle.std.proofs.lemmas.List.{get_or_past}
 use Rattle.vyrd_base.proofs.SumLaws.{own_part}
@@ -26,17 +26,14 @@ nothing_at_most most pairs none i = by_place (nat_lt i (length pairs)) refl
 
     by_place : (b : Bool) → nat_lt i (length pairs) ≡ b → (get_or pairs i (0, 0)).1 ≤ most
     by_place true e =
-        let low : i < length pairs = below_of i (length pairs) e in
-        omega (
+        grind (
           arith,
-          part-le-given pair.0 pairs i (0, 0) low,
-          own_part pair.0 pair.1,
+          part-le-given pair.0 pairs i (0, 0) (below_of i (length pairs) e),
+          own_part
+              pair.0 pair.1,
           none pair.0,
         )
-    by_place false e = omega (
-      arith,
-      ap (λ (p : ℕ × ℕ). p.1) (get_or_past pairs i (0, 0) (not_below_of i (length pairs) e)),
-    )
+    by_place false e = grind (arith, get_or_past pairs i (0, 0) (not_below_of i (length pairs) e))
 
 -- one pair more
 pub each-push : (most : ℕ) (pairs : List (ℕ × ℕ)) (pair : ℕ × ℕ) → pair.1 ≤ most
@@ -52,5 +49,4 @@ pub all_kept : (kept : ComparedKept) (pairs : List (ℕ × ℕ)) (specified : Am
     → kept.pairs ≡ pairs → kept.specified ≡ specified
     → kept.refused ≡ refused
     → kept ≡ record { pairs = pairs; specified = specified; refused = refused }
-all_kept kept pairs specified refused p s r =
-    λ i. record { pairs = p i; specified = s i; refused = r i }
+all_kept kept pairs specified refused p s r = search (refused, arith)

@@ -1,6 +1,6 @@
 -- Pairs in places, as a loop over changed words brings them up to date.
 use Rattle.std.proofs.Common.{◌≡◌, ℕ, suc, ◌+◌, ◌/◌, ◌<◌, ◌≤◌, Bool, true, false, ◌||◌, List, []}
-use Rattle.std.proofs.Common.{◌∷◌, length, map, get_or, set, drop, refl, ap, ◌∙◌, sym, arith}
+use Rattle.std.proofs.Common.{◌∷◌, length, map, get_or, set, drop, refl, ap, ◌∙◌, arith}
 use Rattle.std.proofs.Common.{get_or-set_same, get_or-set_other}
 use Rattle.std.specs.Prelude.{◌==◌, ◌≢◌}
 use Rattle.std.proofs.lemmas.List.{drop_more, drop_all}
@@ -15,15 +15,8 @@ pub each-set : (most : ℕ) (pairs : List (ℕ × ℕ)) (place : ℕ) (pair : �
 each-set most pairs place pair low small each i = by_test (i == place) refl
   where
     by_test : (b : Bool) → (i == place) ≡ b → (get_or (set pairs place pair) i (0, 0)).1 ≤ most
-    by_test true e =
-        let here : (get_or (set pairs place pair) i (0, 0)).1 ≡ pair.1 =
-        ap (λ k. (get_or (set pairs place pair) k (0, 0)).1) (same_of i place e)
-        ∙ ap (λ p. p.1) (get_or-set_same pairs place pair (0, 0) low) in
-        omega (arith, here, small)
-    by_test false e =
-        let there : (get_or (set pairs place pair) i (0, 0)).1 ≡ (get_or pairs i (0, 0)).1 =
-        ap (λ p. p.1) (get_or-set_other pairs place i pair (0, 0) (apart_of i place e)) in
-        omega (arith, there, each i)
+    by_test true e = grind (arith, same_of i place e, get_or-set_same pairs place pair (0, 0) low)
+    by_test false e = search (get_or-set_other, apart_of, arith)
 
 -- one word more that is looked at
 pub touched_more : (size i : ℕ) (changed : List ℕ) (index : ℕ) → index < length changed
@@ -35,9 +28,7 @@ pub untouched_rest : (size i : ℕ) (changed : List ℕ) (index : ℕ) → index
     → (get_or changed index 0 / size == i) ≡ false
     → is_touched size i (drop (index + 1) changed) ≡ false → is_touched size i (drop index changed)
     ≡ false
-untouched_rest size i changed index low apart rest =
-    touched_more size i changed index low
-    ∙ ap (λ b. b || is_touched size i (drop (index + 1) changed)) apart ∙ rest
+untouched_rest size i changed index low apart rest = grind (arith, changed, apart, touched_more)
 
 pub untouched_end : (size i : ℕ) (changed : List ℕ) (index : ℕ) → length changed ≤ index
     → is_touched size i (drop index changed) ≡ false
@@ -58,10 +49,7 @@ mapped_from f (p ∷ pairs) k each =
 pub mapped : (f : ℕ → ℕ × ℕ) (pairs : List (ℕ × ℕ)) (n : ℕ) → length pairs ≡ n
     → ((i : ℕ) → i < n → get_or pairs i (0, 0) ≡ f i)
     → pairs ≡ map f (numbers_below n)
-mapped f pairs n is each =
-    mapped_from f pairs 0 (λ i low. let at : 0 + i ≡ i = omega arith in each i (omega (arith, low))
-    ∙ ap f (sym at))
-    ∙ ap (λ m. map f (numbers_below m)) is
+mapped f pairs n is each = grind (arith, mapped_from)
 
 -- the places of the parts that none of the words left is in are up to date, where each part has as
 -- many places as `places` says
@@ -80,15 +68,5 @@ pub parts_fresh_more : (size places : ℕ) (f : ℕ → ℕ × ℕ) (pairs now :
     (0, 0))
     → ArePartsFresh size places f pairs (drop index changed)
     → ArePartsFresh size places f now (drop (index + 1) changed)
-parts_fresh_more size places f pairs now changed index low count here there fresh m inside rest =
-    by_test (get_or changed index 0 / size == m / places) refl
-  where
-    within : m < length pairs
-    within = omega (arith, inside, count)
-
-    by_test : (b : Bool) → (get_or changed index 0 / size == m / places) ≡ b → get_or now m (0, 0)
-        ≡ f m
-    by_test true e = here m within (sym (same_of (get_or changed index 0 / size) (m / places) e))
-    by_test false e =
-        there m (λ same. apart_of (get_or changed index 0 / size) (m / places) e (sym same))
-        ∙ fresh m within (untouched_rest size (m / places) changed index low e rest)
+parts_fresh_more size places f pairs now changed index low count here there fresh =
+    grind (arith, changed, count, here, there, same_of, apart_of, untouched_rest)

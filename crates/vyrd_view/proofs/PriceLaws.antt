@@ -1,5 +1,5 @@
 -- What changed words cost at most, summed word by word.
-use Rattle.std.proofs.Common.{◌≡◌, ℕ, suc, ◌+◌, ◌*◌, ◌%◌, ◌≤◌, Bool, true, false, not, cond, ◌||◌}
+use Rattle.std.proofs.Common.{◌≡◌, ℕ, suc, ◌+◌, ◌*◌, ◌%◌, ◌≤◌, Bool, not, cond, ◌||◌}
 use Rattle.std.proofs.Common.{List, [], ◌∷◌, length, get_or, arith}
 use Rattle.std.specs.Prelude.{◌==◌}
 use Rattle.std.specs.List.{sum_by}
@@ -36,10 +36,7 @@ nodes_price size (w ∷ words) =
         ≡ 9 * (1 + cond here size 0) + sum_by (λ w. 9 * (1 + nodes_led_to Tree size w)) words
         → (suc (length words) + cond (here || rest) size 0) * 9
         ≤ sum_by (λ w. 9 * (1 + nodes_led_to Tree size w)) (w ∷ words)
-    by_tests true true more all = omega (arith, more, all)
-    by_tests true false more all = omega (arith, more, all)
-    by_tests false true more all = omega (arith, more, all)
-    by_tests false false more all = omega (arith, more, all)
+    by_tests here rest more all = search (more, arith)
 
 -- some of the words cost no more than all of them
 pub fewer_price : (f : ℕ → ℕ) (before words changed : List ℕ)
@@ -51,13 +48,7 @@ fewer_price f before words (w ∷ changed) =
     by_test : (same : Bool) → sum_by f (differing before words changed) ≤ sum_by f changed
         → sum_by f (cond (not same) (w ∷ differing before words changed)
         (differing before words changed)) ≤ sum_by f (w ∷ changed)
-    by_test true more = omega (arith, more, one_more f w changed)
-    by_test false more = omega (
-      arith,
-      more,
-      one_more f w changed,
-      one_more f w (differing before words changed),
-    )
+    by_test same more = search (more, one_more, changed, arith)
 
 -- the parts that are looked at cost no more than the changed words
 pub parts_price : (subject : Subject) (size : ℕ) (before words changed : List ℕ)
@@ -65,10 +56,6 @@ pub parts_price : (subject : Subject) (size : ℕ) (before words changed : List 
     ≤ sum_by (λ w. (1 + 2 * keys_of_part subject) * (1 + nodes_led_to subject size w)) changed
 parts_price Multiset size before words changed = omega (arith, same_price 3 changed)
 parts_price Cache size before words changed = omega (arith, same_price 5 changed)
-parts_price Tree size before words changed = omega (
-  arith,
-  nodes_price size (differing before words changed),
-  fewer_price (λ w. 9 * (1 + nodes_led_to Tree size w)) before words changed,
-)
+parts_price Tree size before words changed = search (nodes_price, changed, fewer_price, arith)
 parts_price Buffers size before words changed = omega (arith, same_price 3 changed)
 parts_price Own size before words changed = omega (arith, same_price 1 changed)

@@ -91,6 +91,5 @@ first_walked size n some =
           (get_or-replicate (4 * size + 1) (4 * size) (0, 0) (0, 0) (omega arith)
           ∙ sym (ap end_pair (end_is_whole n size some)))
           ∙ ap (λ k. map (tree_pair k (replicate n 0)) (numbers_below (4 * k + 1))) (sym count);
-      marked = λ i low. first_is_marked n size i some
-          ∙ ap (λ k. is_on_chain k (replicate n 0) i) (sym count);
+      marked = λ i low. cc (first_is_marked n size i some);
     }

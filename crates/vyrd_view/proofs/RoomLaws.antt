@@ -1,6 +1,6 @@
 -- Words of which the last ones have no room of their own, since they are 0.
 use Rattle.std.proofs.Common.{◌≡◌, ℕ, zero, suc, ◌+◌, ◌-◌, ◌*◌, ◌/◌, ◌%◌, ◌<◌, ◌≤◌, Bool, true}
-use Rattle.std.proofs.Common.{false, ◌||◌}
+use Rattle.std.proofs.Common.{false}
 use Rattle.std.proofs.Common.{List, [], ◌∷◌, ◌++◌, length, map, get_or, take, drop, replicate, All}
 use Rattle.std.proofs.Common.{refl, ap, ◌∙◌}
 use Rattle.std.proofs.Common.{sym, subst, arith}
@@ -11,15 +11,15 @@ use Rattle.std.proofs.lemmas.List.{append_assoc, append-nil, drop_all, take_all}
 use Rattle.std.proofs.lemmas.List.{get_or_append_left, get_or-append_right, get_or_past}
 use Rattle.std.proofs.lemmas.List.{get_or-take}
 use Rattle.std.proofs.lemmas.List.{get_or-replicate}
-use Rattle.std.proofs.lemmas.List.Elements.{All-head, All-tail, All-weaker}
+use Rattle.std.proofs.lemmas.List.Elements.{All-head, All-tail}
 use Rattle.std.proofs.lemmas.Nat.{div-mul-add, mod-mul-add}
-use Rattle.std.proofs.Math.Nat.{mul-le-mul_right, le-div_iff_mul-le, mod-lt}
+use Rattle.std.proofs.Math.Nat.{mul-le-mul_right, le-div_iff_mul-le}
 use Rattle.vyrd_base.specs.Places.{numbers_below}
 use Rattle.vyrd_base.specs.Amounts.{collected, given}
 use Rattle.vyrd_base.proofs.AmountLaws.{same_amounts}
 use Rattle.vyrd_base.proofs.PlaceLaws.{element_below, length_below}
 use Rattle.vyrd_base.proofs.SumLaws.{amount_of-collected, IsAmounts-collected, part_at_most}
-use Rattle.vyrd_base.proofs.TestLaws.{below_of, not_below_of, isnt_same, same_of, apart_of}
+use Rattle.vyrd_base.proofs.TestLaws.{below_of, not_below_of, isnt_same}
 use Rattle.vyrd_view.specs.Comparing.{AgreeElsewhere}
 use Rattle.vyrd_view.specs.Decoded.{Gives, HaveRoom, words_of, pair_at, pairs_by, padded}
 use Rattle.vyrd_view.specs.Pairs.{is_touched}
@@ -56,10 +56,7 @@ padded_index count words w = by_place (nat_lt w (length words)) refl
 
 pub padded_length : (count : ℕ) (words : List ℕ) → length words ≤ count
     → length (padded count words) ≡ count
-padded_length count words few =
-    length-append words (replicate (count - length words) 0)
-    ∙ ap (λ n. length words + n) (length-replicate (count - length words) 0)
-    ∙ omega (arith, few)
+padded_length count words few = grind (arith, count, few, length-append, length-replicate)
 
 -- the zeroes may come at once or one after another
 pub padded_again : (n count : ℕ) (words : List ℕ) → length words ≤ n → n ≤ count
@@ -72,42 +69,25 @@ padded_again n count words few less =
     (λ w low. padded_index count (padded n words) w ∙ padded_index n words w
     ∙ sym (padded_index count words w))
 
--- as many words as there are
-pub padded_full : (n : ℕ) (words : List ℕ) → length words ≡ n → padded n words ≡ words
-padded_full n words count =
-    ext_get_or 0 (padded n words) words
-    (padded_length n words (omega (arith, count)) ∙ sym count)
-    (λ w low. padded_index n words w)
-
 -- zeroes alone
 pub padded_nothing : (n : ℕ) → padded n [] ≡ replicate n 0
-padded_nothing n =
-    let all : n - 0 ≡ n = omega arith in
-    ap (λ k. replicate k 0) all
+padded_nothing n = grind arith
 
 -- words that lie in some parts lie in more
 pub within_more : (few more width : ℕ) (changed : List ℕ) → few ≤ more
     → All (λ w. w < few * width) changed → All (λ w. w < more * width) changed
-within_more few more width changed up within =
-    All-weaker (λ w. w < few * width) (λ w. w < more * width)
-    (λ w low. omega (arith, low, mul-le-mul_right width up)) changed within
+within_more few more width changed up within = grind (arith, few, more, changed, within)
 
 -- a word lies before the end of its part
 pub in_its_part : (w width : ℕ) → 1 ≤ width → w < (w / width + 1) * width
-in_its_part w width some =
-    let next : (w / width + 1) * width ≡ (w / width) * width + width = omega arith in
-    omega (arith, is_place width w, mod-lt w some, next)
+in_its_part w width some = grind (arith, is_place)
 
 -- one word more that lies in some parts
 pub one_more_within : (changed : List ℕ) (index few more width : ℕ)
     → ((i : ℕ) → i < index → get_or changed i 0 < few * width) → few * width ≤ more * width
     → get_or changed index 0 < more * width → (i : ℕ) → i < index + 1
     → get_or changed i 0 < more * width
-one_more_within changed index few more width before up here i low = by_place (i == index) refl
-  where
-    by_place : (b : Bool) → (i == index) ≡ b → get_or changed i 0 < more * width
-    by_place true e = omega (arith, here, ap (λ k. get_or changed k 0) (same_of i index e))
-    by_place false e = omega (arith, up, before i (omega (arith, low, apart_of i index e)))
+one_more_within changed index few more width before up here i low = grind arith
 
 -- ---- the places of parts of zeroed words
 
@@ -116,10 +96,7 @@ pub quiet_more : (given : ℕ → ℕ × ℕ) (first s t : List (ℕ × ℕ)) (p
     → s ≡ first ++ map given (numbers_below place) → t ≡ s ++ pair ∷ [] → pair ≡ given place
     → t ≡ first ++ map given (numbers_below (place + 1))
 quiet_more given first s t place pair before now is =
-    now ∙ ap (λ xs. xs ++ pair ∷ []) before
-    ∙ append_assoc first (map given (numbers_below place)) (pair ∷ [])
-    ∙ ap (λ p. first ++ (map given (numbers_below place) ++ p ∷ [])) is
-    ∙ ap (λ xs. first ++ xs) (sym (mapped-push given place))
+    grind (arith, given, append_assoc, mapped-push)
 
 -- one part more
 module _ (width places part : ℕ) (gives : Gives) (first s t : List (ℕ × ℕ)) (some : 1 ≤ places)
@@ -171,8 +148,7 @@ not_among n w [] low high = refl
 not_among n w (x ∷ xs) low high =
     let apart : x ≢ w = λ same. absurd
     (omega (arith, same, All-head (λ y. y < n) x xs low, high)) in
-    ap (λ b. b || list_any (λ y. y == w) xs) (isnt_same x w apart)
-    ∙ not_among n w xs (All-tail (λ y. y < n) x xs low) high
+    cc (isnt_same x w apart, not_among n w xs (All-tail (λ y. y < n) x xs low) high)
 
 module _ (count : ℕ) (before words changed : List ℕ) (all : length words ≡ count)
     (few : length before ≤ count)
@@ -399,8 +375,7 @@ module _ (width places parts held : ℕ) (gives : Gives) (before words changed :
 pub room_length : (width places parts held : ℕ) (gives : Gives) (words : List ℕ)
     (pairs : List (ℕ × ℕ)) → HaveRoom width places parts held gives words pairs
     → length (padded (parts * width) words) ≡ parts * width
-room_length width places parts held gives words pairs room =
-    padded_length (parts * width) words (omega (arith, room.count, mul-le-mul_right width room.few))
+room_length width places parts held gives words pairs room = search (padded_length, parts, arith)
 
 -- what a call leaves that changes all words of a list
 pub written_back : (n : ℕ) (xs ys : List ℕ) → n ≡ length ys → length xs ≡ length ys

@@ -1,12 +1,12 @@
 -- The pairs of a tree's places give each key what the chain of leaves shows of it.
-use Rattle.std.proofs.Common.{◌≡◌, ℕ, zero, suc, ◌+◌, ◌*◌, ◌/◌, ◌%◌, ◌^◌, ◌<◌, ◌≤◌, min, Bool, true}
-use Rattle.std.proofs.Common.{false, cond, ◌&&◌, ◌||◌, List, [], ◌∷◌, ◌++◌, map, refl, ap, ◌∙◌, sym}
+use Rattle.std.proofs.Common.{◌≡◌, ℕ, zero, suc, ◌+◌, ◌*◌, ◌/◌, ◌%◌, ◌<◌, ◌≤◌, min, Bool, true}
+use Rattle.std.proofs.Common.{false, cond, ◌||◌, List, [], ◌∷◌, ◌++◌, map, refl, ap, ◌∙◌, sym}
 use Rattle.std.proofs.Common.{arith}
 use Rattle.std.specs.Prelude.{◌==◌, nat_lt, nat_le, flat_map}
 use Rattle.std.specs.List.{list_any}
 use Rattle.std.proofs.Math.Bool.{or-false}
 use Rattle.vyrd_base.specs.Places.{numbers_below}
-use Rattle.vyrd_base.specs.Tree.{node_word, count_of, right_of, node_parts, damage}
+use Rattle.vyrd_base.specs.Tree.{count_of, right_of, node_parts, damage}
 use Rattle.vyrd_base.specs.Tree.{chain_parts_from, chain_parts}
 use Rattle.vyrd_base.specs.Amounts.{given, part_given}
 use Rattle.vyrd_base.proofs.SumLaws.{given-append, nothing_given}
@@ -22,33 +22,11 @@ use Rattle.vyrd_view.proofs.TreePairLaws.{tree_pair_end}
 -- what an entry within the count gives
 entry_within : (q : ℕ) (words : List ℕ) (n j : ℕ) → nat_lt j (count_of words n) ≡ true
     → part_given q (entry_pair words n j) ≡ given q (place_parts words n j)
-entry_within q words n j low =
-    ap (λ (b : Bool). part_given q (cond {A = ℕ × ℕ} b
-    (cond {A = ℕ × ℕ} (nat_lt (node_word words n (4 + j)) (2 ^ 32)
-    && nat_lt (node_word words n (8 + j)) (2 ^ 32))
-    (node_word words n (4 + j), 2 ^ 32 + node_word words n (8 + j)) (2 ^ 33, 1))
-    (0, 0))) low
-    ∙ by_value (nat_lt (node_word words n (4 + j)) (2 ^ 32) && nat_lt (node_word words n (8 + j))
-    (2 ^ 32))
-  where
-    by_value : (b : Bool)
-        → part_given q
-        (cond {A = ℕ × ℕ} b (node_word words n (4 + j), 2 ^ 32 + node_word words n (8 + j))
-        (2 ^ 33, 1))
-        ≡ given q (cond {A = List (ℕ × ℕ)} b
-        ((node_word words n (4 + j), 2 ^ 32 + node_word words n (8 + j)) ∷ []) damage)
-    by_value true = omega arith
-    by_value false = omega arith
+entry_within q words n j low = grind (arith, given)
 
 entry_past : (q : ℕ) (words : List ℕ) (n j : ℕ) → nat_lt j (count_of words n) ≡ false
     → part_given q (entry_pair words n j) ≡ 0
-entry_past q words n j high =
-    ap (λ (b : Bool). part_given q (cond {A = ℕ × ℕ} b
-    (cond {A = ℕ × ℕ} (nat_lt (node_word words n (4 + j)) (2 ^ 32)
-    && nat_lt (node_word words n (8 + j)) (2 ^ 32))
-    (node_word words n (4 + j), 2 ^ 32 + node_word words n (8 + j)) (2 ^ 33, 1))
-    (0, 0))) high
-    ∙ nothing_given q 0
+entry_past q words n j high = grind (arith, nothing_given)
 
 -- what the first entries give
 abbrev first_entries : ℕ → List ℕ → ℕ → ℕ → ℕ
@@ -57,9 +35,7 @@ first_entries q words n (suc k) = first_entries q words n k + part_given q (entr
 
 entries_give : (q : ℕ) (words : List ℕ) (n k : ℕ) → first_entries q words n k
     ≡ given q (flat_map (place_parts words n) (numbers_below (min (count_of words n) k)))
-entries_give q words n zero =
-    let none : min (count_of words n) 0 ≡ 0 = omega arith in
-    sym (ap (λ m. given q (flat_map (place_parts words n) (numbers_below m))) none)
+entries_give q words n zero = grind arith
 entries_give q words n (suc k) = by_test (nat_lt k (count_of words n)) refl
     (entries_give q words n k)
   where
@@ -69,23 +45,14 @@ entries_give q words n (suc k) = by_test (nat_lt k (count_of words n)) refl
         → first_entries q words n k + part_given q (entry_pair words n k)
         ≡ given q (flat_map (place_parts words n) (numbers_below (min (count_of words n) (suc k))))
     by_test true e before =
-        let low : k < count_of words n = below_of k (count_of words n) e in
-        let all : min (count_of words n) k ≡ k = omega (arith, low) in
-        let more : k + 1 ≡ min (count_of words n) (suc k) = omega (arith, low) in
-        omega (
+        grind (
           arith,
-          before,
-          ap (λ m. given q (flat_map (place_parts words n) (numbers_below m))) all,
+          below_of k (count_of words n) e,
           entry_within q words n k e,
-          given_flat_push q (place_parts words n) k,
+          given_flat_push q
+              (place_parts words n) k,
         )
-        ∙ ap (λ m. given q (flat_map (place_parts words n) (numbers_below m))) more
-    by_test false e before =
-        let high : count_of words n ≤ k = not_below_of k (count_of words n) e in
-        let same : min (count_of words n) k ≡ min (count_of words n) (suc k) =
-        omega (arith, high) in
-        omega (arith, before, entry_past q words n k e)
-        ∙ ap (λ m. given q (flat_map (place_parts words n) (numbers_below m))) same
+    by_test false e before = search (not_below_of, entry_past, given, arith)
 
 node_gives : (q : ℕ) (words : List ℕ) (n : ℕ) → first_entries q words n 4
     ≡ given q (node_parts words n)
@@ -99,14 +66,7 @@ marked_sum q words test (suc k) = marked_sum q words test k + cond (test k)
 
 same_marks : (q : ℕ) (words : List ℕ) (f g : ℕ → Bool) (k : ℕ) → ((i : ℕ) → f i ≡ g i)
     → marked_sum q words f k ≡ marked_sum q words g k
-same_marks q words f g zero same = refl
-same_marks q words f g (suc k) same =
-    omega (
-      arith,
-      same_marks q words f g k same,
-      ap (λ b. cond b (given q (node_parts words k)) 0)
-          (same k),
-    )
+same_marks q words f g k same = grind (arith, given)
 
 no_marks : (q : ℕ) (words : List ℕ) (k : ℕ) → marked_sum q words (λ i. false) k ≡ 0
 no_marks q words zero = refl
@@ -139,27 +99,10 @@ mark_more q words f m (suc k) low new = by_test (m == k) refl (mark_more q words
         (given q (node_parts words k)) 0
         ≡ marked_sum q words f k + cond (f k) (given q (node_parts words k)) 0
         + given q (node_parts words m)
-    by_test true e before =
-        let same : m ≡ k = same_of m k e in
-        omega (
-          arith,
-          mark_above q words f m k (omega (arith, same)),
-          ap (λ b. cond (b || f k) (given q (node_parts words k)) 0) e,
-          ap (λ b. cond b (given q (node_parts words k)) 0) (ap f (sym same) ∙ new),
-          ap (λ i. given q (node_parts words i)) same,
-        )
-    by_test false e before =
-        omega (
-          arith,
-          before (omega (arith, apart_of m k e, low)) new,
-          ap (λ b. cond (b || f k) (given q (node_parts words k)) 0) e,
-        )
+    by_test b e before = search (same_of, mark_above, given, apart_of, arith)
 
 or_swap : (a b x : Bool) → (a || (b || x)) ≡ ((b || a) || x)
-or_swap true true x = refl
-or_swap true false x = refl
-or_swap false true x = refl
-or_swap false false x = refl
+or_swap a b x = grind arith
 
 ends_give : (q : ℕ) → part_given q (end_pair false) ≡ 0
 ends_give q = nothing_given q 0

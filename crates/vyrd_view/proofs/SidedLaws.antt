@@ -1,8 +1,8 @@
 -- The two sides, as a key gets new amounts.
-use Rattle.std.proofs.Common.{◌≡◌, ◌≢◌, ℕ, ◌+◌, ◌-◌, ◌^◌, ◌<◌, ◌≤◌, Bool, true, false, cond, not}
+use Rattle.std.proofs.Common.{◌≡◌, ◌≢◌, ℕ, ◌+◌, ◌-◌, ◌<◌, ◌≤◌, Bool, true, false, cond, not}
 use Rattle.std.proofs.Common.{List}
 use Rattle.std.proofs.Common.{[], ◌∷◌, Option, Some, None, refl, ap, ◌∙◌, sym, subst, arith, T}
-use Rattle.std.specs.Prelude.{◌==◌, nat_lt, unwrap_or, filter}
+use Rattle.std.specs.Prelude.{◌==◌, unwrap_or, filter}
 use Rattle.std.specs.declared.cmp.Ordering.{Ordering}
 use Rattle.std.specs.declared.cmp.Ordering.TheVariants.{Less, Equal, Greater}
 use Rattle.std.specs.Ordering.{nat_cmp, is_lt, is_eq}
@@ -55,14 +55,7 @@ value_low k q es below low = ap (λ o. unwrap_or o neither) (find_low k q es bel
 
 value_cons : (e : ℕ × Both) (es : List (ℕ × Both)) (q : ℕ) (b : Bool) → (q == e.0) ≡ b
     → value_of neither (e ∷ es) q ≡ cond b e.1 (value_of neither es q)
-value_cons e es q b is =
-    ap (λ c. unwrap_or (cond c (Some e.1) (find nat_cmp q es)) neither)
-    (unsigned_tied q e.0 ∙ is) ∙ by_key b
-  where
-    by_key : (c : Bool) → unwrap_or (cond c (Some e.1) (find nat_cmp q es)) neither
-        ≡ cond c e.1 (value_of neither es q)
-    by_key true = refl
-    by_key false = refl
+value_cons e es q b is = grind (arith, neither, value_of)
 
 -- what is given to a key is its amount
 given_value : (es : List (ℕ × Both)) (q : ℕ) → T (is_sorted nat_cmp es)
@@ -76,23 +69,7 @@ given_value (e ∷ es) q rising =
         → given q (specified_pairs es) ≡ (value_of neither es q).specified
         → part_given q (e.0, e.1.specified) + given q (specified_pairs es)
         ≡ (value_of neither (e ∷ es) q).specified
-    by_key true is rest =
-        let low : q ≡ e.0 = same_of q e.0 is in
-        omega (
-          arith,
-          ap (λ b. cond b e.1.specified 0) is,
-          rest,
-          ap (λ (v : Both). v.specified)
-              (value_low e.0 q es (first_of_and _ _ rising) (omega (arith, low))),
-          ap (λ (v : Both). v.specified) (value_cons e es q true is),
-        )
-    by_key false is rest =
-        omega (
-          arith,
-          ap (λ b. cond b e.1.specified 0) is,
-          rest,
-          ap (λ (v : Both). v.specified) (value_cons e es q false is),
-        )
+    by_key b is rest = search (same_of, value_low, first_of_and, rising, value_cons, arith)
 
 -- ---- how many differ
 
@@ -186,15 +163,8 @@ count_put (e ∷ es) k v rising =
 -- so many differ once a key has other amounts
 count_with : (es : List (ℕ × Both)) (k : ℕ) (v : Both) → T (is_sorted nat_cmp es)
     → apart_in (with_value is_neither es k v) ≡ apart_in (without k es) + apart_once v
-count_with es k v rising = by_nothing (is_neither v) refl
-  where
-    by_nothing : (b : Bool) → is_neither v ≡ b
-        → apart_in (cond b (without k es) (put nat_cmp k v es))
-        ≡ apart_in (without k es) + apart_once v
-    by_nothing true none =
-        none_more _ _ (ap apart_once (only_neither v none))
-    by_nothing false some =
-        both_more _ _ _ _ _ (count_put es k v rising) (count_without es k rising)
+count_with es k v rising =
+    grind (arith, rising, none_more, only_neither, both_more, count_put, count_without)
 
 once_is : (v : Both) → is_apart v ≡ true → apart_once v ≡ 1
 once_is v apart = ap (λ b. cond b 1 0) apart
@@ -212,8 +182,7 @@ none_apart es q rising none = by_test (is_apart (value_of neither es q)) refl
   where
     by_test : (b : Bool) → is_apart (value_of neither es q) ≡ b
         → is_apart (value_of neither es q) ≡ false
-    by_test true apart = absurd (omega (arith, none, some_apart es q rising apart))
-    by_test false same = same
+    by_test b apart = search (apart, some_apart, rising, arith)
 
 -- ---- the amounts of a key
 
@@ -235,8 +204,7 @@ specified_formed s = IsAmounts-collected (specified_pairs s.table.entries)
 -- a key that has its amount already
 pub with_same_amount : (s : Sides) (q a : ℕ) → AreSettled s → a ≡ amount_of (specified_of s) q
     → with_amount (specified_of s) q a ≡ specified_of s
-with_same_amount s q a settled same =
-    ap (with_amount (specified_of s) q) same ∙ same_amount (specified_of s) q (specified_formed s)
+with_same_amount s q a settled same = cc (same_amount (specified_of s) q (specified_formed s))
 
 -- ---- sides on which there is nothing
 
@@ -307,27 +275,16 @@ module _ (s s' : Sides) (q : ℕ) (both : Both) (settled : AreSettled s)
 -- a key that differs is counted
 pub before_counted : (s : Sides) (q : ℕ) (before : Both) → AreSettled s
     → before ≡ value_of neither s.table.entries q → is_apart before ≡ true → 0 < s.apart
-before_counted s q before settled was apart = by_size (nat_lt s.apart (2 ^ 64 - 1)) refl
-  where
-    some : 0 < apart_in s.table.entries
-    some = some_apart s.table.entries q settled.formed.rising (ap is_apart (sym was) ∙ apart)
-
-    by_size : (b : Bool) → nat_lt s.apart (2 ^ 64 - 1) ≡ b → 0 < s.apart
-    by_size true low = omega (arith, some, settled.counted (below_of s.apart (2 ^ 64 - 1) low))
-    by_size false high = omega (arith, not_below_of s.apart (2 ^ 64 - 1) high)
+before_counted s q before settled was apart =
+    grind (arith, settled, apart, some_apart, below_of, not_below_of)
 
 -- ---- where the sides differ
 
 amounts_apart : (v : Both) → is_apart v ≡ true → v.shown ≢ v.specified
-amounts_apart v apart same = let equal : is_apart v ≡ false = ap not
-    (is_same v.shown v.specified same) in cc
+amounts_apart v apart same = grind arith
 
 amounts_same : (v : Both) → is_apart v ≡ false → v.shown ≡ v.specified
-amounts_same v e = by_test (v.shown == v.specified) refl e
-  where
-    by_test : (b : Bool) → (v.shown == v.specified) ≡ b → not b ≡ false → v.shown ≡ v.specified
-    by_test true f g = same_of v.shown v.specified f
-    by_test false f g = cc
+amounts_same v e = grind (arith, same_of)
 
 module _ (s : Sides) (settled : AreSettled s) where
   agree_at : (q : ℕ) → is_apart (value_of neither s.table.entries q) ≡ false

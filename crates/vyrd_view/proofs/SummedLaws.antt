@@ -1,6 +1,6 @@
 -- The exact sums, as the sum of a key changes.
 use Rattle.std.proofs.Common.{◌≡◌, ◌≢◌, ℕ, ◌+◌, ◌-◌, ◌*◌, ◌/◌, ◌%◌, ◌^◌, ◌<◌, ◌≤◌, min, Bool, true}
-use Rattle.std.proofs.Common.{false, cond, [], Option, Some, None, refl, ap, ◌∙◌, sym, subst, arith}
+use Rattle.std.proofs.Common.{false, cond, [], Option, Some, None, refl, ap, ◌∙◌, sym, arith}
 use Rattle.std.specs.Prelude.{◌==◌, nat_le}
 use Rattle.vyrd_base.specs.Amounts.{Amounts, amount_of, with_amount}
 use Rattle.vyrd_base.proofs.TestLaws.{same_of, at_most_of, above_of}
@@ -54,8 +54,7 @@ bare_stays s t k bare is = is ∙ ap (λ a. with_amount a k 0) bare
 pub against_none : (s : Sums) → AreSettled s → (o : Option ℕ)
     → IsLeastApart (shown_at s.carries) (amount_of (specified_of s.carries)) o
     → IsLeastApart (shown_at s.carries) (λ q. 0) o
-against_none s settled o is =
-    subst (λ a. IsLeastApart (shown_at s.carries) (amount_of a) o) settled.alone is
+against_none s settled o is = grind (arith, settled.alone)
 
 -- what is left of a key's sum changes, and its carries stay
 pub sum_moves : (s : Sums) (sides : Sides) (k less more low : ℕ) → less ≤ shown_at s.sides k

@@ -1,6 +1,6 @@
 -- A walk along the chain of leaves, which marks the nodes that it sees.
 use Rattle.std.proofs.Common.{◌≡◌, ℕ, suc, ◌+◌, ◌-◌, ◌<◌, Bool, true, false, ◌||◌, List, [], ◌∷◌}
-use Rattle.std.proofs.Common.{length, length-set, get_or, set, replicate, refl, ap, ◌∙◌, sym, subst}
+use Rattle.std.proofs.Common.{length, length-set, get_or, set, replicate, refl, ap, ◌∙◌, sym}
 use Rattle.std.proofs.Common.{arith}
 use Rattle.std.specs.Prelude.{◌==◌, ◌≢◌, nat_le}
 use Rattle.std.specs.List.{list_any}
@@ -24,19 +24,12 @@ pub record Walks (size : ℕ) (words : List ℕ) (flags : List Bool) (left node 
 pub walks_begin : (size : ℕ) (words : List ℕ) (flags : List Bool) (left : ℕ) → left ≡ size
     → flags ≡ replicate size false
     → Walks size words flags left 0
-walks_begin size words flags left all none = record {
-  seen = [];
-  marks = λ q. ap (λ s. get_or s q true) none ∙ none_marked size q;
-  nodes = λ q. ap (λ n. list_any (λ m. m == q) (chain_nodes_from size words n [] 0)) all;
-  breaks = ap (λ n. chain_breaks_from size words n [] 0) all;
-}
+walks_begin size words flags left all none = grind (arith, left, none_marked)
 
 pub walks_left : (size : ℕ) (words : List ℕ) (flags : List Bool) (turn n : ℕ) → turn < size
     → Walks size words flags (size - turn) n
     → Walks size words flags (suc (size - (turn + 1))) n
-walks_left size words flags turn n more walk =
-    let one : size - turn ≡ suc (size - (turn + 1)) = omega arith in
-    subst (λ left. Walks size words flags left n) one walk
+walks_left size words flags turn n more walk = grind arith
 
 -- the nodes that follow one on the chain
 abbrev pub nodes_after : ℕ → List ℕ → ℕ → List ℕ → ℕ → Bool → Bool → List ℕ
@@ -59,10 +52,7 @@ breaks_after size words left seen n ends back = elim ends [
 ]
 
 or_swap : (a b x : Bool) → ((b || a) || x) ≡ (a || (b || x))
-or_swap true true x = refl
-or_swap true false x = refl
-or_swap false true x = refl
-or_swap false false x = refl
+or_swap a b x = grind arith
 
 module _ (size : ℕ) (words : List ℕ) (flags : List Bool) (left n : ℕ)
     (walk : Walks size words flags (suc left) n) (ends back : Bool)
@@ -168,11 +158,4 @@ pub walk_on : (size : ℕ) (words : List ℕ) (flags : List Bool) (left n : ℕ)
     → n < length flags → right_of words n ≢ 0 → get_or (set flags n true) (right_of words n) true
     ≡ false
     → Walks size words (set flags n true) left (right_of words n)
-walk_on size words flags left n walk within on new = record {
-  seen = n ∷ walk.seen;
-  marks = marked size n flags walk.seen within walk.marks;
-  nodes = onward_nodes size words flags left n walk false false within
-      (isnt_same (right_of words n) 0 on) new;
-  breaks = onward_breaks size words flags left n walk false false within
-      (isnt_same (right_of words n) 0 on) new;
-}
+walk_on size words flags left n walk within on new = grind (arith, left, within, marked, isnt_same)

@@ -7,8 +7,7 @@ use Rattle.vyrd_base.specs.declared.log.Kind.TheVariants.{Call, Return, Write, C
 use Rattle.vyrd_base.specs.declared.log.Kind.TheVariants.{BlockClose, BlockCommit}
 use Rattle.vyrd_base.specs.declared.log.Entry.{Entry}
 use Rattle.vyrd_base.specs.declared.log.StartWord.{StartWord}
-use Rattle.vyrd_base.specs.declared.verdict.Why.{Why}
-use Rattle.vyrd_base.specs.declared.verdict.Why.TheVariants.{View, Reply}
+use Rattle.vyrd_base.specs.declared.verdict.Why.TheVariants.{View}
 use Rattle.vyrd_base.specs.Places.{Place, newest_first}
 use Rattle.vyrd_base.specs.Callers.{Called}
 use Rattle.vyrd_base.specs.Amounts.{Amounts, amount_of, first_difference}
@@ -32,11 +31,7 @@ fault_after : (r : Rules) (view : Amounts) (s t : State) (called : Option Called
     ≡ option_map View (first_difference view (r.shown t))
 fault_after r view s t None reply caller after = cc
 fault_after r view s t (Some called) None caller after = cc
-fault_after r view s t (Some called) (Some reply) caller after =
-    ap (λ o. elim o as (λ _. Option Why) [
-      | None ↦ Some (Reply reply)
-      | Some next ↦ option_map View (first_difference view (r.shown next))
-    ]) after
+fault_after r view s t (Some called) (Some reply) caller after = cc
 
 fault_is : (r : Rules) (starting : List StartWord) (states : List State) (place : Place Entry)
     (s t : State) → is_commit place.here.kind ≡ true

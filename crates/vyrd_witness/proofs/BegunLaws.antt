@@ -1,14 +1,13 @@
 -- A caller's open call, entry by entry back from a position.
-use Rattle.std.proofs.Common.{◌≡◌, ℕ, ◌+◌, ◌-◌, ◌<◌, ◌≤◌, Bool, true, ◌&&◌, List, length}
-use Rattle.std.proofs.Common.{take, Option, Some, None, slice_get, refl, ap, ◌∙◌, sym, arith}
+use Rattle.std.proofs.Common.{◌≡◌, ℕ, ◌+◌, ◌-◌, ◌<◌, Bool, true, ◌&&◌, List, length}
+use Rattle.std.proofs.Common.{take, Option, Some, None, slice_get, ap, ◌∙◌, arith}
 use Rattle.std.proofs.lemmas.List.{length-take-le}
 use Rattle.std.specs.Prelude.{◌==◌, ◌≢◌, option_map, if◌then◌else◌}
 use Rattle.std.specs.Option.{option_or, option_flatten}
 use Rattle.vyrd_base.specs.declared.subject.Method.{Method}
 use Rattle.vyrd_base.specs.declared.subject.Args.{Args}
 use Rattle.vyrd_base.specs.declared.log.Kind.{Kind}
-use Rattle.vyrd_base.specs.declared.log.Kind.TheVariants.{Call, Return, Write, Commit, BlockOpen}
-use Rattle.vyrd_base.specs.declared.log.Kind.TheVariants.{BlockClose, BlockCommit}
+use Rattle.vyrd_base.specs.declared.log.Kind.TheVariants.{Call, Return}
 use Rattle.vyrd_base.specs.declared.log.Entry.{Entry}
 use Rattle.vyrd_base.specs.Callers.{by_caller, call_or_return, is_call, entries_before_call}
 use Rattle.vyrd_base.specs.Places.{newest_first, first_answer}
@@ -45,42 +44,30 @@ begun_next c log n e here = ap (begun_in c) (newest_at log n e here)
 -- an entry of another caller
 other_before : (c : ℕ) (log : List Entry) (n : ℕ) (e : Entry) → slice_get log n ≡ Some e
     → e.caller ≢ c → begun_before c log (n + 1) ≡ begun_before c log n
-other_before c log n e here other = begun_next c log n e here
-    ∙ ap (λ own. begun_with own e.kind c (newest_first (take n log))) (isnt_same e.caller c other)
+other_before c log n e here other = cc (begun_next c log n e here, isnt_same e.caller c other)
 
 -- an entry of the caller
 own_before : (c : ℕ) (log : List Entry) (n : ℕ) (e : Entry) → slice_get log n ≡ Some e
     → e.caller ≡ c
     → begun_before c log (n + 1) ≡ begun_with true e.kind c (newest_first (take n log))
-own_before c log n e here same = begun_next c log n e here
-    ∙ ap (λ own. begun_with own e.kind c (newest_first (take n log))) (is_same e.caller c same)
+own_before c log n e here same = cc (begun_next c log n e here, is_same e.caller c same)
 
 quiet_with : (kind : Kind) (c : ℕ) (earlier : List Entry)
     → ((method : Method) (args : Args) → kind ≡ Call method args → ⊥)
     → ((reply : ℕ) → kind ≡ Return reply → ⊥)
     → begun_with true kind c earlier ≡ begun_in c earlier
-quiet_with (Call method args) c earlier calls returns = absurd (calls method args refl)
-quiet_with (Return reply) c earlier calls returns = absurd (returns reply refl)
-quiet_with (Write word value) c earlier calls returns = refl
-quiet_with Commit c earlier calls returns = refl
-quiet_with BlockOpen c earlier calls returns = refl
-quiet_with BlockClose c earlier calls returns = refl
-quiet_with BlockCommit c earlier calls returns = refl
+quiet_with kind c earlier calls returns = grind arith
 
 -- an entry further back
 goes_back : (c : ℕ) (log : List Entry) (i n : ℕ) → i < length log → n ≡ length log - 1 - i
     → begun_before c log (n + 1) ≡ begun_before c log n → LeavesBegun c log (length log - i)
     → LeavesBegun c log (length log - (i + 1))
-goes_back c log i n low place step so =
-    let here : length log - i ≡ n + 1 = omega (arith, low, place) in
-    let next : length log - (i + 1) ≡ n = omega (arith, low, place) in
-    ap (begun_before c log) next ∙ sym step ∙ ap (begun_before c log) (sym here) ∙ so
+goes_back c log i n low place step so = grind arith
 
 pub back_other : (c : ℕ) (log : List Entry) (i n : ℕ) (e : Entry) → i < length log
     → n ≡ length log - 1 - i → slice_get log n ≡ Some e → e.caller ≢ c
     → LeavesBegun c log (length log - i) → LeavesBegun c log (length log - (i + 1))
-back_other c log i n e low place here other =
-    goes_back c log i n low place (other_before c log n e here other)
+back_other c log i n e low place here other = search (goes_back, other_before, here, arith)
 
 pub back_quiet : (c : ℕ) (log : List Entry) (i n : ℕ) (e : Entry) → i < length log
     → n ≡ length log - 1 - i → slice_get log n ≡ Some e → e.caller ≡ c
@@ -96,27 +83,23 @@ found_back : (c : ℕ) (log : List Entry) (i n : ℕ) (e : Entry) → i < length
     → n ≡ length log - 1 - i → slice_get log n ≡ Some e → e.caller ≡ c
     → LeavesBegun c log (length log - i)
     → begun_with true e.kind c (newest_first (take n log)) ≡ begun_in c (newest_first log)
-found_back c log i n e low place here same so =
-    let next : n + 1 ≡ length log - i = omega (arith, low, place) in
-    sym (own_before c log n e here same) ∙ ap (begun_before c log) next ∙ so
+found_back c log i n e low place here same so = grind (arith, here, own_before)
 
 pub back_call : (c : ℕ) (log : List Entry) (i n : ℕ) (e : Entry) (method : Method) (args : Args)
     → i < length log → n ≡ length log - 1 - i → slice_get log n ≡ Some e → e.caller ≡ c
     → e.kind ≡ Call method args → LeavesBegun c log (length log - i)
     → Some (record { at = n; method = method; args = args }) ≡ begun_in c (newest_first log)
 back_call c log i n e method args low place here same is so =
-    let within : n ≤ length log = omega (arith, low, place) in
-    let at : n ≡ length (newest_first (take n log)) =
-    sym (length-newest_first (take n log) ∙ length-take-le n log within) in
-    ap (λ k. Some (record { at = k; method = method; args = args })) at
-    ∙ ap (λ kind. begun_with true kind c (newest_first (take n log))) (sym is)
-    ∙ found_back c log i n e low place here same so
+    cc (
+      length-newest_first (take n log),
+      length-take-le n log (omega (arith, low, place)),
+      found_back c log i n e low place here same so,
+    )
 
 pub back_return : (c : ℕ) (log : List Entry) (i n : ℕ) (e : Entry) (reply : ℕ) → i < length log
     → n ≡ length log - 1 - i → slice_get log n ≡ Some e → e.caller ≡ c → e.kind ≡ Return reply
     → LeavesBegun c log (length log - i) → None ≡ begun_in c (newest_first log)
 back_return c log i n e reply low place here same is so =
-    ap (λ kind. begun_with true kind c (newest_first (take n log))) (sym is)
-    ∙ found_back c log i n e low place here same so
+    cc (found_back c log i n e low place here same so)
 
 pub ruleset begun_back = (back_other, back_quiet, back_call, back_return)

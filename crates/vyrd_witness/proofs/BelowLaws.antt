@@ -1,5 +1,5 @@
 -- What a function of the numbers below a number gives, one number further.
-use Rattle.std.proofs.Common.{◌≡◌, ℕ, ◌+◌, List, ◌++◌, ap, ◌∙◌, sym}
+use Rattle.std.proofs.Common.{◌≡◌, ℕ, ◌+◌, List, ◌++◌, ap}
 use Rattle.std.specs.List.{flat_map}
 use Rattle.std.proofs.lemmas.List.{flat_map_more}
 use Rattle.vyrd_base.specs.Places.{numbers_below}
@@ -9,6 +9,5 @@ use Rattle.vyrd_base.proofs.PlaceLaws.{numbers_below-push}
 pub below_next : {A : Type 0} (f : ℕ → List A) (n : ℕ) (first found more : List A)
     → found ≡ first ++ flat_map f (numbers_below n) → more ≡ found ++ f n
     → more ≡ first ++ flat_map f (numbers_below (n + 1))
-below_next f n first found more so push = push ∙ ap (λ xs. xs ++ f n) so
-    ∙ flat_map_more f first (numbers_below n) n
-    ∙ ap (λ ks. first ++ flat_map f ks) (sym (numbers_below-push n))
+below_next f n first found more so push =
+    cc (flat_map_more f first (numbers_below n) n, numbers_below-push n)

@@ -2,10 +2,10 @@
 -- ahead of it.
 use Rattle.std.proofs.Common.{◌≡◌, ℕ, ◌+◌, ◌-◌, ◌<◌, ◌≤◌, true, cond, List, [], ◌∷◌}
 use Rattle.std.proofs.Common.{◌++◌, length, map, Option, Some, None, slice_get, refl, ap, ◌∙◌, sym}
-use Rattle.std.proofs.Common.{arith, append-nil, append_assoc, ◌⊎◌, inl, inr}
+use Rattle.std.proofs.Common.{arith, append-nil, append_assoc, ◌⊎◌}
 use Rattle.std.specs.Prelude.{◌==◌, ◌≢◌, option_map}
 use Rattle.vyrd_base.specs.declared.log.Kind.{Kind}
-use Rattle.vyrd_base.specs.declared.log.Kind.TheVariants.{Call, Return, Write, Commit, BlockOpen}
+use Rattle.vyrd_base.specs.declared.log.Kind.TheVariants.{Return, Write, Commit, BlockOpen}
 use Rattle.vyrd_base.specs.declared.log.Kind.TheVariants.{BlockClose, BlockCommit}
 use Rattle.vyrd_base.specs.declared.log.Entry.{Entry}
 use Rattle.vyrd_base.specs.Places.{newest_first}
@@ -30,19 +30,14 @@ LooksBack log at c found n = back log at c at ≡ found ++ back log at c n
 back_here : (log : List Entry) (at c n : ℕ) (e : Entry) → slice_get log n ≡ Some e
     → back log at c (n + 1) ≡ map (effect_of log at c)
     (with_write (e.caller == c) (numbered_kind n e.kind) (block_writes c (behind log n)))
-back_here log at c n e here =
-    ap (λ es. map (effect_of log at c) (block_writes c es)) (behind_next log n e here)
+back_here log at c n e here = cc (behind_next log n e here)
 
 -- an entry further back
 looks_back : (log : List Entry) (at c i n : ℕ) (found more own : List Effect) → i < at
     → n ≡ at - 1 - i → back log at c (n + 1) ≡ own ++ back log at c n → more ≡ found ++ own
     → LooksBack log at c found (at - i) → LooksBack log at c more (at - (i + 1))
 looks_back log at c i n found more own low place step push so =
-    let here : at - i ≡ n + 1 = omega (arith, low, place) in
-    let next : n ≡ at - (i + 1) = omega (arith, low, place) in
-    so ∙ ap (λ k. found ++ back log at c k) here ∙ ap (λ es. found ++ es) step
-    ∙ sym (append_assoc found own (back log at c n))
-    ∙ (λ j. sym push j ++ back log at c (next j))
+    grind (arith, append_assoc found own (back log at c n))
 
 pub back_write : (log : List Entry) (at c i n word value : ℕ) (e : Entry)
     (found more : List Effect) → i < at → n ≡ at - 1 - i → slice_get log n ≡ Some e
@@ -70,13 +65,7 @@ back_other log at c i n e found more low place here other push so =
 quiet_with : (n : ℕ) (kind : Kind) (ws : List (ℕ × ℕ))
     → ((word value : ℕ) → kind ≡ Write word value → ⊥) → (kind ≡ BlockOpen → ⊥)
     → with_write true (numbered_kind n kind) ws ≡ ws
-quiet_with n (Call method args) ws write opens = refl
-quiet_with n (Return reply) ws write opens = refl
-quiet_with n (Write word value) ws write opens = absurd (write word value refl)
-quiet_with n Commit ws write opens = refl
-quiet_with n BlockOpen ws write opens = absurd (opens refl)
-quiet_with n BlockClose ws write opens = refl
-quiet_with n BlockCommit ws write opens = refl
+quiet_with n kind ws write opens = grind (arith, opens)
 
 pub back_quiet : (log : List Entry) (at c i n : ℕ) (e : Entry) (found more : List Effect)
     → i < at → n ≡ at - 1 - i → slice_get log n ≡ Some e → e.caller ≡ c
@@ -95,11 +84,7 @@ pub back_open : (log : List Entry) (at c i n : ℕ) (e : Entry) (found : List Ef
     → n ≡ at - 1 - i → slice_get log n ≡ Some e → e.caller ≡ c → e.kind ≡ BlockOpen
     → LooksBack log at c found (at - i) → found ≡ back log at c at
 back_open log at c i n e found low place here same is so =
-    let next : at - i ≡ n + 1 = omega (arith, low, place) in
-    sym (so ∙ ap (λ k. found ++ back log at c k) next
-    ∙ ap (λ es. found ++ es) (back_here log at c n e here
-    ∙ (λ j. map (effect_of log at c) (with_write (is_same e.caller c same j)
-    (numbered_kind n (is j)) (block_writes c (behind log n))))) ∙ append-nil found)
+    grind (arith, back_here log at c n e here, append-nil found)
 
 -- those found, with those that come from a position on, if the block ends
 abbrev pub found_ahead : List Entry → ℕ → ℕ → List Effect → ℕ → Option (List Effect)
@@ -113,19 +98,13 @@ ahead_with : (log : List Entry) (at c n : ℕ) (e : Entry) (found : List Effect)
     ≡ option_map (λ ws. found ++ map (effect_of log at c) (newest_first ws))
     (cond (e.caller == c) (ahead_at (numbered_kind n e.kind) (writes_ahead c (ahead log (n + 1))))
     (writes_ahead c (ahead log (n + 1))))
-ahead_with log at c n e found here =
-    ap (λ es. option_map (λ ws. found ++ map (effect_of log at c) (newest_first ws))
-    (writes_ahead c es)) (ahead_here log n e here)
+ahead_with log at c n e found here = grind (arith, found, here, ahead_here)
 
 pub ahead_other : (log : List Entry) (at c n : ℕ) (e : Entry) (found more : List Effect)
     → slice_get log n ≡ Some e → e.caller ≢ c → more ≡ found
     → found_ahead log at c found n ≡ found_ahead log at c more (n + 1)
 ahead_other log at c n e found more here other push =
-    ahead_with log at c n e found here
-    ∙ ap (λ b. option_map (λ ws. found ++ map (effect_of log at c) (newest_first ws))
-    (cond b (ahead_at (numbered_kind n e.kind) (writes_ahead c (ahead log (n + 1))))
-    (writes_ahead c (ahead log (n + 1))))) (isnt_same e.caller c other)
-    ∙ ap (λ found. found_ahead log at c found (n + 1)) (sym push)
+    grind (arith, ahead_with log at c n e found here, isnt_same e.caller c other)
 
 -- the caller's own entry
 ahead_own : (log : List Entry) (at c n : ℕ) (e : Entry) (found : List Effect)
@@ -134,22 +113,13 @@ ahead_own : (log : List Entry) (at c n : ℕ) (e : Entry) (found : List Effect)
     ≡ option_map (λ ws. found ++ map (effect_of log at c) (newest_first ws))
     (ahead_at (numbered_kind n e.kind) (writes_ahead c (ahead log (n + 1))))
 ahead_own log at c n e found here same =
-    ahead_with log at c n e found here
-    ∙ ap (λ b. option_map (λ ws. found ++ map (effect_of log at c) (newest_first ws))
-    (cond b (ahead_at (numbered_kind n e.kind) (writes_ahead c (ahead log (n + 1))))
-    (writes_ahead c (ahead log (n + 1))))) (is_same e.caller c same)
+    cc (ahead_with log at c n e found here, is_same e.caller c same)
 
 quiet_ahead : (n : ℕ) (kind : Kind) (o : Option (List (ℕ × ℕ)))
     → ((word value : ℕ) → kind ≡ Write word value → ⊥) → ((reply : ℕ) → kind ≡ Return reply → ⊥)
     → (kind ≡ BlockClose → ⊥) → (kind ≡ BlockCommit → ⊥)
     → ahead_at (numbered_kind n kind) o ≡ o
-quiet_ahead n (Call method args) o write returns closes commits = refl
-quiet_ahead n (Return reply) o write returns closes commits = absurd (returns reply refl)
-quiet_ahead n (Write word value) o write returns closes commits = absurd (write word value refl)
-quiet_ahead n Commit o write returns closes commits = refl
-quiet_ahead n BlockOpen o write returns closes commits = refl
-quiet_ahead n BlockClose o write returns closes commits = absurd (closes refl)
-quiet_ahead n BlockCommit o write returns closes commits = absurd (commits refl)
+quiet_ahead n kind o write returns closes commits = grind arith
 
 pub ahead_quiet : (log : List Entry) (at c n : ℕ) (e : Entry) (found more : List Effect)
     → slice_get log n ≡ Some e → e.caller ≡ c
@@ -169,11 +139,7 @@ one_ahead : (log : List Entry) (at c n word : ℕ) (found : List Effect)
     (option_map (λ ws. ws ++ (word, n) ∷ []) o)
     ≡ option_map (λ ws. (found ++ effect_of log at c (word, n) ∷ [])
     ++ map (effect_of log at c) (newest_first ws)) o
-one_ahead log at c n word found None = refl
-one_ahead log at c n word found (Some ws) = ap Some
-    (ap (λ xs. found ++ map (effect_of log at c) xs) (newest_first-push ws (word, n))
-    ∙ sym (append_assoc found (effect_of log at c (word, n) ∷ [])
-    (map (effect_of log at c) (newest_first ws))))
+one_ahead log at c n word found o = grind (arith, found, newest_first-push, append_assoc)
 
 pub ahead_write : (log : List Entry) (at c n word value : ℕ) (e : Entry)
     (found more : List Effect) → slice_get log n ≡ Some e → e.caller ≡ c
@@ -181,29 +147,24 @@ pub ahead_write : (log : List Entry) (at c n word value : ℕ) (e : Entry)
     → more ≡ found ++ record { written = n; at = at; caller = c; word = word; value = value } ∷ []
     → found_ahead log at c found n ≡ found_ahead log at c more (n + 1)
 ahead_write log at c n word value e found more here same is push =
-    ahead_own log at c n e found here same
-    ∙ ap (λ kind. option_map (λ ws. found ++ map (effect_of log at c) (newest_first ws))
-    (ahead_at (numbered_kind n kind) (writes_ahead c (ahead log (n + 1))))) is
-    ∙ one_ahead log at c n word found (writes_ahead c (ahead log (n + 1)))
-    ∙ ap (λ v. found_ahead log at c (found
-    ++ record { written = n; at = at; caller = c; word = word; value = v } ∷ []) (n + 1))
-    (value_here log n e here ∙ ap value_of is)
-    ∙ ap (λ found. found_ahead log at c found (n + 1)) (sym push)
+    grind (
+      arith,
+      ahead_own log at c n e found here same,
+      one_ahead log at c n word found
+          (writes_ahead c (ahead log (n + 1))),
+      value_here log n e here,
+    )
 
 -- the end of the block, and what leaves it open
 pub ahead_done : (log : List Entry) (at c n : ℕ) (e : Entry) (found : List Effect)
     → slice_get log n ≡ Some e → e.caller ≡ c → (e.kind ≡ BlockClose) ⊎ (e.kind ≡ BlockCommit)
     → found_ahead log at c found n ≡ Some found
-ahead_done log at c n e found here same ends = ahead_own log at c n e found here same
-    ∙ ap (option_map (λ ws. found ++ map (effect_of log at c) (newest_first ws))) (by_kind ends)
-    ∙ ap Some (append-nil found)
+ahead_done log at c n e found here same ends =
+    cc (ahead_own log at c n e found here same, by_kind ends, append-nil found)
   where
     by_kind : (e.kind ≡ BlockClose) ⊎ (e.kind ≡ BlockCommit)
         → ahead_at (numbered_kind n e.kind) (writes_ahead c (ahead log (n + 1))) ≡ Some []
-    by_kind (inl is) =
-        ap (λ kind. ahead_at (numbered_kind n kind) (writes_ahead c (ahead log (n + 1)))) is
-    by_kind (inr is) =
-        ap (λ kind. ahead_at (numbered_kind n kind) (writes_ahead c (ahead log (n + 1)))) is
+    by_kind e0 = search arith
 
 none_of : {A B : Type 0} (f : A → B) (o : Option A) → option_map f o ≡ None → o ≡ None
 none_of f None is = refl
@@ -216,15 +177,9 @@ pub ahead_returns : (log : List Entry) (at c n reply : ℕ) (e : Entry) (old fou
 ahead_returns log at c n reply e old found here same is so =
     none_of (λ ws. old ++ map (effect_of log at c) (newest_first ws))
     (writes_ahead c (ahead log (at + 1)))
-    (so ∙ ahead_own log at c n e found here same
-    ∙ ap (λ kind. option_map (λ ws. found ++ map (effect_of log at c) (newest_first ws))
-    (ahead_at (numbered_kind n kind) (writes_ahead c (ahead log (n + 1))))) is)
+    (cc (ahead_own log at c n e found here same))
 
 pub ahead_past : (log : List Entry) (at c n : ℕ) (old found : List Effect) → length log ≤ n
     → found_ahead log at c old (at + 1) ≡ found_ahead log at c found n
     → writes_ahead c (ahead log (at + 1)) ≡ None
-ahead_past log at c n old found past so =
-    none_of (λ ws. old ++ map (effect_of log at c) (newest_first ws))
-    (writes_ahead c (ahead log (at + 1)))
-    (so ∙ ap (λ es. option_map (λ ws. found ++ map (effect_of log at c) (newest_first ws))
-    (writes_ahead c es)) (ahead_end log n past))
+ahead_past log at c n old found past so = grind (arith, found, past, none_of, ahead_end)

@@ -23,8 +23,7 @@ commit_here log i e here commits =
 
 pub no_commit_here : (log : List Entry) (i : ℕ) (e : Entry) → slice_get log i ≡ Some e
     → is_commit e.kind ≡ false → commit_before log i ≡ commit_before log (i + 1)
-no_commit_here log i e here quiet = sym (ap last_commit (newest_at log i e here)
-    ∙ ap (λ b. cond b (Some (length (newest_first (take i log)))) (commit_before log i)) quiet)
+no_commit_here log i e here quiet = cc (newest_at log i e here)
 
 pub still_before : (i : ℕ) (o : Option ℕ) → IfSome o (λ p. p < i) → IfSome o (λ p. p < i + 1)
 still_before i None low = tt

@@ -1,6 +1,6 @@
 -- The effects at an entry, by its kind and by the phase of its caller.
 use Rattle.std.proofs.Common.{◌≡◌, ℕ, ◌+◌, true, false, cond, List, [], ◌∷◌, ◌++◌, map, take}
-use Rattle.std.proofs.Common.{Some, slice_get, ap, ◌∙◌, sym, ◌⊎◌, inl, inr}
+use Rattle.std.proofs.Common.{Some, slice_get, ap, ◌⊎◌, inl, inr}
 use Rattle.std.specs.Option.{option_map_or}
 use Rattle.vyrd_base.specs.declared.log.Kind.{Kind}
 use Rattle.vyrd_base.specs.declared.log.Kind.TheVariants.{Write, Commit}
@@ -12,7 +12,7 @@ use Rattle.vyrd_base.specs.Words.{block_writes, writes_ahead, effects_at}
 use Rattle.vyrd_witness.specs.declared.effect.Effect.{Effect}
 use Rattle.vyrd_witness.specs.declared.phase.Phase.{Phase}
 use Rattle.vyrd_witness.specs.Numbered.{numbered_kind}
-use Rattle.vyrd_witness.specs.Effects.{value_of, value_at, effect_of, effects_by}
+use Rattle.vyrd_witness.specs.Effects.{value_at, effect_of, effects_by}
 use Rattle.vyrd_witness.specs.Phases.{phase_of}
 use Rattle.vyrd_witness.proofs.Valued.{block_same, inner_commit_same}
 use Rattle.vyrd_witness.proofs.NumberedLaws.{behind, ahead, behind_back, value_here}
@@ -25,10 +25,8 @@ pub record IsPhase (log : List Entry) (at : ℕ) (e : Entry) (phase : Phase) : T
 pub is_phase : (log : List Entry) (at : ℕ) (e : Entry) (phase : Phase)
     → phase ≡ phase_of e.caller (newest_first (take at log)) → IsPhase log at e phase
 is_phase log at e phase is = record {
-  block = sym (block_same (value_at log) e.caller (behind log at))
-      ∙ ap (has_block e.caller) (behind_back log at) ∙ ap (λ p. p.in_block) (sym is);
-  commit = sym (inner_commit_same (value_at log) e.caller (behind log at))
-      ∙ ap (has_inner_commit e.caller) (behind_back log at) ∙ ap (λ p. p.has_commit) (sym is);
+  block = cc (block_same (value_at log) e.caller (behind log at), behind_back log at);
+  commit = cc (inner_commit_same (value_at log) e.caller (behind log at), behind_back log at);
 }
 
 -- the effects, as those of an entry of this kind
@@ -39,10 +37,7 @@ as_kind log at c kind = map (effect_of log at c)
 pub write_inside : (log : List Entry) (at word value : ℕ) (e : Entry) (phase : Phase)
     → IsPhase log at e phase → e.kind ≡ Write word value → phase.in_block ≡ true
     → [] ≡ effects_by log at e
-write_inside log at word value e phase are is inside =
-    sym (ap (as_kind log at e.caller) is
-    ∙ ap (λ b. map (effect_of log at e.caller) (newest_first (cond b [] ((word, at) ∷ []))))
-    (are.block ∙ inside))
+write_inside log at word value e phase are is inside = cc (are.block)
 
 pub write_outside : (log : List Entry) (at word value : ℕ) (e : Entry) (phase : Phase)
     → slice_get log at ≡ Some e → IsPhase log at e phase → e.kind ≡ Write word value
@@ -50,11 +45,7 @@ pub write_outside : (log : List Entry) (at word value : ℕ) (e : Entry) (phase 
     → record { written = at; at = at; caller = e.caller; word = word; value = value } ∷ []
     ≡ effects_by log at e
 write_outside log at word value e phase here are is outside =
-    sym (ap (as_kind log at e.caller) is
-    ∙ ap (λ b. map (effect_of log at e.caller) (newest_first (cond b [] ((word, at) ∷ []))))
-    (are.block ∙ outside)
-    ∙ ap (λ v. record { written = at; at = at; caller = e.caller; word = word; value = v } ∷ [])
-    (value_here log at e here ∙ ap value_of is))
+    cc (are.block, value_here log at e here)
 
 pub commit_inside : (log : List Entry) (at : ℕ) (e : Entry) (phase : Phase) (es : List Effect)
     → IsPhase log at e phase → e.kind ≡ Commit → phase.in_block ≡ true
@@ -62,39 +53,25 @@ pub commit_inside : (log : List Entry) (at : ℕ) (e : Entry) (phase : Phase) (e
     (λ more. more ++ block_writes e.caller (behind log at))
     (writes_ahead e.caller (ahead log (at + 1))) []))
     → es ≡ effects_by log at e
-commit_inside log at e phase es are is inside found =
-    found ∙ sym (ap (as_kind log at e.caller) is
-    ∙ ap (λ b. map (effect_of log at e.caller) (newest_first (cond b (option_map_or
-    (λ more. more ++ block_writes e.caller (behind log at))
-    (writes_ahead e.caller (ahead log (at + 1))) []) []))) (are.block ∙ inside))
+commit_inside log at e phase es are is inside found = cc (are.block)
 
 pub commit_outside : (log : List Entry) (at : ℕ) (e : Entry) (phase : Phase)
     → IsPhase log at e phase → e.kind ≡ Commit → phase.in_block ≡ false
     → [] ≡ effects_by log at e
-commit_outside log at e phase are is outside =
-    sym (ap (as_kind log at e.caller) is
-    ∙ ap (λ b. map (effect_of log at e.caller) (newest_first (cond b (option_map_or
-    (λ more. more ++ block_writes e.caller (behind log at))
-    (writes_ahead e.caller (ahead log (at + 1))) []) []))) (are.block ∙ outside))
+commit_outside log at e phase are is outside = cc (are.block)
 
 -- the two ends of a block
 as_end : (log : List Entry) (at : ℕ) (e : Entry) (phase : Phase) → IsPhase log at e phase
     → (e.kind ≡ BlockClose) ⊎ (e.kind ≡ BlockCommit)
     → effects_by log at e ≡ map (effect_of log at e.caller)
     (newest_first (cond phase.has_commit [] (block_writes e.caller (behind log at))))
-as_end log at e phase are (inl is) = ap (as_kind log at e.caller) is
-    ∙ ap (λ b. map (effect_of log at e.caller)
-    (newest_first (cond b [] (block_writes e.caller (behind log at))))) are.commit
-as_end log at e phase are (inr is) = ap (as_kind log at e.caller) is
-    ∙ ap (λ b. map (effect_of log at e.caller)
-    (newest_first (cond b [] (block_writes e.caller (behind log at))))) are.commit
+as_end log at e phase are (inl is) = cc (are.commit)
+as_end log at e phase are (inr is) = cc (are.commit)
 
 pub end_committed : (log : List Entry) (at : ℕ) (e : Entry) (phase : Phase)
     → IsPhase log at e phase → (e.kind ≡ BlockClose) ⊎ (e.kind ≡ BlockCommit)
     → phase.has_commit ≡ true → [] ≡ effects_by log at e
-end_committed log at e phase are ends committed = sym (as_end log at e phase are ends
-    ∙ ap (λ b. map (effect_of log at e.caller)
-    (newest_first (cond b [] (block_writes e.caller (behind log at))))) committed)
+end_committed log at e phase are ends committed = cc (as_end log at e phase are ends)
 
 pub end_alone : (log : List Entry) (at : ℕ) (e : Entry) (phase : Phase) (es : List Effect)
     → IsPhase log at e phase → (e.kind ≡ BlockClose) ⊎ (e.kind ≡ BlockCommit)
@@ -102,6 +79,4 @@ pub end_alone : (log : List Entry) (at : ℕ) (e : Entry) (phase : Phase) (es : 
     → es ≡ map (effect_of log at e.caller)
     (newest_first (block_writes e.caller (behind log at)))
     → es ≡ effects_by log at e
-end_alone log at e phase es are ends alone found = found ∙ sym (as_end log at e phase are ends
-    ∙ ap (λ b. map (effect_of log at e.caller)
-    (newest_first (cond b [] (block_writes e.caller (behind log at))))) alone)
+end_alone log at e phase es are ends alone found = cc (as_end log at e phase are ends)

@@ -2,7 +2,6 @@
 use Rattle.std.proofs.Common.{◌≡◌, ℕ, zero, suc, ◌+◌, ◌-◌, ◌<◌, ◌≤◌, List, [], ◌∷◌, ◌++◌, map}
 use Rattle.std.proofs.Common.{length, take, drop, get_or, Some, slice_get, refl, ap, ◌∙◌, sym}
 use Rattle.std.proofs.Common.{arith, append_assoc}
-use Rattle.std.specs.Option.{option_map_or}
 use Rattle.std.specs.List.{flat_map}
 use Rattle.std.proofs.lemmas.List.{map-append, drop_more, flat_map_more}
 use Rattle.std.proofs.lemmas.Option.{slice_get_within, get_or_from_slice_get}
@@ -38,8 +37,7 @@ no_entry = record { caller = 0; kind = Commit }
 plain_each : (log : List Entry) (at c : ℕ) (ws : List (ℕ × ℕ))
     → map plain (map (effect_of log at c) ws) ≡ map (valued_write (value_at log)) ws
 plain_each log at c [] = refl
-plain_each log at c (w ∷ ws) =
-    ap (λ xs. (w.0, value_at log w.1) ∷ xs) (plain_each log at c ws)
+plain_each log at c (w ∷ ws) = cc (plain_each log at c ws)
 
 pub plain_effects : (log : List Entry) (at : ℕ) (e : Entry) → slice_get log at ≡ Some e
     → plain_writes (effects_by log at e)
@@ -59,8 +57,7 @@ plain_effects log at e here =
 -- the words after effects
 plain-append : (xs ys : List Effect)
     → plain_writes (xs ++ ys) ≡ plain_writes ys ++ plain_writes xs
-plain-append xs ys = ap newest_first (map-append plain xs ys)
-    ∙ turned-append (map plain xs) (map plain ys)
+plain-append xs ys = cc (map-append plain xs ys, turned-append (map plain xs) (map plain ys))
 
 pub words_through_are : (h : Header) (starting : List StartWord) (es : List Effect)
     (writes : List (ℕ × ℕ))
@@ -90,17 +87,7 @@ pub words_next : (h : Header) (starting : List StartWord) (log : List Entry) (at
     → words_through (words_then h starting log at) (effects_by log at e)
     ≡ words_then h starting log (at + 1)
 words_next h starting log at e here =
-    words_through_are h starting (effects_by log at e) (effects earlier (drop at log))
-    ∙ ap (λ ws. words_with h starting (ws ++ effects earlier (drop at log)))
-    (plain_effects log at e here)
-    ∙ ap (λ later. words_with h starting
-    (effects_at earlier e.caller e.kind (drop (at + 1) log) ++ effects earlier later))
-    (here_on log at e here)
-    ∙ sym (ap (λ es. words_with h starting (effects es (drop (at + 1) log)))
-    (newest_at log at e here))
-  where
-    earlier : List Entry
-    earlier = newest_first (take at log)
+    grind (arith, starting, here, words_through_are, plain_effects, here_on, newest_at)
 
 pub along_next : (log : List Entry) (from at : ℕ) → from ≤ at
     → effects_along log from at ++ effects_there log at ≡ effects_along log from (at + 1)
@@ -122,26 +109,20 @@ pub words_along : (h : Header) (starting : List StartWord) (log : List Entry) (f
     → from + n ≤ length log
     → words_through (words_then h starting log from) (effects_along log from (from + n))
     ≡ words_then h starting log (from + n)
-words_along h starting log from zero within =
-    let none : from + 0 - from ≡ 0 = omega arith in
-    let here : from ≡ from + 0 = omega arith in
-    ap (λ k. words_through (words_then h starting log from)
-    (flat_map (effects_there log) (numbers_from from k))) none
-    ∙ ap (words_then h starting log) here
+words_along h starting log from zero within = grind arith
 words_along h starting log from (suc n) within =
     let there = entry_there log (from + n) (omega (arith, within)) in
     let one : from + n + 1 ≡ from + suc n = omega arith in
-    ap (λ k. words_through (words_then h starting log from) (effects_along log from k)) (sym one)
-    ∙ ap (words_through (words_then h starting log from))
-    (sym (along_next log from (from + n) (omega arith)))
-    ∙ through-append (words_then h starting log from) (effects_along log from (from + n))
-    (effects_there log (from + n))
-    ∙ ap (λ ws. words_through ws (effects_there log (from + n)))
-    (words_along h starting log from n (omega (arith, within)))
-    ∙ ap (λ o. words_through (words_then h starting log (from + n))
-    (option_map_or (effects_by log (from + n)) o [])) there.1
-    ∙ words_next h starting log (from + n) there.0 there.1
-    ∙ ap (words_then h starting log) one
+    cc (
+      along_next log from (from + n) (omega arith),
+      through-append (words_then h starting log
+          from) (effects_along log from (from + n)) (effects_there log (from + n)),
+      words_along h
+          starting log from n (omega (arith, within)),
+      there.1,
+      words_next h starting log (from + n)
+          there.0 there.1,
+    )
 
 pub words_reached : (h : Header) (starting : List StartWord) (log : List Entry) (from to : ℕ)
     (words after : List ℕ) → from ≤ to → to ≤ length log
@@ -149,12 +130,7 @@ pub words_reached : (h : Header) (starting : List StartWord) (log : List Entry) 
     → after ≡ words_through words (effects_along log from to)
     → after ≡ words_then h starting log to
 words_reached h starting log from to words after order within is through =
-    let place : from + (to - from) ≡ to = omega (arith, order) in
-    through ∙ ap (λ ws. words_through ws (effects_along log from to)) is
-    ∙ ap (λ k. words_through (words_then h starting log from) (effects_along log from k))
-    (sym place)
-    ∙ words_along h starting log from (to - from) (omega (arith, within, order))
-    ∙ ap (words_then h starting log) place
+    grind (arith, words_along h starting log from (to - from) (omega (arith, within, order)))
 
 -- one entry further along, with what it does to words
 pub pass_next : (log : List Entry) (from at : ℕ) (es : List Effect) (words mid after : List ℕ)
@@ -173,6 +149,4 @@ pub changes_next : (r : Rules) (key : ℕ) (log : List Entry) (from at : ℕ) (e
     → more ≡ found ++ changes_in r key mid es
     → more ≡ changes_in r key words (effects_along log from (at + 1))
 changes_next r key log from at es words mid found more order is before so push =
-    push ∙ (λ i. so i ++ changes_in r key (before i) (is i))
-    ∙ changes-append r key words (effects_along log from at) (effects_there log at)
-    ∙ ap (changes_in r key words) (along_next log from at order)
+    grind (arith, found, more, changes-append, along_next)

@@ -1,19 +1,18 @@
 -- Which parts give something to a key, and that together they give what is shown.
 use Rattle.std.proofs.Common.{◌≡◌, ◌≢◌, ℕ, zero, suc, ◌+◌, ◌-◌, ◌*◌, ◌/◌, ◌<◌, ◌≤◌, ◌^◌, Bool}
-use Rattle.std.proofs.Common.{true, false, cond, not, ◌&&◌, List, [], ◌∷◌, ◌++◌, length, refl}
+use Rattle.std.proofs.Common.{true, false, cond, not, List, [], ◌∷◌, ◌++◌, length, refl}
 use Rattle.std.proofs.Common.{ap, ◌∙◌, sym, arith}
 use Rattle.std.specs.Prelude.{◌==◌, nat_lt, flat_map, sum_by}
 use Rattle.std.proofs.lemmas.List.{append-nil, append_assoc}
 use Rattle.std.proofs.lemmas.List.Folds.{flat_map-map}
-use Rattle.std.proofs.lemmas.List.Sums.{sum_by-append, sum_by-cons}
+use Rattle.std.proofs.lemmas.List.Sums.{sum_by-append}
 use Rattle.vyrd_base.specs.declared.header.Header.{Header}
 use Rattle.vyrd_base.specs.declared.subject.Subject.{Subject}
 use Rattle.vyrd_base.specs.declared.subject.Subject.TheVariants.{Multiset, Cache, Tree, Buffers}
 use Rattle.vyrd_base.specs.declared.subject.Subject.TheVariants.{Own}
-use Rattle.vyrd_base.specs.Amounts.{Amounts, amount_of, collected, given, part_given}
-use Rattle.vyrd_base.specs.Buffers.{buffer_at, buffer_parts, is_buffer, text_of}
-use Rattle.vyrd_base.specs.Cache.{Chunk, chunk_at, chunk_parts, is_chunk, cached_pair, stored_pair}
-use Rattle.vyrd_base.specs.Multiset.{slot_parts}
+use Rattle.vyrd_base.specs.Amounts.{Amounts, amount_of, collected, given}
+use Rattle.vyrd_base.specs.Buffers.{buffer_at, buffer_parts}
+use Rattle.vyrd_base.specs.Cache.{chunk_at, chunk_parts}
 use Rattle.vyrd_base.specs.Own.OwnRules.{own_view}
 use Rattle.vyrd_base.specs.Own.Programs.{Written}
 use Rattle.vyrd_base.specs.Own.Reader.{written_in}
@@ -25,7 +24,7 @@ use Rattle.vyrd_base.proofs.AddedLaws.{parts-push}
 use Rattle.vyrd_base.proofs.HeaderLaws.{size_in_32_bits}
 use Rattle.vyrd_base.proofs.PartLaws.{slots_at_most}
 use Rattle.vyrd_base.proofs.SumLaws.{amount_of-collected, given-append, other_part}
-use Rattle.vyrd_base.proofs.TestLaws.{same_of, apart_of, below_of, not_below_of}
+use Rattle.vyrd_base.proofs.TestLaws.{same_of, apart_of}
 use Rattle.vyrd_view.specs.Pairs.{chunk_gives, buffer_gives}
 use Rattle.vyrd_view.specs.Decoded.{pairs_by}
 use Rattle.vyrd_view.specs.Laws.Buffers.{buffers_fit, buffers_show}
@@ -51,9 +50,7 @@ pub one_more : (f : ℕ → List (ℕ × ℕ)) (n : ℕ) (old before now more : 
     → before ≡ old ++ flat_map f (numbers_below n) → now ≡ before ++ more → more ≡ f n
     → now ≡ old ++ flat_map f (numbers_below (n + 1))
 one_more f n old before now more so_far put gives =
-    let upto : List (ℕ × ℕ) = flat_map f (numbers_below n) in
-    put ∙ ap (λ xs. xs ++ more) so_far ∙ append_assoc old upto more
-    ∙ ap (λ xs. old ++ (upto ++ xs)) gives ∙ ap (λ xs. old ++ xs) (sym (parts-push f n))
+    cc (append_assoc old (flat_map f (numbers_below n)) more, parts-push f n)
 
 module _ (f : ℕ → List (ℕ × ℕ)) where
   -- none of these numbers gives anything
@@ -97,14 +94,8 @@ apart_from_home size q i low = by_test (nat_lt q size) refl
   where
     by_test : (b : Bool) → nat_lt q size ≡ b → i ≢ cond b q (q - size)
         → (q ≢ i) × (q ≢ size + i)
-    by_test true e other =
-        let below = below_of q size e in
-        (λ same. other (sym same), λ same. absurd (omega (arith, same, below)))
-    by_test false e other =
-        let above = not_below_of q size e in (
-          λ same. absurd (omega (arith, same, above, low)),
-          λ same. other (omega (arith, same)),
-        )
+    by_test true e other = grind arith
+    by_test false e other = grind arith
 
 module _ (size q : ℕ) (gives : ℕ → List (ℕ × ℕ))
     (none : (i : ℕ) → q ≢ i → q ≢ size + i → given q (gives i) ≡ 0) where
@@ -130,43 +121,12 @@ module _ (size q : ℕ) (gives : ℕ → List (ℕ × ℕ))
 -- a chunk whose keys are others
 pub chunk_elsewhere : (size q : ℕ) (words : List ℕ) (i : ℕ) → q ≢ i → q ≢ size + i
     → given q (chunk_parts size i (chunk_at words i)) ≡ 0
-chunk_elsewhere size q words i other past = by_chunk (is_chunk c)
-  where
-    c : Chunk
-    c = chunk_at words i
-
-    shown : ℕ
-    shown = cond (c.state == 0) (stored_pair c) (cached_pair c)
-
-    own : part_given q (i, shown) ≡ 0
-    own = other_part q i shown other
-
-    by_flaw : (b : Bool)
-        → given q ((i, cond (c.state == 0) (stored_pair c) (cached_pair c))
-        ∷ cond {A = List (ℕ × ℕ)} b ((size + i, 1) ∷ []) []) ≡ 0
-    by_flaw true = omega (arith, own, other_part q (size + i) 1 past)
-    by_flaw false = omega (arith, own)
-
-    by_chunk : (b : Bool)
-        → given q (cond {A = List (ℕ × ℕ)} (not b) ((size + i, 2) ∷ [])
-        ((i, cond (c.state == 0) (stored_pair c) (cached_pair c))
-        ∷ cond {A = List (ℕ × ℕ)} (c.state == 1 && not (cached_pair c == stored_pair c))
-        ((size + i, 1) ∷ []) [])) ≡ 0
-    by_chunk true = by_flaw (c.state == 1 && not (cached_pair c == stored_pair c))
-    by_chunk false = omega (arith, other_part q (size + i) 2 past)
+chunk_elsewhere size q words i other past = grind (arith, past, other_part, given)
 
 -- a buffer whose keys are others
 pub buffer_elsewhere : (size q : ℕ) (words : List ℕ) (i : ℕ) → q ≢ i → q ≢ size + i
     → given q (buffer_parts size i (buffer_at words i)) ≡ 0
-buffer_elsewhere size q words i other past = by_buffer (is_buffer (buffer_at words i))
-  where
-    text : ℕ
-    text = text_of (buffer_at words i).character (buffer_at words i).count
-
-    by_buffer : (b : Bool)
-        → given q (cond {A = List (ℕ × ℕ)} b ((i, text) ∷ []) ((size + i, 1) ∷ [])) ≡ 0
-    by_buffer true = omega (arith, other_part q i text other)
-    by_buffer false = omega (arith, other_part q (size + i) 1 past)
+buffer_elsewhere size q words i other past = grind (arith, past, given, other_part)
 
 -- ---- what parts give together
 
@@ -182,11 +142,7 @@ all_numbered gives n =
 -- the parts of a subject, without their numbers
 parts_are : (s : Subject) (size : ℕ) (words : List ℕ)
     → all_given (parts_of_subject s size words) ≡ parts_of s size words
-parts_are Multiset size words = all_numbered (slot_parts words) (4 * size)
-parts_are Cache size words = all_numbered (λ n. chunk_parts size n (chunk_at words n)) size
-parts_are Tree size words = chain_is size words size [] 0
-parts_are Buffers size words = all_numbered (λ n. buffer_parts size n (buffer_at words n)) size
-parts_are Own size words = refl
+parts_are s size words = grind (arith, all_numbered, chain_is)
 
 own_parts_give : (w : Written) (words : List ℕ) (q : ℕ)
     → given q (all_given (parts_of_own w words)) ≡ amount_of (own_view w words) q
@@ -219,15 +175,7 @@ parts_give (own h lines) words q = own_parts_give (written_in lines) words q
 -- ---- the sum of what they give
 
 sum_told : (part amount : ℕ) → sum_by (λ p. p.1) (told part amount) ≡ amount
-sum_told part amount = by_test (amount == 0) refl
-  where
-    alone : amount + 0 ≡ amount
-    alone = omega arith
-
-    by_test : (b : Bool) → (amount == 0) ≡ b
-        → sum_by (λ p. p.1) (cond {A = List (ℕ × ℕ)} b [] ((part, amount) ∷ [])) ≡ amount
-    by_test true e = sym (same_of amount 0 e)
-    by_test false e = sum_by-cons (λ (p : ℕ × ℕ). p.1) (part, amount) [] ∙ alone
+sum_told part amount = grind (arith, same_of)
 
 -- those that give something give all of it
 pub sum_given : (q : ℕ) (parts : List (ℕ × List (ℕ × ℕ)))

@@ -1,7 +1,7 @@
 -- What the nodes of a tree's chain give, one after the other.
 use Rattle.std.proofs.Common.{◌≡◌, ℕ, zero, suc, ◌+◌, ◌-◌, ◌*◌, ◌^◌, ◌<◌, ◌≤◌, min, Bool, true}
 use Rattle.std.proofs.Common.{false, cond, not, ◌&&◌, ◌||◌, List, [], ◌∷◌, ◌++◌, length, refl, ap}
-use Rattle.std.proofs.Common.{◌∙◌, sym, subst, get_or, set, replicate, arith}
+use Rattle.std.proofs.Common.{◌∙◌, sym, get_or, set, replicate, arith}
 use Rattle.std.specs.Prelude.{◌==◌, flat_map}
 use Rattle.std.proofs.lemmas.List.{append-nil, append_assoc}
 use Rattle.vyrd_base.specs.Amounts.{given}
@@ -31,22 +31,14 @@ chain_is size words (suc left) seen n =
         ++ flat_map (λ part. part.1) (cond {A = List (ℕ × List (ℕ × ℕ))} (not ends && not back)
         (chain_from size words left (n ∷ seen) (right_of words n)) [])
         ≡ parts_after size words left seen n ends back
-    by_tests true back more = refl
-    by_tests false true more = refl
-    by_tests false false more = more
+    by_tests ends back more = search (back, more, arith)
 
 -- ---- how much they give
 
 -- a node gives little
 pub node_low : (words : List ℕ) (n q : ℕ) → given q (node_parts words n) ≤ 2 ^ 35
 node_low words n q =
-    let few : min (count_of words n) 4 ≤ 4 = omega arith in
-    omega (
-      arith,
-      ap (given q) (node_parts-places words n),
-      places_at_most words n (min (count_of words n) 4) q,
-      few,
-    )
+    grind (arith, node_parts-places words n, places_at_most words n (min (count_of words n) 4) q)
 
 -- and so does the chain
 pub chain_fits : (size : ℕ) (words : List ℕ) (q left : ℕ) (seen : List ℕ) (n : ℕ)
@@ -66,9 +58,7 @@ chain_fits size words q (suc left) seen n =
         → given q (chain_parts_from size words left (n ∷ seen) (right_of words n))
         ≤ left * (2 ^ 35 + 1)
         → given q (parts_after size words left seen n ends back) ≤ left * (2 ^ 35 + 1) + 1
-    by_tests true back more = omega arith
-    by_tests false true more = omega (arith, one_at_most q (2 ^ 33) 1)
-    by_tests false false more = omega (arith, more)
+    by_tests ends back more = search (back, more, one_at_most, arith)
 
 -- ---- a walk along the chain
 
@@ -83,19 +73,13 @@ pub record NodeWalk (size : ℕ) (words : List ℕ) (q : ℕ) (old put : List (�
 -- at the start
 pub walk_begins : (size : ℕ) (words : List ℕ) (q : ℕ) (old : List (ℕ × ℕ)) (flags : List Bool)
     → flags ≡ replicate size false → NodeWalk size words q old old flags size 0
-walk_begins size words q old flags none = record {
-  seen = [];
-  marks = λ n. ap (λ s. get_or s n true) none ∙ none_marked size n;
-  rest = refl;
-}
+walk_begins size words q old flags none = grind (arith, none_marked)
 
 -- before the last turn a node is left
 pub walk_left : (size : ℕ) (words : List ℕ) (q : ℕ) (old put : List (ℕ × ℕ)) (flags : List Bool)
     (turn n : ℕ) → turn < size → NodeWalk size words q old put flags (size - turn) n
     → NodeWalk size words q old put flags (suc (size - (turn + 1))) n
-walk_left size words q old put flags turn n more walk =
-    let one : size - turn ≡ suc (size - (turn + 1)) = omega arith in
-    subst (λ left. NodeWalk size words q old put flags left n) one walk
+walk_left size words q old put flags turn n more walk = grind arith
 
 -- no node is left
 pub walk_over : (size : ℕ) (words : List ℕ) (q : ℕ) (old put : List (ℕ × ℕ)) (flags : List Bool)

@@ -5,11 +5,8 @@ use Rattle.std.proofs.Common.{arith, append_assoc, reverse}
 use Rattle.std.specs.Prelude.{option_map}
 use Rattle.std.specs.Option.{option_map_or}
 use Rattle.std.proofs.lemmas.List.{take-map, drop-map, drop-drop, drop_more, drop_all}
-use Rattle.std.proofs.lemmas.List.{reverse-append}
 use Rattle.std.proofs.lemmas.Option.{slice_get_within, get_or_from_slice_get}
 use Rattle.vyrd_base.specs.declared.log.Kind.{Kind}
-use Rattle.vyrd_base.specs.declared.log.Kind.TheVariants.{Call, Return, Write, Commit, BlockOpen}
-use Rattle.vyrd_base.specs.declared.log.Kind.TheVariants.{BlockClose, BlockCommit}
 use Rattle.vyrd_base.specs.declared.log.Entry.{Entry}
 use Rattle.vyrd_base.specs.Places.{newest_first_onto, newest_first}
 use Rattle.vyrd_base.proofs.PlaceLaws.{newest_first-push, newest_first_onto-append}
@@ -39,8 +36,7 @@ turned_onto : {A : Type 0} (front ys : List A)
     → newest_first_onto front ys ≡ newest_first ys ++ front
 turned_onto front [] = refl
 turned_onto front (y ∷ ys) = turned_onto (y ∷ front) ys
-    ∙ sym (ap (λ zs. zs ++ front) (turned_onto (y ∷ []) ys)
-    ∙ append_assoc (newest_first ys) (y ∷ []) front)
+    ∙ sym (cc (turned_onto (y ∷ []) ys, append_assoc (newest_first ys) (y ∷ []) front))
 
 pub turned-append : {A : Type 0} (xs ys : List A)
     → newest_first (xs ++ ys) ≡ newest_first ys ++ newest_first xs
@@ -52,26 +48,18 @@ turned_twice (x ∷ xs) = ap newest_first (turned_onto (x ∷ []) xs)
     ∙ newest_first-push (newest_first xs) x ∙ ap (λ ys. x ∷ ys) (turned_twice xs)
 
 pub turned_is : {A : Type 0} (xs : List A) → newest_first xs ≡ reverse xs
-turned_is [] = refl
-turned_is (x ∷ xs) = turned_onto (x ∷ []) xs ∙ ap (λ ys. ys ++ x ∷ []) (turned_is xs)
-    ∙ sym (reverse-append (x ∷ []) xs)
+turned_is e0 = grind (arith, turned_onto)
 
 -- an entry of the numbered log
 there_from : (p n : ℕ) (es : List Entry)
     → slice_get (numbered_from p es) n ≡ option_map (numbered_entry (p + n)) (slice_get es n)
 there_from p n [] = refl
-there_from p zero (e ∷ es) =
-    let same : p ≡ p + 0 = omega arith in ap (λ k. Some (numbered_entry k e)) same
-there_from p (suc n) (e ∷ es) =
-    let one : p + 1 + n ≡ p + suc n = omega arith in
-    there_from (p + 1) n es ∙ ap (λ k. option_map (numbered_entry k) (slice_get es n)) one
+there_from p zero (e ∷ es) = grind arith
+there_from p (suc n) (e ∷ es) = grind (arith, there_from (p + 1) n es)
 
 pub numbered_there : (log : List Entry) (n : ℕ) (e : Entry) → slice_get log n ≡ Some e
     → slice_get (numbered log) n ≡ Some (numbered_entry n e)
-numbered_there log n e here =
-    let same : 0 + n ≡ n = omega arith in
-    there_from 0 n log
-    ∙ (λ i. option_map (numbered_entry (same i)) (here i))
+numbered_there log n e here = grind (arith, here, there_from)
 
 length_from : (p : ℕ) (es : List Entry) → length (numbered_from p es) ≡ length es
 length_from p [] = refl
@@ -99,13 +87,7 @@ ahead_end log n past = drop_all n (numbered log) (omega (arith, length_from 0 lo
 -- with the values that are written there the numbered log is the log
 kind_back : (f : ℕ → ℕ) (p : ℕ) (kind : Kind) → f p ≡ value_of kind
     → valued_kind f (numbered_kind p kind) ≡ kind
-kind_back f p (Call method args) is = refl
-kind_back f p (Return reply) is = refl
-kind_back f p (Write word value) is = ap (Write word) is
-kind_back f p Commit is = refl
-kind_back f p BlockOpen is = refl
-kind_back f p BlockClose is = refl
-kind_back f p BlockCommit is = refl
+kind_back f p kind is = grind arith
 
 pub value_here : (log : List Entry) (p : ℕ) (e : Entry) → slice_get log p ≡ Some e
     → value_at log p ≡ value_of e.kind
@@ -132,8 +114,7 @@ behind_back log n = map-newest_first (valued (value_at log)) (take n (numbered l
 
 pub ahead_back : (log : List Entry) (n : ℕ)
     → map (valued (value_at log)) (ahead log n) ≡ drop n log
-ahead_back log n = sym (drop-map (valued (value_at log)) n (numbered log))
-    ∙ ap (drop n) (numbered_back log)
+ahead_back log n = cc (drop-map (valued (value_at log)) n (numbered log), numbered_back log)
 
 pub kind_there : (log : List Entry) (n : ℕ) (e : Entry) → slice_get log n ≡ Some e
     → valued_kind (value_at log) (numbered_kind n e.kind) ≡ e.kind

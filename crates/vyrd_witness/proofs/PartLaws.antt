@@ -1,7 +1,7 @@
 -- What the words of a built-in subject show of a key, where one of them has changed: only what its
 -- part gives can be other than before.
 use Rattle.std.proofs.Common.{◌≡◌, ◌≢◌, ℕ, zero, suc, ◌+◌, ◌*◌, ◌/◌, ◌%◌, ◌<◌, ◌≤◌, Bool, true}
-use Rattle.std.proofs.Common.{false, cond, ◌||◌, List, [], ◌∷◌, length, map, set, refl, ap, ◌∙◌}
+use Rattle.std.proofs.Common.{false, ◌||◌, List, [], ◌∷◌, length, map, set, refl, ap, ◌∙◌}
 use Rattle.std.proofs.Common.{sym, subst, arith, get_or-set_other}
 use Rattle.std.specs.Prelude.{◌==◌, flat_map, slice_index}
 use Rattle.std.proofs.lemmas.List.{set-get_or, length-set}
@@ -9,9 +9,7 @@ use Rattle.std.proofs.Math.Nat.{div-add-mod, mod-lt}
 use Rattle.vyrd_base.specs.declared.header.Header.{Header}
 use Rattle.vyrd_base.specs.declared.subject.Subject.{Subject}
 use Rattle.vyrd_base.specs.declared.subject.Subject.TheVariants.{Multiset, Cache, Buffers}
-use Rattle.vyrd_base.specs.Amounts.{amount_of, collected, given, part_given}
-use Rattle.vyrd_base.specs.Cache.{chunk_at}
-use Rattle.vyrd_base.specs.Buffers.{is_buffer, buffer_at, text_of}
+use Rattle.vyrd_base.specs.Amounts.{amount_of, collected, given}
 use Rattle.vyrd_base.specs.Layout.{plain_words, plain_words_of}
 use Rattle.vyrd_base.specs.Multiset.{slot_parts}
 use Rattle.vyrd_base.specs.Places.{numbers_below}
@@ -21,7 +19,7 @@ use Rattle.vyrd_base.proofs.SumLaws.{amount_of-collected, given_at_most, other_p
 use Rattle.vyrd_base.proofs.TestLaws.{same_of, apart_of, isnt_same, neither_true}
 use Rattle.vyrd_view.specs.Comparing.{AgreeElsewhere}
 use Rattle.vyrd_view.specs.Decoded.{Gives, words_of, pairs_by}
-use Rattle.vyrd_view.specs.Pairs.{chunk_amount, chunk_flaw, chunk_gives, buffer_gives}
+use Rattle.vyrd_view.specs.Pairs.{chunk_gives, buffer_gives}
 use Rattle.vyrd_view.specs.Laws.Sums.{given_flat_push, places_give}
 use Rattle.vyrd_view.specs.Laws.Chunks.{chunks_show}
 use Rattle.vyrd_view.specs.Laws.Buffers.{buffers_show}
@@ -88,14 +86,7 @@ module _ (q : ℕ) (f g : ℕ → List (ℕ × ℕ)) where
 
 -- a slot gives 1 at most
 pub slot_at_most : (q : ℕ) (words : List ℕ) (i : ℕ) → given q (slot_parts words i) ≤ 1
-slot_at_most q words i = by_state (slice_index words (2 * i) == 2)
-  where
-    value : ℕ
-    value = slice_index words (2 * i + 1)
-
-    by_state : (b : Bool) → given q (cond {A = List (ℕ × ℕ)} b ((value, 1) ∷ []) []) ≤ 1
-    by_state true = omega (arith, part_at_most q value 1)
-    by_state false = omega arith
+slot_at_most q words i = grind (arith, given, part_at_most)
 
 -- the slots that the word isn't in
 slot_elsewhere : (words : List ℕ) (w v i : ℕ) → i ≢ w / 2
@@ -105,10 +96,7 @@ slot_elsewhere words w v i other =
     let rest : w % 2 < 2 = mod-lt w (omega arith) in
     let state : 2 * i ≢ w = λ at. other (omega (arith, at, whole, rest)) in
     let value : 2 * i + 1 ≢ w = λ at. other (omega (arith, at, whole, rest)) in
-    ap (λ s. cond (s == 2) ((slice_index (set words w v) (2 * i + 1), 1) ∷ []) [])
-    (get_or-set_other words w (2 * i) v 0 state)
-    ∙ ap (λ x. cond (slice_index words (2 * i) == 2) ((x, 1) ∷ []) [])
-    (get_or-set_other words w (2 * i + 1) v 0 value)
+    cc (get_or-set_other words w (2 * i) v 0 state, get_or-set_other words w (2 * i + 1) v 0 value)
 
 -- what the words of a multiset show is what its slots give
 shown_slots : (h : Header) (words : List ℕ) (q : ℕ) → h.subject ≡ Multiset
@@ -189,28 +177,12 @@ module _ (width places parts : ℕ) (gives : Gives) (words : List ℕ) (q w v : 
 -- a chunk whose keys are others
 chunk_gives_none : (size p q : ℕ) (own : List ℕ) → q ≢ p → q ≢ size + p
     → given q (map (chunk_gives size p own) (numbers_below 2)) ≡ 0
-chunk_gives_none size p q own other past =
-    let sum : given q (map (chunk_gives size p own) (numbers_below 2))
-    ≡ part_given q (p, chunk_amount (chunk_at own 0))
-    + (part_given q (size + p, chunk_flaw (chunk_at own 0)) + 0) = refl in
-    omega (
-      arith,
-      sum,
-      other_part q p (chunk_amount (chunk_at own 0)) other,
-      other_part q (size + p) (chunk_flaw (chunk_at own 0)) past,
-    )
+chunk_gives_none size p q own other past = grind (arith, past, given, other_part)
 
 -- a buffer whose keys are others
 buffer_gives_none : (size p q : ℕ) (own : List ℕ) → q ≢ p → q ≢ size + p
     → given q (map (buffer_gives size p own) (numbers_below 1)) ≡ 0
-buffer_gives_none size p q own other past = by_test (is_buffer (buffer_at own 0))
-  where
-    text : ℕ
-    text = text_of (buffer_at own 0).character (buffer_at own 0).count
-
-    by_test : (b : Bool) → given q (cond {A = ℕ × ℕ} b (p, text) (size + p, 1) ∷ []) ≡ 0
-    by_test true = omega (arith, other_part q p text other)
-    by_test false = omega (arith, other_part q (size + p) 1 past)
+buffer_gives_none size p q own other past = grind (arith, past, given, other_part)
 
 module _ (h : Header) (words : List ℕ) (q w was : ℕ) where
   -- what pairs of all parts give is what is shown

@@ -4,27 +4,26 @@ use Rattle.std.proofs.Common.{cond, ◌&&◌, ◌||◌, List, [], ◌∷◌, ◌
 use Rattle.std.proofs.Common.{drop}
 use Rattle.std.proofs.Common.{slice_get, Option, Some, None, is_some, refl, ap, ◌∙◌, sym, arith}
 use Rattle.std.specs.Prelude.{◌==◌, unwrap_or}
-use Rattle.std.specs.List.{list_any, flat_map}
+use Rattle.std.specs.List.{list_any}
 use Rattle.std.specs.Option.{option_or, option_map_or}
 use Rattle.std.proofs.lemmas.List.{length-take-le, take_all, drop_all}
 use Rattle.std.proofs.lemmas.List.Folds.{list_any-append}
 use Rattle.std.proofs.lemmas.Option.{slice_get_within}
 use Rattle.vyrd_base.specs.declared.header.Header.{Header}
 use Rattle.vyrd_base.specs.declared.log.Kind.{Kind}
-use Rattle.vyrd_base.specs.declared.log.Kind.TheVariants.{Call, Return, Write, Commit, BlockOpen}
-use Rattle.vyrd_base.specs.declared.log.Kind.TheVariants.{BlockClose, BlockCommit}
+use Rattle.vyrd_base.specs.declared.log.Kind.TheVariants.{Write}
 use Rattle.vyrd_base.specs.declared.log.Entry.{Entry}
 use Rattle.vyrd_base.specs.Callers.{by_caller, has_block, commit_or_open}
-use Rattle.vyrd_base.specs.Places.{first_answer, newest_first, numbers_from}
+use Rattle.vyrd_base.specs.Places.{first_answer, newest_first}
 use Rattle.vyrd_base.specs.Samples.{by}
-use Rattle.vyrd_base.specs.Shape.{is_held_by_other, is_raced}
+use Rattle.vyrd_base.specs.Shape.{is_raced}
 use Rattle.vyrd_base.specs.Words.{effects_at, effects_of_others, is_lone_commit, is_passed}
 use Rattle.vyrd_base.proofs.EffectLaws.{committed_since_open}
 use Rattle.vyrd_base.proofs.PlaceLaws.{length-newest_first}
 use Rattle.vyrd_witness.specs.declared.item.Item.TheVariants.{Passed}
 use Rattle.vyrd_witness.specs.Effects.{effect_of, effects_by, effects_there, effects_along}
 use Rattle.vyrd_witness.specs.Plain.{plain}
-use Rattle.vyrd_witness.specs.Races.{is_of_other, last_of, passed_from, held_items}
+use Rattle.vyrd_witness.specs.Races.{is_of_other, last_of, passed_from}
 use Rattle.vyrd_witness.specs.Races.{passed_items, race_items}
 use Rattle.vyrd_witness.proofs.EffectLaws.{plain_effects, along_next, entry_there, here_on}
 use Rattle.vyrd_witness.proofs.NumberedLaws.{turned-append}
@@ -36,14 +35,7 @@ commit_step : (n : ℕ) (own : Bool) (kind : Kind) (since : Option Bool) (last :
     → (unwrap_or since false ≡ true → is_some last ≡ true)
     → unwrap_or (option_or (cond own (commit_or_open kind) None) since) false ≡ true
     → is_some (cond (own && is_lone_commit kind) (Some n) last) ≡ true
-commit_step n false kind since last so done = so done
-commit_step n true (Call method args) since last so done = so done
-commit_step n true (Return reply) since last so done = so done
-commit_step n true (Write word value) since last so done = so done
-commit_step n true Commit since last so done = refl
-commit_step n true BlockOpen since last so done = cc
-commit_step n true BlockClose since last so done = so done
-commit_step n true BlockCommit since last so done = so done
+commit_step n own kind since last so done = grind arith
 
 last_commit : (c : ℕ) (earlier : List Entry) → committed_since_open c earlier ≡ true
     → is_some (last_of c is_lone_commit earlier) ≡ true
@@ -61,18 +53,14 @@ last_low c is (e ∷ earlier) k found =
   where
     by_test : (b : Bool) → cond b (Some (length earlier)) (last_of c is earlier) ≡ Some k
         → (last_of c is earlier ≡ Some k → k < length earlier) → k < length (e ∷ earlier)
-    by_test true here so = let same : length earlier ≡ k = cc in omega (arith, same)
-    by_test false before so = let low = so before in omega (arith, low)
+    by_test b here so = search (here, arith)
 
 -- whether one of some effects is another caller's on the word, seen by their words and values
 abbrev gives : ℕ → List (ℕ × ℕ) → Bool
 gives w writes = list_any (λ write. write.0 == w) writes
 
 or_swapped : (a b : Bool) → (a || b) ≡ (b || a)
-or_swapped true true = refl
-or_swapped true false = refl
-or_swapped false true = refl
-or_swapped false false = refl
+or_swapped a b = grind arith
 
 or_no : (a : Bool) → (a || false) ≡ a
 or_no true = refl
@@ -124,9 +112,7 @@ here_other log at c w e here other =
 
 here_own : (log : List Entry) (at c w : ℕ) (e : Entry) → slice_get log at ≡ Some e
     → (e.caller == c) ≡ true → list_any (is_of_other c w) (effects_there log at) ≡ false
-here_own log at c w e here own =
-    ap (λ o. list_any (is_of_other c w) (option_map_or (effects_by log at) o [])) here
-    ∙ of_own log at c e.caller w _ own
+here_own log at c w e here own = grind (arith, here, of_own)
 
 -- The effects since the caller's last lone commit, one entry further.
 abbrev any_along : List Entry → ℕ → ℕ → ℕ → ℕ → Bool
@@ -139,9 +125,7 @@ abbrev commit_then : List Entry → ℕ → ℕ → Option ℕ
 commit_then log c n = last_of c is_lone_commit (newest_first (take n log))
 
 none_along : (log : List Entry) (c w n : ℕ) → any_along log c w n n ≡ false
-none_along log c w n =
-    let none : n - n ≡ 0 = omega arith in
-    ap (λ k. list_any (is_of_other c w) (flat_map (effects_there log) (numbers_from n k))) none
+none_along log c w n = grind arith
 
 more_along : (log : List Entry) (c w from n : ℕ) → from ≤ n
     → any_along log c w from (n + 1)
@@ -156,9 +140,11 @@ since_next : (log : List Entry) (c w k n : ℕ) (e : Entry) → slice_get log n 
     → commit_then log c (n + 1) ≡ Some k
     → any_along log c w (k + 1) (n + 1) ≡ given_since log c w (n + 1)
 since_next log c w k n e here so found =
-    by_test (e.caller == c) (is_lone_commit e.kind) refl
-    (sym (ap (last_of c is_lone_commit) (newest_at log n e here)) ∙ found)
-    ∙ sym (ap (λ es. gives w (effects_of_others c es later)) (newest_at log n e here))
+    cc (
+      by_test (e.caller == c) (is_lone_commit e.kind) refl (sym (ap (last_of c is_lone_commit)
+          (newest_at log n e here)) ∙ found),
+      newest_at log n e here,
+    )
   where
     earlier : List Entry
     earlier = newest_first (take n log)
@@ -177,8 +163,7 @@ since_next log c w k n e here so found =
         length-newest_first (take n log) ∙ length-take-le n log (omega (arith, within))
 
     before : commit_then log c n ≡ Some k → any_along log c w (k + 1) n ≡ gives w others
-    before last =
-        so last ∙ ap (λ es. gives w (effects_of_others c earlier es)) (here_on log n e here)
+    before last = cc (so last, here_on log n e here)
 
     order : commit_then log c n ≡ Some k → k + 1 ≤ n
     order last = let low = last_low c is_lone_commit earlier k last in omega (arith, low, long)
@@ -187,9 +172,7 @@ since_next log c w k n e here so found =
         → cond (own && lone) (Some (length earlier)) (commit_then log c n) ≡ Some k
         → any_along log c w (k + 1) (n + 1)
         ≡ gives w (cond own (cond lone [] others) (here_writes ++ others))
-    by_test true true own last =
-        let same : length earlier ≡ k = cc in
-        ap (λ j. any_along log c w (j + 1) (n + 1)) (sym same ∙ long) ∙ none_along log c w (n + 1)
+    by_test true true own last = search (long, none_along, arith)
     by_test true false own last = more_along log c w (k + 1) n (order last)
         ∙ (λ i. before last i || here_own log n c w e here own i) ∙ or_no (gives w others)
     by_test false lone other last = more_along log c w (k + 1) n (order last)
@@ -217,8 +200,7 @@ none_kept f test (x ∷ xs) = by_test (test x) (none_kept f test xs)
     by_test : (b : Bool) → (map f (filter test xs) ≡ []) ↔ (list_any test xs ≡ false)
         → (map f (cond b (x ∷ filter test xs) (filter test xs)) ≡ [])
         ↔ ((b || list_any test xs) ≡ false)
-    by_test true rest = (λ e. cc, λ e. cc)
-    by_test false rest = rest
+    by_test b rest = search arith
 
 pub passed_shown : (front : List Entry) (c w : ℕ)
     → (passed_items front c w ≡ []) ↔ (is_passed c w (newest_first front) ≡ false)
@@ -256,12 +238,9 @@ passed_shown front c w = by_test (has_block c earlier) (committed_since_open c e
     by_test false done last some so = (λ e. refl, λ e. refl)
     by_test true false last some so = (λ e. refl, λ e. refl)
     by_test true true (Some k) some so = so k refl
-    by_test true true None some so =
-        let found : false ≡ true = some refl in (λ e. cc, λ e. cc)
+    by_test true true None some so = grind arith
 
 pub race_shown : (h : Header) (front : List Entry) (c w value : ℕ)
     → (race_items h front (by c (Write w value)) ≡ [])
     ↔ (is_raced h c w (newest_first front) ≡ false)
-race_shown h front c w value = both_none (held_items h front c w) (passed_items front c w)
-    (is_held_by_other h c w (newest_first front)) (is_passed c w (newest_first front))
-    (held_shown h front c w) (passed_shown front c w)
+race_shown h front c w value = grind (arith, both_none, held_shown, passed_shown)

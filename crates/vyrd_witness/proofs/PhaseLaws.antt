@@ -2,7 +2,7 @@
 use Rattle.std.proofs.Common.{◌≡◌, ℕ, ◌+◌, ◌<◌, Bool, true, false, ◌&&◌, List, ◌∷◌, take, set}
 use Rattle.std.proofs.Common.{length}
 use Rattle.std.proofs.Common.{Some, None, slice_get, refl, ap, subst, ◌∙◌, sym}
-use Rattle.std.specs.Prelude.{◌==◌, unwrap_or}
+use Rattle.std.specs.Prelude.{◌==◌}
 use Rattle.std.proofs.lemmas.Option.{slice_get_within}
 use Rattle.vyrd_base.specs.declared.header.Header.{Header}
 use Rattle.vyrd_base.specs.declared.log.Kind.{Kind}
@@ -11,9 +11,9 @@ use Rattle.vyrd_base.specs.declared.log.Kind.TheVariants.{BlockClose, BlockCommi
 use Rattle.vyrd_base.specs.declared.log.Entry.{Entry}
 use Rattle.vyrd_base.specs.Front.{first_break}
 use Rattle.vyrd_base.specs.Places.{newest_first}
-use Rattle.vyrd_base.specs.Callers.{has_block, open_or_close}
-use Rattle.vyrd_base.proofs.BlockLaws.{entry, by_same, own_block, other_answer}
-use Rattle.vyrd_base.proofs.EffectLaws.{own_inner, other_inner}
+use Rattle.vyrd_base.specs.Callers.{has_block}
+use Rattle.vyrd_base.proofs.BlockLaws.{entry, by_same, own_block}
+use Rattle.vyrd_base.proofs.EffectLaws.{own_inner}
 use Rattle.vyrd_base.proofs.KeptLaws.{rules_at}
 use Rattle.vyrd_base.proofs.ShadowLaws.{caller_kept}
 use Rattle.vyrd_base.proofs.PlaceLaws.{newest_first-push}
@@ -25,8 +25,7 @@ use Rattle.vyrd_witness.specs.Phases.{phase_of, phase_after, ArePhases}
 -- one entry further, in the log itself
 pub newest_at : (log : List Entry) (n : ℕ) (e : Entry) → slice_get log n ≡ Some e
     → newest_first (take (n + 1) log) ≡ e ∷ newest_first (take n log)
-newest_at log n e here =
-    ap newest_first (take_one_more log n e here) ∙ newest_first-push (take n log) e
+newest_at log n e here = cc (take_one_more log n e here, newest_first-push (take n log) e)
 
 -- a caller's own entry
 own_parts : (c : ℕ) (kind : Kind) (earlier : List Entry) (phase : Phase)
@@ -60,19 +59,13 @@ phase_own c Commit earlier =
 phase_own c BlockOpen earlier =
     own_parts c BlockOpen earlier (record { in_block = true; has_commit = false })
     (own_block c BlockOpen earlier) (own_inner c BlockOpen earlier)
-phase_own c BlockClose earlier =
-    own_parts c BlockClose earlier (record { in_block = false; has_commit = false })
-    (own_block c BlockClose earlier) (own_inner c BlockClose earlier)
-phase_own c BlockCommit earlier =
-    own_parts c BlockCommit earlier (record { in_block = false; has_commit = false })
-    (own_block c BlockCommit earlier) (own_inner c BlockCommit earlier)
+phase_own c BlockClose earlier = simp (own_parts, own_block, own_inner)
+phase_own c BlockCommit earlier = simp (own_parts, own_block, own_inner)
 
 -- another caller's
 pub phase_other : (c d : ℕ) (kind : Kind) (earlier : List Entry) → (d == c) ≡ false
     → phase_of c (entry d kind ∷ earlier) ≡ phase_of c earlier
-phase_other c d kind earlier other =
-    let block = ap (λ o. unwrap_or o false) (other_answer c d open_or_close kind earlier other) in
-    λ i. record { in_block = block i; has_commit = other_inner c d kind earlier other i }
+phase_other c d kind earlier other = cc
 
 -- all phases, after an entry whose caller had this one
 pub phases_next : (h : Header) (log : List Entry) (at : ℕ) (e : Entry) (phases : List Phase)

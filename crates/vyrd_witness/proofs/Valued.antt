@@ -1,6 +1,6 @@
 -- When a write takes effect doesn't depend on its value: where each value that is written is
 -- another one by a function, so is that of each effect.
-use Rattle.std.proofs.Common.{◌≡◌, ℕ, Bool, true, false, cond, ◌&&◌, List, [], ◌∷◌, ◌++◌, map}
+use Rattle.std.proofs.Common.{◌≡◌, ℕ, Bool, true, false, cond, List, [], ◌∷◌, ◌++◌, map}
 use Rattle.std.proofs.Common.{Option, Some, None, refl, ap, ◌∙◌, sym}
 use Rattle.std.specs.Prelude.{◌==◌, option_map, unwrap_or}
 use Rattle.std.specs.Option.{option_or, option_map_or}
@@ -59,9 +59,7 @@ block_same f c es = ap (λ o. unwrap_or o false) (answer_same f c open_or_close 
 
 pub inner_commit_same : (f : ℕ → ℕ) (c : ℕ) (es : List Entry)
     → has_inner_commit c (map (valued f) es) ≡ has_inner_commit c es
-inner_commit_same f c es =
-    let commit = answer_same f c commit_or_open (inner_same f) es in
-    λ i. block_same f c es i && unwrap_or (commit i) false
+inner_commit_same f c es = simp (answer_same, inner_same, block_same)
 
 -- the writes of a block, and those that it still makes
 with_same : (f : ℕ → ℕ) (b : Bool) (kind : Kind) (ws : List (ℕ × ℕ))
@@ -86,15 +84,13 @@ pub writes_same : (f : ℕ → ℕ) (c : ℕ) (es : List Entry)
     → block_writes c (map (valued f) es) ≡ map (valued_write f) (block_writes c es)
 writes_same f c [] = refl
 writes_same f c (e ∷ es) =
-    ap (with_write (e.caller == c) (valued_kind f e.kind)) (writes_same f c es)
-    ∙ with_same f (e.caller == c) e.kind (block_writes c es)
+    cc (writes_same f c es, with_same f (e.caller == c) e.kind (block_writes c es))
 
 ahead_more : (f : ℕ → ℕ) (word value : ℕ) (o : Option (List (ℕ × ℕ)))
     → option_map (λ ws. ws ++ (word, f value) ∷ []) (option_map (map (valued_write f)) o)
     ≡ option_map (map (valued_write f)) (option_map (λ ws. ws ++ (word, value) ∷ []) o)
 ahead_more f word value None = refl
-ahead_more f word value (Some ws) =
-    ap Some (sym (map-append (valued_write f) ws ((word, value) ∷ [])))
+ahead_more f word value (Some ws) = cc (map-append (valued_write f) ws ((word, value) ∷ []))
 
 ahead_step : (f : ℕ → ℕ) (kind : Kind) (o : Option (List (ℕ × ℕ)))
     → ahead_at (valued_kind f kind) (option_map (map (valued_write f)) o)
@@ -158,8 +154,7 @@ pub effects_same : (f : ℕ → ℕ) (c : ℕ) (kind : Kind) (earlier later : Li
 effects_same f c (Call method args) earlier later = refl
 effects_same f c (Return reply) earlier later = refl
 effects_same f c (Write word value) earlier later =
-    ap (λ b. cond b [] ((word, f value) ∷ [])) (block_same f c earlier)
-    ∙ by_test (has_block c earlier)
+    cc (block_same f c earlier, by_test (has_block c earlier))
   where
     by_test : (b : Bool) → cond b [] ((word, f value) ∷ [])
         ≡ map (valued_write f) (cond b [] ((word, value) ∷ []))

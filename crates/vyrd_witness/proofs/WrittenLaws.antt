@@ -24,9 +24,9 @@ use Rattle.vyrd_base.proofs.ListLaws.{slice_get-drop}
 use Rattle.vyrd_base.proofs.TestLaws.{same_of}
 use Rattle.vyrd_witness.specs.declared.effect.Effect.{Effect}
 use Rattle.vyrd_witness.specs.Numbered.{numbered_kind, numbered_entry, numbered_from}
-use Rattle.vyrd_witness.specs.Effects.{value_of, value_at, effect_of, effects_by, effects_there}
+use Rattle.vyrd_witness.specs.Effects.{value_at, effect_of, effects_by, effects_there}
 use Rattle.vyrd_witness.specs.Written.{IsWritten}
-use Rattle.vyrd_witness.proofs.NumberedLaws.{behind, ahead, behind_next, value_here}
+use Rattle.vyrd_witness.proofs.NumberedLaws.{behind, ahead, behind_next}
 use Rattle.vyrd_witness.proofs.EffectLaws.{entry_there}
 
 -- the entry at the position of a write is the caller's write to that word
@@ -35,25 +35,13 @@ Stands log c write = slice_get log write.1 ≡ Some (entry c (Write write.0 (val
 
 one_stands : (log : List Entry) (c n word value : ℕ) (e : Entry) → slice_get log n ≡ Some e
     → e.caller ≡ c → e.kind ≡ Write word value → Stands log c (word, n)
-one_stands log c n word value e here same is =
-    let given : value_at log n ≡ value = value_here log n e here ∙ ap value_of is in
-    here ∙ ap Some (λ i. record {
-      caller = same i;
-      kind = (is ∙ ap (Write word) (sym given)) i;
-    })
+one_stands log c n word value e here same is = grind arith
 
 -- those of a block so far
 own_step : (log : List Entry) (c n : ℕ) (e : Entry) (ws : List (ℕ × ℕ)) → slice_get log n ≡ Some e
     → e.caller ≡ c → All (Stands log c) ws → (kind : Kind) → e.kind ≡ kind
     → All (Stands log c) (with_write true (numbered_kind n kind) ws)
-own_step log c n e ws here same all (Call method args) is = all
-own_step log c n e ws here same all (Return reply) is = all
-own_step log c n e ws here same all (Write word value) is =
-    All-cons (Stands log c) (word, n) ws (one_stands log c n word value e here same is) all
-own_step log c n e ws here same all Commit is = all
-own_step log c n e ws here same all BlockOpen is = All-nil (Stands log c)
-own_step log c n e ws here same all BlockClose is = all
-own_step log c n e ws here same all BlockCommit is = all
+own_step log c n e ws here same all kind is = grind (arith, here, one_stands)
 
 behind_stand : (log : List Entry) (c n : ℕ) → n ≤ length log
     → All (Stands log c) (block_writes c (behind log n))
@@ -61,20 +49,14 @@ behind_stand log c zero low = All-nil (Stands log c)
 behind_stand log c (suc n) low =
     let there = entry_there log n (omega (arith, low)) in
     let one : n + 1 ≡ suc n = omega arith in
-    subst (λ k. All (Stands log c) (block_writes c (behind log k))) one
-    (subst (λ es. All (Stands log c) (block_writes c es)) (sym (behind_next log n there.0 there.1))
+    rw (← one)
+    (rw (behind_next log n there.0 there.1)
     (step there.0 there.1 (behind_stand log c n (omega (arith, low)))))
   where
     step : (e : Entry) → slice_get log n ≡ Some e
         → All (Stands log c) (block_writes c (behind log n))
         → All (Stands log c) (block_writes c (numbered_entry n e ∷ behind log n))
-    step e here all = by_same e.caller c
-        (λ same. subst (λ d. All (Stands log c)
-        (block_writes c (entry d (numbered_kind n e.kind) ∷ behind log n))) (sym same)
-        (subst (All (Stands log c)) (sym (own_writes c (numbered_kind n e.kind) (behind log n)))
-        (own_step log c n e (block_writes c (behind log n)) here same all e.kind refl)))
-        (λ other. subst (All (Stands log c))
-        (sym (other_writes c e.caller (numbered_kind n e.kind) (behind log n) other)) all)
+    step e here all = search (by_same, behind, own_writes, own_step, here, other_writes, arith)
 
 -- those that a block still makes
 abbrev StandIfSome : List Entry → ℕ → Option (List (ℕ × ℕ)) → Type 0
@@ -90,8 +72,7 @@ one_more log c word n (Some found) one rest ws is =
     (rest found refl) (All-cons (Stands log c) (word, n) [] one (All-nil (Stands log c))))
 
 none_left : (log : List Entry) (c : ℕ) → StandIfSome log c (Some [])
-none_left log c ws is = let same : [] ≡ ws = cc in
-    subst (All (Stands log c)) same (All-nil (Stands log c))
+none_left log c ws is = grind (arith, All-nil (Stands log c))
 
 ahead_step : (log : List Entry) (c n : ℕ) (e : Entry) (o : Option (List (ℕ × ℕ)))
     → slice_get log n ≡ Some e → e.caller ≡ c → StandIfSome log c o → (kind : Kind)
@@ -116,29 +97,21 @@ from_stand log c p (e ∷ es) is =
     o = writes_ahead c (numbered_from (p + 1) es)
 
     here : slice_get log p ≡ Some e
-    here = sym (slice_get-drop log p) ∙ ap (λ xs. slice_get xs 0) is
+    here = cc (slice_get-drop log p)
 
     by_test : (b : Bool) → (e.caller == c) ≡ b → StandIfSome log c o
         → StandIfSome log c (cond b (ahead_at (numbered_kind p e.kind) o) o)
-    by_test true same rest =
-        ahead_step log c p e o here (same_of e.caller c same) rest e.kind refl
+    by_test true same rest = search (ahead_step, here, same_of, arith)
     by_test false same rest = rest
 
 drop_from : (n p : ℕ) (es : List Entry)
     → drop n (numbered_from p es) ≡ numbered_from (p + n) (drop n es)
-drop_from zero p es =
-    let same : p ≡ p + 0 = omega arith in ap (λ k. numbered_from k es) same
+drop_from zero p es = grind arith
 drop_from (suc n) p [] = refl
-drop_from (suc n) p (e ∷ es) =
-    let one : p + 1 + n ≡ p + suc n = omega arith in
-    drop_from n (p + 1) es ∙ ap (λ k. numbered_from k (drop n es)) one
+drop_from (suc n) p (e ∷ es) = grind (arith, drop_from n (p + 1) es)
 
 ahead_stand : (log : List Entry) (c n : ℕ) → StandIfSome log c (writes_ahead c (ahead log n))
-ahead_stand log c n =
-    let same : 0 + n ≡ n = omega arith in
-    subst (λ es. StandIfSome log c (writes_ahead c es))
-    (sym (drop_from n 0 log ∙ ap (λ k. numbered_from k (drop n log)) same))
-    (from_stand log c n (drop n log) refl)
+ahead_stand log c n = grind (arith, drop_from n 0 log, from_stand log c n (drop n log) refl)
 
 -- those that take effect at an entry
 at_stand : (log : List Entry) (at c : ℕ) (e : Entry) → slice_get log at ≡ Some e → e.caller ≡ c
@@ -150,9 +123,7 @@ at_stand log at c e here same low (Return reply) is = All-nil (Stands log c)
 at_stand log at c e here same low (Write word value) is = by_test (has_block c (behind log at))
   where
     by_test : (b : Bool) → All (Stands log c) (cond b [] ((word, at) ∷ []))
-    by_test true = All-nil (Stands log c)
-    by_test false = All-cons (Stands log c) (word, at) []
-        (one_stands log c at word value e here same is) (All-nil (Stands log c))
+    by_test b = search (one_stands, here, arith)
 at_stand log at c e here same low Commit is =
     by_test (has_block c (behind log at)) (writes_ahead c (ahead log (at + 1)))
     (ahead_stand log c (at + 1))
@@ -168,13 +139,11 @@ at_stand log at c e here same low BlockOpen is = All-nil (Stands log c)
 at_stand log at c e here same low BlockClose is = by_test (has_inner_commit c (behind log at))
   where
     by_test : (b : Bool) → All (Stands log c) (cond b [] (block_writes c (behind log at)))
-    by_test true = All-nil (Stands log c)
-    by_test false = behind_stand log c at low
+    by_test b = search (behind_stand, arith)
 at_stand log at c e here same low BlockCommit is = by_test (has_inner_commit c (behind log at))
   where
     by_test : (b : Bool) → All (Stands log c) (cond b [] (block_writes c (behind log at)))
-    by_test true = All-nil (Stands log c)
-    by_test false = behind_stand log c at low
+    by_test b = search (behind_stand, arith)
 
 All-newest_first : {A : Type 0} (P : A → Type 0) (xs ys : List A) → All P xs → All P ys
     → All P (newest_first_onto xs ys)
@@ -196,12 +165,7 @@ by_written log at e here =
     low = let within = slice_get_within log at e here in omega (arith, within)
 
 there_written : (log : List Entry) (at : ℕ) → All (IsWritten log) (effects_there log at)
-there_written log at = by_entry (slice_get log at) refl
-  where
-    by_entry : (o : Option Entry) → slice_get log at ≡ o
-        → All (IsWritten log) (option_map_or (effects_by log at) o [])
-    by_entry None is = All-nil (IsWritten log)
-    by_entry (Some e) is = by_written log at e is
+there_written log at = grind (arith, by_written)
 
 -- their words are the header's, where the log keeps all rules
 pub there_fit : (h : Header) (log : List Entry) (at n : ℕ) (es : List Effect)

@@ -1,6 +1,6 @@
 -- What late writes cost over a whole log: the work that open blocks hold is a potential.
 use Rattle.std.proofs.Common.{◌≡◌, ◌≢◌, ℕ, zero, suc, ◌+◌, ◌*◌, ◌-◌, ◌<◌, ◌≤◌, List, [], ◌∷◌, ◌++◌}
-use Rattle.std.proofs.Common.{length, refl, ap, subst, ◌∙◌, sym, arith, Bool, true, false, cond}
+use Rattle.std.proofs.Common.{length, refl, ap, ◌∙◌, sym, arith, Bool, true, false, cond}
 use Rattle.std.proofs.Common.{Option, None}
 use Rattle.std.specs.Prelude.{◌==◌, ◌||◌, unwrap_or}
 use Rattle.std.specs.Option.{option_or}
@@ -30,12 +30,7 @@ held_if is_open number commits = cond is_open (2 * parts_since commits number) 0
 -- one more commit, seen from a block that may be closed
 seen_by_other : (is_open cuts : Bool) (commits n : ℕ) → n ≤ commits
     → held_if is_open n (cond cuts 1 0 + commits) ≤ held_if is_open n commits + 2
-seen_by_other false cuts commits n low = omega arith
-seen_by_other true cuts commits zero low = omega arith
-seen_by_other true true commits (suc m) low =
-    let one : 1 + commits - m ≡ suc (commits - m) = omega (arith, low) in omega (arith, one)
-seen_by_other true false commits (suc m) low =
-    let none : 0 + commits - m ≡ commits - m = omega arith in omega (arith, none)
+seen_by_other is_open cuts commits n low = grind arith
 
 -- a lone commit holds a commit alone
 new_commit : (is_open : Bool) (commits : ℕ) → held_if is_open (suc commits) (1 + commits) ≤ 2
@@ -48,19 +43,7 @@ by_same : (same : Bool) (kind : Kind) (commits n : ℕ) (answer : Option Bool) �
     (cond same (number_at kind commits n) n)
     (cond (is_commit kind) 1 0 + commits)
     ≤ held_if (unwrap_or answer false) n commits + 2
-by_same false kind commits n answer low = seen_by_other (unwrap_or answer false)
-    (is_commit kind) commits n low
-by_same true (Call method args) commits n answer low = seen_by_other (unwrap_or answer false) false
-    commits n low
-by_same true (Return reply) commits n answer low = seen_by_other (unwrap_or answer false) false
-    commits n low
-by_same true (Write word value) commits n answer low = seen_by_other (unwrap_or answer false) false
-    commits n low
-by_same true Commit commits n answer low =
-    let one = new_commit (unwrap_or answer false) commits in omega (arith, one)
-by_same true BlockOpen commits n answer low = omega arith
-by_same true BlockClose commits n answer low = omega arith
-by_same true BlockCommit commits n answer low = omega arith
+by_same same kind commits n answer low = grind (arith, seen_by_other, new_commit)
 
 pub held_more : (c : ℕ) (e : Entry) (earlier : List Entry) → held (e ∷ earlier) c ≤ held earlier c
     + 2
@@ -123,8 +106,7 @@ is_among_from k (suc n) c low high =
     by_test : (b : Bool) → (k == c) ≡ b
         → (k ≢ c → list_any (λ x. x == c) (numbers_from (k + 1) n) ≡ true)
         → (b || list_any (λ x. x == c) (numbers_from (k + 1) n)) ≡ true
-    by_test true is rest = refl
-    by_test false is rest = rest (apart_of k c is)
+    by_test b is rest = search (apart_of, arith)
 
 -- the same for each caller
 two_each : (k n : ℕ) → sum_by (λ c. 2) (numbers_from k n) ≡ 2 * n
@@ -164,14 +146,13 @@ late_paid callers e earlier low opened = by_kind e.kind refl
         (λ j. unwrap_or (option_or (cond (same_number e.caller j) (open_or_close (at j)) None)
         (first_answer (by_caller e.caller open_or_close) earlier)) false) in
         let none : held (e ∷ earlier) e.caller ≡ 0 =
-        ap (λ b. held_if b (inner_number e.caller (e ∷ earlier)) (commit_count (e ∷ earlier)))
-        closed in
+        cc in
         let there = is_among_from 0 callers e.caller (omega arith) (omega (arith, low)) in
         let all = sum_closed (held (e ∷ earlier)) (held earlier) 2 e.caller (numbers_below callers)
         there none more in
         let own : held earlier e.caller ≡ 2 * parts_since (commit_count earlier)
         (inner_number e.caller earlier) =
-        ap (λ b. held_if b (inner_number e.caller earlier) (commit_count earlier)) (opened at) in
+        cc (opened at) in
         let here = ap (λ kind. parts_behind earlier e.caller kind) at in
         omega (arith, all, two_each 0 callers, own, here)
 
@@ -186,9 +167,7 @@ pub paid_now : {v w : WordsView} (e : Entry) {kind : Kind} (earlier : List Entry
     ≤ s0 + work_held v.shadow.header.callers earlier + 4 * effect_count v.shadow e.caller e.kind + 2
     * v.shadow.header.callers
 paid_now {v} {w} e {kind} earlier writes s0 s1 is at low opened count cost =
-    subst (λ (x : WordsView). s1 + work_held x.shadow.header.callers (e ∷ earlier)
-    ≤ s0 + work_held x.shadow.header.callers earlier + 4 * effect_count x.shadow e.caller e.kind + 2
-    * x.shadow.header.callers) is
+    rw (← is)
     (let n = w.shadow.header.callers in
     let effects : length writes ≡ effect_count w.shadow e.caller e.kind = count
     ∙ ap (effect_count w.shadow e.caller) (sym at) in
@@ -232,8 +211,7 @@ one_changed false changed old w is none = ap length is ∙ ap (λ xs. length (xs
 -- and the end of a block
 pub block_changed : (changed old : List ℕ) (kept : List (ℕ × ℕ)) → changed ≡ old ++ words_of kept
     → old ≡ [] → length changed ≡ length kept
-block_changed changed old kept is none = ap length is ∙ ap (λ xs. length (xs ++ words_of kept)) none
-    ∙ by_list kept
+block_changed changed old kept is none = cc (by_list kept)
   where
     by_list : (xs : List (ℕ × ℕ)) → length (words_of xs) ≡ length xs
     by_list [] = refl
@@ -255,7 +233,4 @@ pub priced : {v w : WordsView} (price : Shows → ℕ → ℕ) (e : Entry) {kind
     → changed ≡ effect_words w.shadow e.caller kind
     → sum_by (price w.views.shows) changed ≡ sum_by (price v.views.shows)
     (effect_words v.shadow e.caller e.kind)
-priced {v} {w} price e {kind} changed is at same =
-    ap (sum_by (price w.views.shows)) (same ∙ ap (effect_words w.shadow e.caller) (sym at))
-    ∙ ap (λ (x : WordsView). sum_by (price x.views.shows) (effect_words x.shadow e.caller e.kind))
-    is
+priced {v} {w} price e {kind} changed is at same = cc

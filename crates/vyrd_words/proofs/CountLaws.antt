@@ -22,19 +22,11 @@ length-counts_of (byte ∷ bytes) large =
 
 pub byte_within : (bytes : List ℕ) (large counts : List (ℕ × List (ℕ × ℕ))) (i : ℕ)
     → counts_of bytes large ≡ counts → i < length counts → i < length bytes
-byte_within bytes large counts i is low =
-    omega (arith, low, length-counts_of bytes large, ap length is)
-
--- what a byte says that was looked up
-pub says_apart : (bytes : List ℕ) (i byte : ℕ) → i < length bytes → byte ≡ get_or bytes i byte
-    → byte ≡ 255 → (get_or bytes i 0 == 255) ≡ true
-says_apart bytes i byte low is apart = is_same (get_or bytes i 0) 255
-    (sym (read_at bytes i byte low) ∙ sym is ∙ apart)
+byte_within bytes large counts i is low = grind (arith, length-counts_of bytes large)
 
 pub says_count : (bytes : List ℕ) (i byte : ℕ) → i < length bytes → byte ≡ get_or bytes i byte
     → byte ≢ 255 → (get_or bytes i 0 == 255) ≡ false
-says_count bytes i byte low is small = isnt_same (get_or bytes i 0) 255
-    (λ e. small (is ∙ read_at bytes i byte low ∙ e))
+says_count bytes i byte low is small = search (isnt_same, small, read_at, arith)
 
 -- bytes in two parts
 pub apart_in-append : (xs ys : List ℕ) → apart_in (xs ++ ys) ≡ apart_in xs + apart_in ys
@@ -63,22 +55,20 @@ apart_same byte bytes e = ap (λ b. cond b (suc (apart_in bytes)) (apart_in byte
 -- a small count is pushed
 pub pushed_small : (bytes : List ℕ) (large : List (ℕ × List (ℕ × ℕ))) (count : ℕ) → count < 255
     → counts_of (bytes ++ count ∷ []) large ≡ counts_of bytes large ++ just count ∷ []
-pushed_small [] large count low = ap (λ b. cond b (get_or large 0 (just 0) ∷ []) (just count ∷ []))
-    (lower_isnt count 255 low)
+pushed_small [] large count low = cc (lower_isnt count 255 low)
 pushed_small (byte ∷ bytes) large count low =
     elim (byte == 255) as (λ b. cond b
     (get_or large 0 (just 0) ∷ counts_of (bytes ++ count ∷ []) (drop 1 large))
     (just byte ∷ counts_of (bytes ++ count ∷ []) large)
     ≡ cond b (get_or large 0 (just 0) ∷ counts_of bytes (drop 1 large))
     (just byte ∷ counts_of bytes large) ++ just count ∷ []) [
-      | true ↦ ap (λ ks. get_or large 0 (just 0) ∷ ks) (pushed_small bytes (drop 1 large) count low)
-      | false ↦ ap (λ ks. just byte ∷ ks) (pushed_small bytes large count low)
+      | true ↦ cc (pushed_small bytes (drop 1 large) count low)
+      | false ↦ cc (pushed_small bytes large count low)
     ]
 
 pub apart_small : (bytes : List ℕ) (count : ℕ) → count < 255 → apart_in (bytes ++ count ∷ [])
     ≡ apart_in bytes
-apart_small bytes count low = apart_in-append bytes (count ∷ [])
-    ∙ (let one = apart_same count [] (lower_isnt count 255 low) in omega (arith, one))
+apart_small bytes count low = search (apart_in-append, count, apart_same, lower_isnt, arith)
 
 -- a commit that is kept apart is pushed
 pub pushed_large : (bytes : List ℕ) (large : List (ℕ × List (ℕ × ℕ))) (count : ℕ × List (ℕ × ℕ))
@@ -108,9 +98,7 @@ pub count_small : (bytes : List ℕ) (large : List (ℕ × List (ℕ × ℕ))) (
     → (get_or bytes i 0 == 255) ≡ false → get_or (counts_of bytes large) i (just 0)
     ≡ just (get_or bytes i 0)
 count_small [] large i low small = absurd (omega (arith, low))
-count_small (byte ∷ bytes) large zero low small =
-    ap (λ b. get_or (cond b (get_or large 0 (just 0) ∷ counts_of bytes (drop 1 large))
-    (just byte ∷ counts_of bytes large)) 0 (just 0)) small
+count_small (byte ∷ bytes) large zero low small = cc
 count_small (byte ∷ bytes) large (suc i) low small =
     elim (byte == 255) as (λ b. get_or
     (cond b (get_or large 0 (just 0) ∷ counts_of bytes (drop 1 large))
@@ -132,9 +120,7 @@ pub count_apart : (bytes : List ℕ) (large : List (ℕ × List (ℕ × ℕ))) (
     → (get_or bytes i 0 == 255) ≡ true
     → get_or (counts_of bytes large) i (just 0) ≡ get_or large (apart_in (take i bytes)) (just 0)
 count_apart [] large i low apart = absurd (omega (arith, low))
-count_apart (byte ∷ bytes) large zero low apart =
-    ap (λ b. get_or (cond b (get_or large 0 (just 0) ∷ counts_of bytes (drop 1 large))
-    (just byte ∷ counts_of bytes large)) 0 (just 0)) apart
+count_apart (byte ∷ bytes) large zero low apart = cc
 count_apart (byte ∷ bytes) large (suc i) low apart =
     elim (byte == 255) as (λ b. get_or
     (cond b (get_or large 0 (just 0) ∷ counts_of bytes (drop 1 large))
@@ -174,13 +160,8 @@ pub set_apart : (bytes : List ℕ) (large : List (ℕ × List (ℕ × ℕ))) (i 
     → counts_of bytes (set large (apart_in (take i bytes)) count)
     ≡ set (counts_of bytes large) i count
 set_apart [] large i count low apart all = absurd (omega (arith, low))
-set_apart (byte ∷ bytes) [] zero count low apart all = absurd
-    (let e = apart_more byte bytes apart in omega (arith, e, all))
-set_apart (byte ∷ bytes) (l ∷ large) zero count low apart all =
-    ap (λ b. cond b (count ∷ counts_of bytes large) (just byte ∷ counts_of bytes (count ∷ large)))
-    apart
-    ∙ ap (λ b. set (cond b (l ∷ counts_of bytes large) (just byte ∷ counts_of bytes (l ∷ large))) 0
-    count) (sym apart)
+set_apart (byte ∷ bytes) [] zero count low apart all = cc (apart_more byte bytes apart)
+set_apart (byte ∷ bytes) (l ∷ large) zero count low apart all = cc
 set_apart (byte ∷ bytes) [] (suc i) count low apart all =
     absurd (let e = place_below (byte ∷ bytes) [] (suc i) low apart all in omega (arith, e))
 set_apart (byte ∷ bytes) (l ∷ large) (suc i) count low apart all =
@@ -197,8 +178,7 @@ set_apart (byte ∷ bytes) (l ∷ large) (suc i) count low apart all =
     (suc i) count) [
       | true ↦ λ e. ap (λ ks. l ∷ ks)
           (set_apart bytes large i count (omega (arith, low)) apart (omega (arith, e)))
-      | false ↦ λ e. ap (λ ks. just byte ∷ ks)
-          (set_apart bytes (l ∷ large) i count (omega (arith, low)) apart e)
+      | false ↦ λ e. cc (set_apart bytes (l ∷ large) i count (omega (arith, low)) apart e)
     ]) all
 
 -- a small count becomes one that is kept apart
@@ -208,9 +188,7 @@ pub set_grown : (bytes : List ℕ) (large : List (ℕ × List (ℕ × ℕ))) (i 
     → counts_of (set bytes i 255) (insert large (apart_in (take i bytes)) count)
     ≡ set (counts_of bytes large) i count
 set_grown [] large i count low small all = absurd (omega (arith, low))
-set_grown (byte ∷ bytes) large zero count low small all =
-    ap (λ b. set (cond b (get_or large 0 (just 0) ∷ counts_of bytes (drop 1 large))
-    (just byte ∷ counts_of bytes large)) 0 count) (sym small)
+set_grown (byte ∷ bytes) large zero count low small all = cc
 set_grown (byte ∷ bytes) [] (suc i) count low small all =
     (elim (byte == 255) as (λ b. cond b (suc (apart_in bytes)) (apart_in bytes) ≡ 0
     → cond b (get_or
@@ -221,8 +199,7 @@ set_grown (byte ∷ bytes) [] (suc i) count low small all =
     (insert [] (cond b (suc (apart_in (take i bytes))) (apart_in (take i bytes))) count))
     ≡ set (cond b (just 0 ∷ counts_of bytes []) (just byte ∷ counts_of bytes [])) (suc i) count) [
       | true ↦ λ e. absurd (omega (arith, e))
-      | false ↦ λ e. ap (λ ks. just byte ∷ ks)
-          (set_grown bytes [] i count (omega (arith, low)) small e)
+      | false ↦ λ e. cc (set_grown bytes [] i count (omega (arith, low)) small e)
     ]) all
 set_grown (byte ∷ bytes) (l ∷ large) (suc i) count low small all =
     (elim (byte == 255) as (λ b. cond b (suc (apart_in bytes)) (apart_in bytes) ≡ suc (length large)
@@ -238,8 +215,7 @@ set_grown (byte ∷ bytes) (l ∷ large) (suc i) count low small all =
     (suc i) count) [
       | true ↦ λ e. ap (λ ks. l ∷ ks)
           (set_grown bytes large i count (omega (arith, low)) small (omega (arith, e)))
-      | false ↦ λ e. ap (λ ks. just byte ∷ ks)
-          (set_grown bytes (l ∷ large) i count (omega (arith, low)) small e)
+      | false ↦ λ e. cc (set_grown bytes (l ∷ large) i count (omega (arith, low)) small e)
     ]) all
 
 -- it is the same, if it has the same count
@@ -281,12 +257,7 @@ pub late_added : (bytes : List ℕ) (large counts : List (ℕ × List (ℕ × �
     → new ≡ with_late value writes → counts_of bytes (set large place new)
     ≡ set counts i (with_late (get_or counts i (just 0)) writes)
 late_added bytes large counts i place value new writes is all low apart place_is read more =
-    let test : (get_or bytes i 0 == 255) ≡ true = is_same (get_or bytes i 0) 255 apart in
-    ap (λ n. counts_of bytes (set large n new)) place_is ∙ set_apart bytes large i new low test all
-    ∙ ap (set (counts_of bytes large) i)
-    (more ∙ ap (λ k. with_late k writes)
-    (value_apart bytes large i place value all low test place_is read))
-    ∙ ap (λ ks. set ks i (with_late (get_or ks i (just 0)) writes)) is
+    grind (arith, apart, place_is, read, more, set_apart, is_same, value_apart)
 
 -- no more counts are kept apart than there are
 pub apart_few : (bytes : List ℕ) → apart_in bytes ≤ length bytes
@@ -295,5 +266,4 @@ apart_few (byte ∷ bytes) = by_test (byte == 255) (apart_few bytes)
   where
     by_test : (b : Bool) → apart_in bytes ≤ length bytes
         → (if b then suc (apart_in bytes) else apart_in bytes) ≤ suc (length bytes)
-    by_test true rest = omega (arith, rest)
-    by_test false rest = omega (arith, rest)
+    by_test b rest = search arith

@@ -24,7 +24,6 @@ use Rattle.vyrd_words.specs.Counts.{just, with_late, total}
 use Rattle.vyrd_words.specs.Cuts.{first_of, split_at, since_of, with_part, first_with, written}
 use Rattle.vyrd_words.specs.Cuts.{AreCuts, AreKnown}
 use Rattle.std.specs.Prelude.{cond, ◌-◌, Some, slice_get}
-use Rattle.std.proofs.lemmas.Option.{same_Some, none-some}
 use Rattle.std.specs.Option.{option_map}
 use Rattle.std.proofs.Common.{append-nil, Bool}
 
@@ -71,23 +70,18 @@ split_push [] t ws counted =
     ∙ (λ i. (take-length ws i ++ []) ∷ drop-length ws i ∷ [])
     ∙ ap (λ xs. xs ∷ [] ∷ []) (append-nil ws)
 split_push (k ∷ ks) t ws counted =
-    ap (λ rest. (take k.0 ws ++ k.1) ∷ rest)
-    (split_push ks t (drop k.0 ws) (omega (arith, counted, length-drop k.0 ws, sum-cons k ks)))
+    cc (split_push ks t (drop k.0 ws) (omega (arith, counted, length-drop k.0 ws, sum-cons k ks)))
 
 pub since_push : (ks : List (ℕ × List (ℕ × ℕ))) (t : ℕ) (ws : List (ℕ × ℕ)) → total ks + t
     ≡ length ws → since_of (ks ++ just t ∷ []) ws ≡ since_of ks ws ++ [] ∷ []
 since_push [] t ws counted =
     let same : t ≡ length ws = omega (arith, counted) in (λ i. drop (same i) ws ∷ [])
     ∙ (λ i. drop-length ws i ∷ [])
-since_push (k ∷ ks) t ws counted = split_push ks t (drop k.0 ws)
-    (omega (arith, counted, length-drop k.0 ws, sum-cons k ks))
+since_push (k ∷ ks) t ws counted = search (split_push, counted, length-drop, sum-cons, arith)
 
 pub first_push : (words : List ℕ) (ks : List (ℕ × List (ℕ × ℕ))) (t : ℕ) (ws : List (ℕ × ℕ))
     → total ks + t ≡ length ws → first_of words (ks ++ just t ∷ []) ws ≡ first_of words ks ws
-first_push words [] t ws counted =
-    let same : t ≡ length ws = omega (arith, counted) in
-    ap (λ n. with_writes words (take n ws ++ [])) same ∙ ap (λ xs. with_writes words (xs ++ []))
-    (take-length ws) ∙ ap (with_writes words) (append-nil ws)
+first_push words [] t ws counted = grind (arith, take-length ws, append-nil ws)
 first_push words (k ∷ ks) t ws counted = refl
 
 pub cons_first : {A : Type 0} {x y : A} {xs ys : List A} → x ∷ xs ≡ y ∷ ys → x ≡ y
@@ -135,14 +129,8 @@ since_more (k ∷ ks) ws more within some =
 pub first_more : (words : List ℕ) (ks : List (ℕ × List (ℕ × ℕ))) (ws more : List (ℕ × ℕ)) → total ks
     ≤ length ws → 0 < length ks
     → first_of words ks (ws ++ more) ≡ first_with 0 more (first_of words ks ws) (since_of ks ws)
-first_more words [] ws more within some = absurd (omega (arith, some))
-first_more words (k ∷ ks) ws more within some =
-    let long : k.0 ≤ length ws = omega (arith, within, sum-cons k ks) in
-    ap (λ xs. with_writes words (xs ++ k.1)) (take-append-le k.0 ws more long)
-    ∙ ap (λ b. cond b (with_writes (with_writes words (take k.0 ws ++ k.1)) more)
-    (with_writes words (take k.0 ws ++ k.1)))
-    (sym (never_same 0 (length (split_at ks (drop k.0 ws)))
-    (omega (arith, length-split_at ks (drop k.0 ws)))))
+first_more words ks ws more within some =
+    grind (arith, more, within, take-append-le, sum-cons, never_same, split_at, length-split_at)
 
 -- further writes in a list that isn't there
 pub with_part_none : (behind : ℕ) (new : List (ℕ × ℕ)) (parts : List (List (ℕ × ℕ))) → length parts
@@ -162,8 +150,7 @@ length-with_part behind new (part ∷ parts) = by_test (length-with_part behind 
     by_test : length (with_part behind new parts) ≡ length parts → (b : Bool)
         → length (cond b ((part ++ new) ∷ parts) (part ∷ with_part behind new parts))
         ≡ suc (length parts)
-    by_test rest true = refl
-    by_test rest false = ap suc rest
+    by_test rest b = search arith
 
 -- writes in two steps
 pub with_part_twice : (behind : ℕ) (xs ys : List (ℕ × ℕ)) (parts : List (List (ℕ × ℕ)))
@@ -176,28 +163,14 @@ with_part_twice behind xs ys (part ∷ parts) = by_test (with_part_twice behind 
         → (b : Bool) → (length parts == behind) ≡ b
         → cond b ((part ++ (xs ++ ys)) ∷ parts) (part ∷ with_part behind (xs ++ ys) parts)
         ≡ with_part behind ys (cond b ((part ++ xs) ∷ parts) (part ∷ with_part behind xs parts))
-    by_test rest true e = ap (λ p. p ∷ parts) (sym (append_assoc part xs ys))
-        ∙ ap (λ b. cond b (((part ++ xs) ++ ys) ∷ parts) ((part ++ xs) ∷ with_part behind ys parts))
-        (sym e)
-    by_test rest false e = ap (λ ps. part ∷ ps) rest
-        ∙ ap (λ b. cond b ((part ++ ys) ∷ with_part behind xs parts)
-        (part ∷ with_part behind ys (with_part behind xs parts)))
-        (sym (ap (λ n. n == behind) (length-with_part behind xs parts) ∙ e))
+    by_test rest b e = search (append_assoc, length-with_part, behind, parts, arith)
 
 pub first_with_twice : (behind : ℕ) (xs ys : List (ℕ × ℕ)) (first : List ℕ)
     (since : List (List (ℕ × ℕ)))
     → first_with behind (xs ++ ys) first since ≡ first_with behind ys
     (first_with behind xs first since) (with_part behind xs since)
 first_with_twice behind xs ys first since =
-    by_test (length since == behind)
-    ∙ ap (λ n. cond (n == behind) (with_writes (first_with behind xs first since) ys)
-    (first_with behind xs first since)) (sym (length-with_part behind xs since))
-  where
-    by_test : (b : Bool) → cond b (with_writes first (xs ++ ys)) first
-        ≡ cond b (with_writes (cond b (with_writes first xs) first) ys)
-        (cond b (with_writes first xs) first)
-    by_test true = with_writes-append first xs ys
-    by_test false = refl
+    grind (arith, behind, length-with_part, with_writes-append)
 
 -- nothing is written
 pub with_part_nothing : (behind : ℕ) (parts : List (List (ℕ × ℕ))) → with_part behind [] parts
@@ -213,15 +186,13 @@ with_part_nothing behind (part ∷ parts) = by_test (with_part_nothing behind pa
 
 pub first_with_nothing : (behind : ℕ) (first : List ℕ) (since : List (List (ℕ × ℕ)))
     → first_with behind [] first since ≡ first
-first_with_nothing behind first since = elim (length since == behind) as (λ b. cond b first first
-    ≡ first) [ true ↦ refl | false ↦ refl ]
+first_with_nothing behind first since = grind arith
 
 -- the changed words with one more
 pub written_more : (words changed : List ℕ) (w : ℕ) → written words (changed ++ w ∷ [])
     ≡ written words changed ++ (w, get_or words w 0) ∷ []
 written_more words [] w = refl
-written_more words (x ∷ changed) w = ap (λ ws. (x, get_or words x 0) ∷ ws)
-    (written_more words changed w)
+written_more words (x ∷ changed) w = cc (written_more words changed w)
 
 -- a commit has further late writes
 abbrev pub late_at : List (ℕ × List (ℕ × ℕ)) → ℕ → List (ℕ × ℕ) → List (ℕ × List (ℕ × ℕ))
@@ -231,49 +202,25 @@ split_late : (ks : List (ℕ × List (ℕ × ℕ))) (i : ℕ) (new ws : List (�
     → split_at (late_at ks i new) ws ≡ with_part (length ks - i) new (split_at ks ws)
 split_late [] i new ws low = absurd (omega (arith, low))
 split_late (k ∷ ks) zero new ws low =
-    ap (λ part. part ∷ split_at ks (drop k.0 ws)) (sym (append_assoc (take k.0 ws) k.1 new))
-    ∙ ap (λ b. cond b (((take k.0 ws ++ k.1) ++ new) ∷ split_at ks (drop k.0 ws))
-    ((take k.0 ws ++ k.1) ∷ with_part (suc (length ks) - 0) new (split_at ks (drop k.0 ws))))
-    (sym (is_same (length (split_at ks (drop k.0 ws))) (suc (length ks) - 0)
-    (omega (arith, length-split_at ks (drop k.0 ws)))))
+    search (split_at, append_assoc, is_same, length-split_at, arith)
 split_late (k ∷ ks) (suc i) new ws low =
-    let fewer : suc (length ks) - suc i ≡ length ks - i = omega arith in
-    ap (λ rest. (take k.0 ws ++ k.1) ∷ rest)
-    (split_late ks i new (drop k.0 ws) (omega (arith, low)))
-    ∙ ap (λ b. cond b (((take k.0 ws ++ k.1) ++ new) ∷ split_at ks (drop k.0 ws))
-    ((take k.0 ws ++ k.1) ∷ with_part (length ks - i) new (split_at ks (drop k.0 ws))))
-    (sym (never_same (length ks - i) (length (split_at ks (drop k.0 ws)))
-    (omega (arith, length-split_at ks (drop k.0 ws)))))
-    ∙ ap (λ n. with_part n new (split_at (k ∷ ks) ws)) (sym fewer)
+    grind (
+      arith,
+      split_late ks i new (drop k.0 ws) (omega (arith, low)),
+      never_same (length ks - i)
+          (length (split_at ks (drop k.0 ws))) (omega (arith, length-split_at ks (drop k.0 ws))),
+    )
 
 pub since_late : (ks : List (ℕ × List (ℕ × ℕ))) (i : ℕ) (new ws : List (ℕ × ℕ)) → i < length ks
     → since_of (late_at ks i new) ws ≡ with_part (length ks - i) new (since_of ks ws)
-since_late [] i new ws low = absurd (omega (arith, low))
-since_late (k ∷ ks) zero new ws low =
-    sym (with_part_none (suc (length ks) - 0) new (split_at ks (drop k.0 ws))
-    (omega (arith, length-split_at ks (drop k.0 ws))))
-since_late (k ∷ ks) (suc i) new ws low =
-    let fewer : suc (length ks) - suc i ≡ length ks - i = omega arith in
-    split_late ks i new (drop k.0 ws) (omega (arith, low))
-    ∙ ap (λ n. with_part n new (split_at ks (drop k.0 ws))) (sym fewer)
+since_late ks i new ws low = grind (arith, with_part_none, split_at, length-split_at, split_late)
 
 pub first_late : (words : List ℕ) (ks : List (ℕ × List (ℕ × ℕ))) (i : ℕ) (new ws : List (ℕ × ℕ))
     → i < length ks
     → first_of words (late_at ks i new) ws ≡ first_with (length ks - i) new (first_of words ks ws)
     (since_of ks ws)
-first_late words [] i new ws low = absurd (omega (arith, low))
-first_late words (k ∷ ks) zero new ws low =
-    ap (with_writes words) (sym (append_assoc (take k.0 ws) k.1 new)) ∙ with_writes-append words
-    (take k.0 ws ++ k.1) new
-    ∙ ap (λ b. cond b (with_writes (with_writes words (take k.0 ws ++ k.1)) new)
-    (with_writes words (take k.0 ws ++ k.1)))
-    (sym (is_same (length (split_at ks (drop k.0 ws))) (suc (length ks) - 0)
-    (omega (arith, length-split_at ks (drop k.0 ws)))))
-first_late words (k ∷ ks) (suc i) new ws low =
-    ap (λ b. cond b (with_writes (with_writes words (take k.0 ws ++ k.1)) new)
-    (with_writes words (take k.0 ws ++ k.1)))
-    (sym (never_same (suc (length ks) - suc i) (length (split_at ks (drop k.0 ws)))
-    (omega (arith, length-split_at ks (drop k.0 ws)))))
+first_late words ks i new ws low =
+    grind (arith, append_assoc, with_writes-append, is_same, split_at, length-split_at, never_same)
 
 total-late : (ks : List (ℕ × List (ℕ × ℕ))) (i : ℕ) (new : List (ℕ × ℕ)) → i < length ks
     → total (late_at ks i new) ≡ total ks
@@ -307,8 +254,7 @@ late_in_range n (k ∷ ks) (suc i) new fits all = All-cons
 pub first_far : (behind : ℕ) (new : List (ℕ × ℕ)) (first : List ℕ) (since : List (List (ℕ × ℕ)))
     → length since < behind
     → first ≡ first_with behind new first since
-first_far behind new first since far =
-    ap (λ b. cond b (with_writes first new) first) (sym (lower_isnt (length since) behind far))
+first_far behind new first since far = cc (lower_isnt (length since) behind far)
 
 pub since_far : (behind : ℕ) (new : List (ℕ × ℕ)) (since : List (List (ℕ × ℕ)))
     → length since < behind → since ≡ with_part behind new since
@@ -350,8 +296,7 @@ late_cuts h words ks i new ws tail low fits are = record {
 pub caught_up : (words : List ℕ) (old new : List (ℕ × ℕ)) (w v k j : ℕ) → k ≡ suc j → old ≡ (w, v)
     ∷ new
     → with_writes words (take k old) ≡ with_writes (set words w v) (take j new)
-caught_up words old new w v k j more is = ap (λ n. with_writes words (take n old)) more
-    ∙ ap (λ ws. with_writes words (take (suc j) ws)) is
+caught_up words old new w v k j more is = cc
 
 pub dropped : (old new : List (ℕ × ℕ)) (w v k j : ℕ) → k ≡ suc j → old ≡ (w, v) ∷ new → drop k old
     ≡ drop j new
@@ -434,11 +379,7 @@ one_waits h words ks writes tail w v fits low are = record {
 pub now_at_once : (words : List ℕ) (writes : List (ℕ × ℕ)) (tail w v : ℕ) → tail ≡ length writes
     → with_writes (set (with_writes words (take tail writes)) w v) (drop tail writes)
     ≡ set (with_writes words writes) w v
-now_at_once words writes tail w v all =
-    ap (λ n. with_writes (set (with_writes words (take n writes)) w v) (drop n writes)) all
-    ∙ ap (λ ws. with_writes (set (with_writes words ws) w v) (drop (length writes) writes))
-    (take-length writes)
-    ∙ ap (with_writes (set (with_writes words writes) w v)) (none_left writes)
+now_at_once words writes tail w v all = cc (take-length writes, none_left writes)
   where
     none_left : (xs : List (ℕ × ℕ)) → drop (length xs) xs ≡ []
     none_left [] = refl
@@ -465,34 +406,25 @@ none_since ks ws n long none = ap (λ xs. since_of xs ws) (nothing_in ks n long 
 -- some commit waits
 pub some_wait : (ks : List (ℕ × List (ℕ × ℕ))) (n : ℕ) → n ≡ length ks → (n == 0) ≡ false
     → 0 < length ks
-some_wait ks n long some = by_list ks long
-  where
-    by_list : (xs : List (ℕ × List (ℕ × ℕ))) → n ≡ length xs → 0 < length xs
-    by_list [] e = absurd (apart_of n 0 some e)
-    by_list (x ∷ xs) e = omega arith
+some_wait ks n long some = grind (arith, long, apart_of)
 
 -- a write takes effect at once, where no commit waits
 pub first_at_once : {T E : Type 0} (r : Result T E) (first before : List ℕ)
     (since : List (List (ℕ × ℕ))) (w v : ℕ) → since ≡ []
     → OnOk r (first ≡ set before w v) → OnOk r (first ≡ first_with 0 ((w, v) ∷ []) before since)
-first_at_once r first before since w v none done =
-    subst (λ s. OnOk r (first ≡ first_with 0 ((w, v) ∷ []) before s)) (sym none) done
+first_at_once r first before since w v none done = grind arith
 
 pub since_at_once : {T E : Type 0} (r : Result T E) (now since : List (List (ℕ × ℕ))) (w v : ℕ)
     → since ≡ []
     → OnOk r (now ≡ []) → OnOk r (now ≡ with_part 0 ((w, v) ∷ []) since)
-since_at_once r now since w v none done = subst (λ s. OnOk r (now ≡ with_part 0 ((w, v) ∷ []) s))
-    (sym none) done
+since_at_once r now since w v none done = grind arith
 
 -- the changed words, with those of one more write
 pub changed_more : (old new : List (ℕ × ℕ)) (changed : List ℕ) (w v k j : ℕ) → k ≡ suc j
     → old ≡ (w, v) ∷ new
     → changed ++ map (λ write. write.0) (take k old) ≡ (changed ++ w ∷ []) ++ map (λ write. write.0)
     (take j new)
-changed_more old new changed w v k j more is =
-    ap (λ n. changed ++ map (λ write. write.0) (take n old)) more
-    ∙ ap (λ ws. changed ++ map (λ write. write.0) (take (suc j) ws)) is
-    ∙ sym (append_assoc changed (w ∷ []) (map (λ write. write.0) (take j new)))
+changed_more old new changed w v k j more is = grind (arith, changed, more, append_assoc)
 
 -- a word that no write is to stays
 unwritten : (words : List ℕ) (ws : List (ℕ × ℕ)) (x : ℕ)
@@ -535,8 +467,7 @@ known_more h words changed compared ws in_range known = record {
 pub none_waits : (ks : List (ℕ × List (ℕ × ℕ))) (writes : List (ℕ × ℕ)) → since_of ks writes ≡ []
     → ks ≡ []
 none_waits [] writes e = refl
-none_waits (k ∷ ks) writes e = absurd
-    (omega (arith, length-split_at ks (drop k.0 writes), ap length e))
+none_waits (k ∷ ks) writes e = cc (length-split_at ks (drop k.0 writes))
 
 -- the first commit no longer waits: what is kept stays sound, whether its late writes take effect,
 pub advanced_both : (h : Header) (words : List ℕ) (k : ℕ × List (ℕ × ℕ))
@@ -546,11 +477,8 @@ pub advanced_both : (h : Header) (words : List ℕ) (k : ℕ × List (ℕ × ℕ
     → AreCuts h (with_writes words (take k.0 writes)) ks (drop k.0 writes) tail
     × AreKnown h (with_writes words (take k.0 writes))
     (changed ++ map (λ write. write.0) (take k.0 writes)) compared
-advanced_both h words k ks writes tail changed compared both = (
-  advanced h words k ks writes tail both.0,
-  known_more h words changed compared (take k.0 writes)
-      (in_range-take (plain_words h) k.0 writes both.0.in_range) both.1,
-)
+advanced_both h words k ks writes tail changed compared both =
+    search (tail, changed, both, advanced, known_more, in_range-take, arith)
 
 -- or are refused
 pub late_both : (h : Header) (words : List ℕ) (ks : List (ℕ × List (ℕ × ℕ))) (writes : List (ℕ × ℕ))
@@ -561,24 +489,21 @@ pub late_both : (h : Header) (words : List ℕ) (ks : List (ℕ × List (ℕ × 
     → AreCuts h words ks writes tail × AreKnown h words changed compared
     → AreCuts h words' ks writes tail × AreKnown h words' changed' compared
 late_both h words ks writes tail changed compared late true words' changed' fits is more both =
-    subst (λ ws. AreCuts h ws ks writes tail × AreKnown h ws changed' compared) (sym is)
-    (subst (λ cs. AreCuts h (with_writes words late) ks writes tail
-    × AreKnown h (with_writes words late) cs compared) (sym more) (
+    grind (
+      arith,
       written_cuts h words ks writes tail late fits both.0,
-      known_more h words changed compared late
-          fits both.1,
-    ))
+      known_more h words changed
+          compared late fits both.1,
+    )
 late_both h words ks writes tail changed compared late false words' changed' fits is more both =
-    subst (λ ws. AreCuts h ws ks writes tail × AreKnown h ws changed' compared) (sym is)
-    (subst (λ cs. AreCuts h words ks writes tail × AreKnown h words cs compared) (sym more) both)
+    grind arith
 
 -- the late writes of the first commit are in range
 pub first_in_range : (h : Header) (words : List ℕ) (k : ℕ × List (ℕ × ℕ))
     (ks : List (ℕ × List (ℕ × ℕ))) (writes : List (ℕ × ℕ)) (tail : ℕ)
     → AreCuts h words (k ∷ ks) writes tail
     → AreInRange (plain_words h) k.1
-first_in_range h words k ks writes tail are = All-head
-    (λ (commit : ℕ × List (ℕ × ℕ)). AreInRange (plain_words h) commit.1) k ks are.late
+first_in_range h words k ks writes tail are = search arith
 
 -- a write takes effect at once
 pub at_once_both : (h : Header) (words : List ℕ) (writes : List (ℕ × ℕ)) (tail w v : ℕ)
@@ -611,6 +536,4 @@ pub first_taken : (xs new : List (ℕ × List (ℕ × ℕ))) (n : ℕ) (late : L
     → option_map (λ (commit : ℕ × List (ℕ × ℕ)). commit.0) (slice_get xs 0) ≡ Some n
     → new ≡ drop 1 xs
     → late ≡ (get_or xs 0 (just 0)).1 → xs ≡ (n, late) ∷ new
-first_taken [] new n late is rest late_is = absurd (none-some n is)
-first_taken (x ∷ xs) new n late is rest late_is = (λ j. (same_Some x.0 n is j, sym late_is j) ∷ xs)
-    ∙ ap (λ ys. (n, late) ∷ ys) (sym rest)
+first_taken xs new n late is rest late_is = grind arith

@@ -1,6 +1,6 @@
 -- How many writes are kept for the commits that wait: no more than the effects that they stand for.
-use Rattle.std.proofs.Common.{◌≡◌, ℕ, zero, suc, ◌+◌, ◌<◌, ◌≤◌, List, [], ◌∷◌, ◌++◌, length, take}
-use Rattle.std.proofs.Common.{drop, refl, ap, subst, ◌∙◌, sym, arith, length-append, append-nil}
+use Rattle.std.proofs.Common.{◌≡◌, ℕ, suc, ◌+◌, ◌<◌, ◌≤◌, List, [], ◌∷◌, ◌++◌, length, take}
+use Rattle.std.proofs.Common.{refl, ap, subst, ◌∙◌, sym, arith, length-append, append-nil}
 use Rattle.std.proofs.Common.{append_assoc, Bool, true, false, cond}
 use Rattle.std.proofs.lemmas.List.{take-append-le}
 use Rattle.std.proofs.Math.Seq.{take-length}
@@ -18,10 +18,7 @@ use Rattle.vyrd_words.proofs.CutLaws.{with_part_none}
 -- one more commit waits
 pub begun_push : (ks : List (ℕ × List (ℕ × ℕ))) (t : ℕ) (ws : List (ℕ × ℕ))
     → total ks + t ≡ length ws → begun_of (ks ++ just t ∷ []) ws ≡ begun_of ks ws
-begun_push [] t ws counted =
-    let same : t ≡ length ws = omega (arith, counted) in
-    ap (λ n. length (take n ws ++ [])) same ∙ ap (λ xs. length (xs ++ [])) (take-length ws)
-    ∙ ap length (append-nil ws)
+begun_push [] t ws counted = grind (arith, take-length ws, append-nil ws)
 begun_push (k ∷ ks) t ws counted = refl
 
 -- the first commit no longer waits
@@ -33,37 +30,24 @@ begun_next (k ∷ ks) ws part rest is = ap length (cons_first is)
 -- further writes after the last commit
 pub begun_more : (ks : List (ℕ × List (ℕ × ℕ))) (ws more : List (ℕ × ℕ)) → total ks ≤ length ws
     → 0 < length ks → begun_of ks (ws ++ more) ≡ begun_of ks ws
-begun_more [] ws more within some = absurd (omega (arith, some))
-begun_more (k ∷ ks) ws more within some =
-    let long : k.0 ≤ length ws = omega (arith, within, sum-cons k ks) in
-    ap (λ xs. length (xs ++ k.1)) (take-append-le k.0 ws more long)
+begun_more ks ws more within some = grind (arith, more, within, take-append-le, sum-cons)
 
 -- further late writes of a commit
 pub begun_late : (ks : List (ℕ × List (ℕ × ℕ))) (i : ℕ) (new ws : List (ℕ × ℕ)) → i < length ks
     → begun_of (late_at ks i new) ws
     ≡ begun_with (length ks - i) new (begun_of ks ws) (since_of ks ws)
-begun_late [] i new ws low = absurd (omega (arith, low))
-begun_late (k ∷ ks) zero new ws low =
-    ap length (sym (append_assoc (take k.0 ws) k.1 new)) ∙ length-append (take k.0 ws ++ k.1) new
-    ∙ ap (λ b. cond b (length (take k.0 ws ++ k.1) + length new) (length (take k.0 ws ++ k.1)))
-    (sym (is_same (length (split_at ks (drop k.0 ws))) (suc (length ks) - 0)
-    (omega (arith, length-split_at ks (drop k.0 ws)))))
-begun_late (k ∷ ks) (suc i) new ws low =
-    ap (λ b. cond b (length (take k.0 ws ++ k.1) + length new) (length (take k.0 ws ++ k.1)))
-    (sym (never_same (suc (length ks) - suc i) (length (split_at ks (drop k.0 ws)))
-    (omega (arith, length-split_at ks (drop k.0 ws)))))
+begun_late ks i new ws low =
+    grind (arith, append_assoc, length-append, is_same, split_at, length-split_at, never_same)
 
 -- no commit that waits has that many after it
 pub begun_far : (behind : ℕ) (new : List (ℕ × ℕ)) (begun : ℕ) (since : List (List (ℕ × ℕ)))
     → length since < behind → begun ≡ begun_with behind new begun since
-begun_far behind new begun since far =
-    ap (λ b. cond b (begun + length new) begun) (sym (lower_isnt (length since) behind far))
+begun_far behind new begun since far = cc (lower_isnt (length since) behind far)
 
 -- further writes make them no fewer
 pub begun_grows : (behind : ℕ) (new : List (ℕ × ℕ)) (begun : ℕ) (since : List (List (ℕ × ℕ)))
     → begun ≤ begun_with behind new begun since
-begun_grows behind new begun since = elim (length since == behind) as (λ b.
-    begun ≤ cond b (begun + length new) begun) [ true ↦ omega arith | false ↦ omega arith ]
+begun_grows behind new begun since = grind arith
 
 -- none are kept
 pub begun_none : {T E : Type 0} (r : Result T E) (now most : ℕ) → OnOk r (now ≡ 0)
@@ -78,13 +62,12 @@ pub begun_twice : (behind : ℕ) (xs ys : List (ℕ × ℕ)) (begun between now 
     → now ≤ begun_with behind (xs ++ ys) begun since
 begun_twice behind xs ys begun between now since then first long last =
     by_test (length since == behind) first
-    (subst (λ n. now ≤ cond (n == behind) (between + length ys) between) long last)
+    (rw (← long) last)
   where
     by_test : (b : Bool) → between ≤ cond b (begun + length xs) begun
         → now ≤ cond b (between + length ys) between
         → now ≤ cond b (begun + length (xs ++ ys)) begun
-    by_test true few more = omega (arith, few, more, length-append xs ys)
-    by_test false few more = omega (arith, few, more)
+    by_test b few more = search (few, more, length-append, arith)
 
 -- no more words than writes
 pub first_few : (writes : List (ℕ × ℕ)) → length (first_written writes) ≤ length writes
@@ -95,8 +78,7 @@ first_few ((word, value) ∷ writes) =
     by_test : (b : Bool) → length (first_written writes) ≤ length writes
         → length (cond b (first_written writes) (first_written writes ++ word ∷ []))
         ≤ suc (length writes)
-    by_test true rest = omega (arith, rest)
-    by_test false rest = omega (arith, rest, length-append (first_written writes) (word ∷ []))
+    by_test b rest = search (length-append, arith)
 
 pub length-words_of : (ws : List (ℕ × ℕ)) → length (words_of ws) ≡ length ws
 length-words_of [] = refl
@@ -138,10 +120,9 @@ effects_behind behind effects (part ∷ judged) left =
         let same = same_of (length (judged ++ left)) behind here in
         let past : length left ≤ behind = omega (arith, same, length-append judged left) in (
           (effects ++ part) ∷ judged,
-          ap (λ xs. (effects ++ part) ∷ (judged ++ xs))
-              (sym (effects_none behind effects left past)),
+          cc (effects_none behind effects left past),
         )
-    by_test false apart rest = (part ∷ rest.0, ap (λ xs. part ∷ xs) rest.1)
+    by_test false apart rest = (part ∷ rest.0, cc (rest.1))
 
 -- further writes in one of the lists
 all_few_more : (behind : ℕ) (writes effects : List (ℕ × ℕ)) (since parts : List (List (ℕ × ℕ)))
@@ -151,21 +132,18 @@ all_few_more behind writes effects [] [] few all = tt
 all_few_more behind writes effects [] (part ∷ parts) few all = absurd all
 all_few_more behind writes effects (old ∷ since) [] few all = absurd all
 all_few_more behind writes effects (old ∷ since) (part ∷ parts) few all =
-    subst (λ n. AllFew (cond (length since == behind) ((old ++ writes) ∷ since)
-    (old ∷ with_part behind writes since))
-    (cond (n == behind) ((effects ++ part) ∷ parts) (part ∷ with_effects behind effects parts)))
-    (few_count since parts all.1) (by_test (length since == behind)
-    (all_few_more behind writes effects since parts few all.1))
+    grind (
+      arith,
+      few_count since parts all.1,
+      by_test (length since == behind) (all_few_more behind
+          writes effects since parts few all.1),
+    )
   where
     by_test : (b : Bool)
         → AllFew (with_part behind writes since) (with_effects behind effects parts)
         → AllFew (cond b ((old ++ writes) ∷ since) (old ∷ with_part behind writes since))
         (cond b ((effects ++ part) ∷ parts) (part ∷ with_effects behind effects parts))
-    by_test true rest = (
-      omega (arith, few, all.0, length-append old writes, length-append effects part),
-      all.1,
-    )
-    by_test false rest = (all.0, rest)
+    by_test b rest = search (few, length-append, arith)
 
 -- the last parts, with a new part
 cut_behind : (cuts : Bool) (judged : List (List (ℕ × ℕ))) (part : List (ℕ × ℕ))
@@ -265,5 +243,4 @@ pub few_answered : {T E : Type 0} (r : Result T E) (old new : ℕ) (part : List 
     → OnOk r (AreFew new after parts)
 few_answered (Err x) old new part rest before after parts waits goes is are = tt
 few_answered (Ok x) old new part rest before after parts waits goes is are =
-    subst (λ s. AreFew new s parts) (sym goes)
-    (few_next old new part rest parts is (subst (λ s. AreFew old s parts) waits are))
+    search (parts, few_next, waits, arith)

@@ -1,6 +1,6 @@
 -- An entry's steps are paid by what is owed before it and a constant.
 use Rattle.std.proofs.Common.{◌≡◌, ◌≢◌, ℕ, zero, suc, ◌+◌, ◌*◌, ◌<◌, ◌≤◌, List, ◌∷◌, length, refl}
-use Rattle.std.proofs.Common.{ap, sym, arith, Bool, true, false, cond, Option, None}
+use Rattle.std.proofs.Common.{ap, arith, Bool, true, false, cond, Option}
 use Rattle.std.specs.Prelude.{◌==◌, unwrap_or, Result, Ok, Err, OnOk}
 use Rattle.std.specs.Option.{option_or}
 use Rattle.std.specs.List.{sum_by}
@@ -11,9 +11,9 @@ use Rattle.vyrd_base.specs.declared.log.Kind.TheVariants.{BlockClose, BlockCommi
 use Rattle.vyrd_base.specs.declared.log.Entry.{Entry}
 use Rattle.vyrd_base.specs.declared.log.StartWord.{StartWord}
 use Rattle.vyrd_base.specs.Callers.{has_block, by_caller, open_or_close}
-use Rattle.vyrd_base.specs.Places.{first_answer, numbers_from}
+use Rattle.vyrd_base.specs.Places.{numbers_from}
 use Rattle.vyrd_base.specs.Words.{block_writes, with_write}
-use Rattle.vyrd_base.proofs.TestLaws.{apart_of, same_of, same_number, isnt_same}
+use Rattle.vyrd_base.proofs.TestLaws.{apart_of, same_of, isnt_same}
 use Rattle.vyrd_shadow.specs.Following.{ShadowKept, kept_writes}
 use Rattle.vyrd_words.specs.HasWords.{HasWords, Keeps}
 use Rattle.vyrd_words.specs.Costs.{work_held, effect_count, kept_back, all_kept_back, each_entry}
@@ -34,43 +34,16 @@ own_kept : (kind : Kind) (answer : Option Bool) (writes : List (ℕ × ℕ)) (ef
     → cond (unwrap_or (option_or (open_or_close kind) answer) false)
     (length (with_write true kind writes)) 0 + effects
     ≤ cond (unwrap_or answer false) (length writes) 0 + 1
-own_kept (Call method args) answer writes effects few = omega (arith, few)
-own_kept (Return reply) answer writes effects few = omega (arith, few)
-own_kept Commit answer writes effects few = omega (arith, few)
-own_kept BlockOpen answer writes effects few = omega (arith, few)
-own_kept BlockClose answer writes effects few = omega (arith, few)
-own_kept BlockCommit answer writes effects few = omega (arith, few)
-own_kept (Write word value) answer writes effects few = by_test (unwrap_or answer false) few
-  where
-    by_test : (b : Bool) → effects ≤ cond b 0 1 → cond b (suc (length writes)) 0 + effects
-        ≤ cond b (length writes) 0 + 1
-    by_test true few = omega (arith, few)
-    by_test false few = omega (arith, few)
+own_kept kind answer writes effects few = grind (arith, few)
 
 kept_by_caller : (e : Entry) (earlier : List Entry) (effects : ℕ) → effects ≤ own_effects e.kind
     (has_block e.caller earlier) (block_writes e.caller earlier)
     → kept_back (e ∷ earlier) e.caller + effects ≤ kept_back earlier e.caller + 1
-kept_by_caller e earlier effects few =
-    let own = own_kept e.kind (first_answer (by_caller e.caller open_or_close) earlier)
-    (block_writes e.caller earlier) effects few in
-    let here : kept_back (e ∷ earlier) e.caller
-    ≡ cond (unwrap_or
-    (option_or (open_or_close e.kind) (first_answer (by_caller e.caller open_or_close) earlier))
-    false)
-    (length (with_write true e.kind (block_writes e.caller earlier))) 0 =
-    (λ j. cond (unwrap_or (option_or (cond (same_number e.caller j) (open_or_close e.kind) None)
-    (first_answer (by_caller e.caller open_or_close) earlier)) false)
-    (length (with_write (same_number e.caller j) e.kind (block_writes e.caller earlier))) 0) in
-    omega (arith, own, here)
+kept_by_caller e earlier effects few = grind (arith, few, own_kept)
 
 kept_by_other : (c : ℕ) (e : Entry) (earlier : List Entry) → c ≢ e.caller
     → kept_back (e ∷ earlier) c ≡ kept_back earlier c
-kept_by_other c e earlier apart =
-    let no = isnt_same e.caller c (λ same. apart (sym same)) in
-    (λ j. cond (unwrap_or
-    (option_or (cond (no j) (open_or_close e.kind) None)
-    (first_answer (by_caller c open_or_close) earlier)) false)
-    (length (with_write (no j) e.kind (block_writes c earlier))) 0)
+kept_by_other c e earlier apart = grind (arith, apart, isnt_same)
 
 -- sums in which one caller's part changes
 sum_apart : (f g : ℕ → ℕ) (c k n : ℕ) → c < k → ((x : ℕ) → x ≢ c → f x ≡ g x)
@@ -100,31 +73,22 @@ sum_at f g m c w k (suc n) low high same own =
         → (k ≢ c → sum_by f (numbers_from (k + 1) n) + w ≤ sum_by g (numbers_from (k + 1) n) + m)
         → sum_by f (k ∷ numbers_from (k + 1) n) + w ≤ sum_by g (k ∷ numbers_from (k + 1) n) + m
     by_test true is rest =
-        let e = same_of k c is in
-        let fs = ap f e in
-        let gs = ap g e in
-        let others = sum_apart f g c (k + 1) n (omega (arith, e)) same in
-        omega (
+        grind (
           arith,
           sum_by-cons f k (numbers_from (k + 1) n),
-          sum_by-cons g k
-              (numbers_from (k + 1) n),
-          others,
-          own,
-          fs,
-          gs,
+          sum_by-cons g k (numbers_from (k +
+              1) n),
+          sum_apart f g c (k + 1) n (omega (arith, (same_of k c is))) same,
+          same_of k c is,
         )
     by_test false is rest =
-        let apart = apart_of k c is in
-        let left = rest apart in
-        let here = same k apart in
-        omega (
+        grind (
           arith,
           sum_by-cons f k (numbers_from (k + 1) n),
-          sum_by-cons g k
-              (numbers_from (k + 1) n),
-          left,
-          here,
+          sum_by-cons g k (numbers_from (k +
+              1) n),
+          rest (apart_of k c is),
+          same k (apart_of k c is),
         )
 
 all_kept : (callers : ℕ) (e : Entry) (earlier : List Entry) (effects : ℕ) → e.caller < callers
@@ -141,11 +105,7 @@ block_few : (kept : ShadowKept) (starting : List StartWord) (inner : List ℕ) (
     → has_block c earlier ≡ true → length (kept_writes kept c) ≤ cond (has_block c earlier)
     (length (block_writes c earlier)) 0
 block_few kept starting inner earlier c has low inside =
-    let long = length-words_of (kept_writes kept c) in
-    let same = ap length (has.followed.order c low inside) in
-    let few = first_few (block_writes c earlier) in
-    let here = ap (λ b. cond b (length (block_writes c earlier)) 0) inside in
-    omega (arith, long, same, few, here)
+    grind (arith, kept, starting, length-words_of, first_few)
 
 -- the effects are those of the caller's own block
 effects_few : (kept : ShadowKept) (starting : List StartWord) (inner : List ℕ)
@@ -161,13 +121,9 @@ effects_few kept starting inner earlier e has keeps = by_kind e.kind refl
     by_kind (Return reply) at = omega arith
     by_kind Commit at = omega arith
     by_kind BlockOpen at = omega arith
-    by_kind (Write word value) at =
-        let same = ap {B = ℕ} (λ b. cond b 0 1) (has.followed.blocks e.caller (low_caller keeps)) in
-        omega (arith, same)
-    by_kind BlockClose at = block_few kept starting inner earlier e.caller has (low_caller keeps)
-        (closes_block at keeps)
-    by_kind BlockCommit at = block_few kept starting inner earlier e.caller has (low_caller keeps)
-        (commits_block at keeps)
+    by_kind (Write word value) at = grind arith
+    by_kind BlockClose at = search (block_few, kept, starting, low_caller, closes_block, arith)
+    by_kind BlockCommit at = search (block_few, kept, starting, low_caller, commits_block, arith)
 
 -- what an entry costs, with what is owed after it
 pub owed_paid : {T E : Type 0} (r : Result T E) (kept : ShadowKept) (starting : List StartWord)

@@ -1,6 +1,6 @@
 -- What is pending for the changed words and the writes that wait.
 use Rattle.std.proofs.Common.{◌≡◌, ℕ, zero, suc, ◌+◌, ◌*◌, ◌≤◌, List, [], ◌∷◌, ◌++◌, length, take}
-use Rattle.std.proofs.Common.{drop, refl, ap, ◌∙◌, ◌<◌, append-nil, arith, length-append}
+use Rattle.std.proofs.Common.{drop, refl, ap, ◌<◌, append-nil, arith, length-append}
 use Rattle.std.specs.Prelude.{map, slice_index}
 use Rattle.std.specs.List.{sum_by}
 use Rattle.std.proofs.lemmas.List.{length-map}
@@ -49,8 +49,7 @@ taken_count : (n : ℕ) (writes : List (ℕ × ℕ)) → n ≤ length writes
     → length (map (λ write. write.0) (take n writes)) ≡ n
 taken_count zero writes low = omega arith
 taken_count (suc n) [] low = omega (arith, low)
-taken_count (suc n) (x ∷ writes) low = let rest = taken_count n writes (omega (arith, low)) in
-    omega (arith, rest)
+taken_count (suc n) (x ∷ writes) low = cc (taken_count n writes (omega (arith, low)))
 
 -- the first writes take effect, in a step each
 pub caught_pending : (p : ℕ → ℕ) (changed : List ℕ) (n : ℕ) (writes : List (ℕ × ℕ))
@@ -114,14 +113,7 @@ late_sum f (k ∷ ks) (suc i) new low =
 late_length : (ks : List (ℕ × List (ℕ × ℕ))) (i : ℕ) (new : List (ℕ × ℕ)) → i < length ks
     → length (late_writes (late_at ks i new)) ≡ length (late_writes ks) + length new
 late_length [] i new low = absurd (omega (arith, low))
-late_length (k ∷ ks) zero new low =
-    omega (
-      arith,
-      length-append (k.1 ++ new) (late_writes ks),
-      length-append k.1 new,
-      length-append
-          k.1 (late_writes ks),
-    )
+late_length (k ∷ ks) zero new low = search (length-append, arith)
 late_length (k ∷ ks) (suc i) new low =
     let rest = late_length ks i new (omega (arith, low)) in
     omega (
@@ -180,26 +172,7 @@ first_pending p changed n late ks writes low =
 pub none_late : (p : ℕ → ℕ) (changed : List ℕ) (ks : List (ℕ × List (ℕ × ℕ)))
     (writes : List (ℕ × ℕ)) → ks ≡ []
     → pending_for p changed (writes ++ late_writes ks) ≡ pending_for p changed writes
-none_late p changed ks writes none = ap (λ xs. pending_for p changed (writes ++ late_writes xs))
-    none ∙ ap (pending_for p changed) (append-nil writes)
-
--- one more write waits
-pub waits_pending : (p : ℕ → ℕ) (changed : List ℕ) (ks : List (ℕ × List (ℕ × ℕ))) (w v : ℕ)
-    (writes : List (ℕ × ℕ))
-    → pending_for p changed ((writes ++ (w, v) ∷ []) ++ late_writes ks) ≡ pending_for p changed
-    (writes ++ late_writes ks) + p w + 2
-waits_pending p changed ks w v writes =
-    let f : ℕ × ℕ → ℕ = (λ write. p write.0) in
-    omega (
-      arith,
-      sum_by-append f (writes ++ (w, v) ∷ []) (late_writes ks),
-      sum_by-append f writes ((w, v) ∷ []),
-      sum_by-cons f (w, v) [],
-      sum_by-append f writes (late_writes ks),
-      length-append (writes ++ (w, v) ∷ []) (late_writes ks),
-      length-append writes ((w, v) ∷ []),
-      length-append writes (late_writes ks),
-    )
+none_late p changed ks writes none = cc (append-nil writes)
 
 -- a commit without late writes waits too
 pub push_pending : (ks : List (ℕ × List (ℕ × ℕ))) (n : ℕ) → late_writes (ks ++ just n ∷ [])

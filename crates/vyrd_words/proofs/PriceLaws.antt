@@ -1,6 +1,6 @@
 -- The prices of an entry's effects are paid by the writes that open blocks keep back.
-use Rattle.std.proofs.Common.{◌≡◌, ◌≢◌, ℕ, ◌+◌, ◌*◌, ◌<◌, ◌≤◌, List, [], ◌∷◌, ◌++◌, refl, ap, sym}
-use Rattle.std.proofs.Common.{arith, Bool, true, false, cond, Option, None}
+use Rattle.std.proofs.Common.{◌≡◌, ◌≢◌, ℕ, ◌+◌, ◌*◌, ◌<◌, ◌≤◌, List, [], ◌∷◌, ◌++◌, refl, ap}
+use Rattle.std.proofs.Common.{arith, Bool, true, false, cond, Option}
 use Rattle.std.specs.Prelude.{◌==◌, unwrap_or, Result, Ok, Err, OnOk}
 use Rattle.std.specs.Option.{option_or}
 use Rattle.std.specs.List.{sum_by, list_any}
@@ -11,9 +11,9 @@ use Rattle.vyrd_base.specs.declared.log.Kind.TheVariants.{BlockClose, BlockCommi
 use Rattle.vyrd_base.specs.declared.log.Entry.{Entry}
 use Rattle.vyrd_base.specs.declared.log.StartWord.{StartWord}
 use Rattle.vyrd_base.specs.Callers.{has_block, by_caller, open_or_close}
-use Rattle.vyrd_base.specs.Places.{first_answer, numbers_below}
+use Rattle.vyrd_base.specs.Places.{numbers_below}
 use Rattle.vyrd_base.specs.Words.{block_writes, with_write}
-use Rattle.vyrd_base.proofs.TestLaws.{same_number, isnt_same}
+use Rattle.vyrd_base.proofs.TestLaws.{isnt_same}
 use Rattle.vyrd_shadow.specs.Blocks.{first_written}
 use Rattle.vyrd_shadow.specs.Following.{ShadowKept, words_of, kept_writes}
 use Rattle.vyrd_words.specs.HasWords.{HasWords, Keeps}
@@ -56,27 +56,11 @@ priced_by_caller : (p : ℕ → ℕ) (e : Entry) (earlier : List Entry) (effects
     → effects ≤ own_prices p e.kind (has_block e.caller earlier) (block_writes e.caller earlier)
     → price_back p (e ∷ earlier) e.caller + effects ≤ price_back p earlier e.caller
     + entry_price p e.kind
-priced_by_caller p e earlier effects few =
-    let own = own_priced p e.kind (first_answer (by_caller e.caller open_or_close) earlier)
-    (block_writes e.caller earlier) effects few in
-    let here : price_back p (e ∷ earlier) e.caller
-    ≡ cond (unwrap_or
-    (option_or (open_or_close e.kind) (first_answer (by_caller e.caller open_or_close) earlier))
-    false)
-    (prices_of p (with_write true e.kind (block_writes e.caller earlier))) 0 =
-    (λ j. cond (unwrap_or (option_or (cond (same_number e.caller j) (open_or_close e.kind) None)
-    (first_answer (by_caller e.caller open_or_close) earlier)) false)
-    (prices_of p (with_write (same_number e.caller j) e.kind (block_writes e.caller earlier))) 0) in
-    omega (arith, own, here)
+priced_by_caller p e earlier effects few = grind (arith, few, own_priced)
 
 priced_by_other : (p : ℕ → ℕ) (c : ℕ) (e : Entry) (earlier : List Entry) → c ≢ e.caller
     → price_back p (e ∷ earlier) c ≡ price_back p earlier c
-priced_by_other p c e earlier apart =
-    let no = isnt_same e.caller c (λ same. apart (sym same)) in
-    (λ j. cond (unwrap_or
-    (option_or (cond (no j) (open_or_close e.kind) None)
-    (first_answer (by_caller c open_or_close) earlier)) false)
-    (prices_of p (with_write (no j) e.kind (block_writes c earlier))) 0)
+priced_by_other p c e earlier apart = grind (arith, apart, isnt_same)
 
 -- the words of a block have no greater price than its writes
 first_priced : (p : ℕ → ℕ) (writes : List (ℕ × ℕ)) → sum_by p (first_written writes)
@@ -103,11 +87,7 @@ block_priced : (p : ℕ → ℕ) (kept : ShadowKept) (starting : List StartWord)
     → c < kept.header.callers → has_block c earlier ≡ true
     → sum_by p (words_of (kept_writes kept c)) ≤ cond (has_block c earlier)
     (prices_of p (block_writes c earlier)) 0
-block_priced p kept starting inner earlier c has low inside =
-    let same = ap (sum_by p) (has.followed.order c low inside) in
-    let few = first_priced p (block_writes c earlier) in
-    let here = ap (λ b. cond b (prices_of p (block_writes c earlier)) 0) inside in
-    omega (arith, same, few, here)
+block_priced p kept starting inner earlier c has low inside = search (first_priced, arith)
 
 one_price : (p : ℕ → ℕ) (b : Bool) (word : ℕ) → sum_by p (cond b [] (word ∷ [])) ≤ cond b 0 (p word)
 one_price p true word = omega arith
@@ -128,14 +108,9 @@ prices_few p kept starting inner earlier e has keeps = by_kind e.kind refl
     by_kind (Return reply) at = omega arith
     by_kind Commit at = omega arith
     by_kind BlockOpen at = omega arith
-    by_kind (Write word value) at =
-        let same = ap {B = ℕ} (λ b. sum_by p (cond b [] (word ∷ [])))
-        (has.followed.blocks e.caller (low_caller keeps)) in
-        omega (arith, same, one_price p (has_block e.caller earlier) word)
-    by_kind BlockClose at = block_priced p kept starting inner earlier e.caller has
-        (low_caller keeps) (closes_block at keeps)
-    by_kind BlockCommit at = block_priced p kept starting inner earlier e.caller has
-        (low_caller keeps) (commits_block at keeps)
+    by_kind (Write word value) at = grind (arith, one_price p (has_block e.caller earlier) word)
+    by_kind BlockClose at = search (block_priced, kept, starting, low_caller, closes_block, arith)
+    by_kind BlockCommit at = search (block_priced, kept, starting, low_caller, commits_block, arith)
 
 -- what all blocks keep back, after an entry whose effects have these prices
 prices_paid : (p : ℕ → ℕ) (kept : ShadowKept) (starting : List StartWord) (inner : List ℕ)
@@ -190,10 +165,7 @@ priced_at_most p kept starting inner earlier e s0 s1 has keeps paid =
 -- before the first entry nothing is owed
 sum_none : (f : ℕ → ℕ) (xs : List ℕ) → ((x : ℕ) → f x ≡ 0) → sum_by f xs ≡ 0
 sum_none f [] none = refl
-sum_none f (x ∷ xs) none =
-    let rest = sum_none f xs none in
-    let here = none x in
-    omega (arith, sum_by-cons f x xs, here, rest)
+sum_none f (x ∷ xs) none = cc (sum_by-cons f x xs, none x, sum_none f xs none)
 
 pub owed_none : (callers : ℕ) → owed callers [] ≡ 0
 owed_none callers =

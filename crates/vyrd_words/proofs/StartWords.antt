@@ -2,7 +2,7 @@
 -- are few. So all plain words
 -- at the start are small, and those that aren't among them are 0.
 use Rattle.std.proofs.Common.{◌≡◌, ℕ, zero, suc, ◌+◌, ◌<◌, ◌≤◌, ◌^◌, Bool, true, false, cond, not}
-use Rattle.std.proofs.Common.{◌||◌, List, [], ◌∷◌, length, map, get_or, refl, ap, ◌∙◌, sym, arith}
+use Rattle.std.proofs.Common.{◌||◌, List, [], ◌∷◌, length, map, get_or, refl, ap, ◌∙◌, arith}
 use Rattle.std.specs.Prelude.{◌==◌, nat_le, replicate, All, Option, Some, None, unwrap_or}
 use Rattle.std.specs.Option.{option_or}
 use Rattle.std.specs.List.{list_any}
@@ -30,14 +30,7 @@ StartsFit h [] = Unit {0}
 StartsFit h (s ∷ starting) = StartFits h s × StartsFit h starting
 
 in_range : (h : Header) (s : StartWord) → is_out_of_range h s ≡ false → StartFits h s
-in_range h s e =
-    let high = neither_true (nat_le (plain_words h) s.word || s.value == 0)
-    (nat_le (2 ^ 63) s.value) e in
-    let low = neither_true (nat_le (plain_words h) s.word) (s.value == 0) high.0 in
-    record {
-      word = above_of (plain_words h) s.word low.0;
-      value = above_of (2 ^ 63) s.value high.1;
-    }
+in_range h s e = grind (arith, neither_true, above_of)
 
 starts_fit : (h : Header) (last : Option StartWord) (starting : List StartWord)
     → do_follow h last starting ≡ true → StartsFit h starting
@@ -87,11 +80,7 @@ rising h last (s ∷ starting) low e =
 pub start_few : (h : Header) (starting : List StartWord) → do_follow h None starting ≡ true
     → length starting ≤ plain_words h
 start_few h [] follows = omega arith
-start_few h (s ∷ starting) follows =
-    let first = starts_of h (s ∷ starting) follows in
-    let rest = rising h s starting first.0.word
-    (second_true (not (is_out_of_range h s || false)) (do_follow h (Some s) starting) follows) in
-    omega (arith, rest)
+start_few h (s ∷ starting) follows = search (starts_of, starting, rising, second_true, arith)
 
 -- all plain words at the start
 pub length-words_at_start : (h : Header) (starting : List StartWord)
@@ -106,8 +95,7 @@ small h (s ∷ starting) w fit = by_same (s.word == w) (small h starting w fit.1
     by_same : (b : Bool) → value_at_start starting w < 2 ^ 63
         → unwrap_or (option_or (cond b (Some s.value) None)
         (first_answer (λ t. given_to w (t.word, t.value)) starting)) 0 < 2 ^ 63
-    by_same true rest = fit.0.value
-    by_same false rest = rest
+    by_same b rest = search arith
 
 all_below : (f : ℕ → ℕ) (k n : ℕ) → ((w : ℕ) → f w < 2 ^ 63) → All (λ value. value < 2 ^ 63)
     (map f (numbers_from k n))
@@ -117,9 +105,7 @@ all_below f k (suc n) low = All-cons (λ value. value < 2 ^ 63) (f k)
 
 pub small_at_start : (h : Header) (starting : List StartWord) → do_follow h None starting ≡ true
     → All (λ value. value < 2 ^ 63) (words_at_start h starting)
-small_at_start h starting follows =
-    all_below (value_after starting []) 0 (plain_words h)
-    (λ w. small h starting w (starts_of h starting follows))
+small_at_start h starting follows = search (starting, all_below, small, starts_of, arith)
 
 -- a word that isn't among them is 0
 elsewhere_zero : (starting : List StartWord) (w : ℕ)
@@ -129,10 +115,7 @@ elsewhere_zero [] w other = refl
 elsewhere_zero (s ∷ starting) w other =
     let both = neither_true (s.word == w) (list_any (λ x. x == w) (map (λ s. s.word) starting))
     other in
-    ap (λ b. unwrap_or
-    (option_or (cond b (Some s.value) None)
-    (first_answer (λ s. given_to w (s.word, s.value)) starting)) 0) both.0
-    ∙ elsewhere_zero starting w both.1
+    cc (both.0, elsewhere_zero starting w both.1)
 
 zero_at : (f : ℕ → ℕ) (k n i : ℕ) → f (k + i) ≡ 0 → get_or (map f (numbers_from k n)) i 0 ≡ 0
 zero_at f k zero i is = refl
@@ -142,7 +125,4 @@ zero_at f k (suc n) (suc i) is = zero_at f (k + 1) n i (ap f (omega arith) ∙ i
 pub zero_elsewhere : (h : Header) (starting : List StartWord)
     → AgreeElsewhere (replicate (plain_words h) 0) (words_at_start h starting)
     (map (λ s. s.word) starting)
-zero_elsewhere h starting = λ w other.
-    zero_at (value_after starting []) 0 (plain_words h) w
-    (ap (value_at_start starting) (omega arith) ∙ elsewhere_zero starting w other)
-    ∙ sym (zeros (plain_words h) w)
+zero_elsewhere h starting = grind (arith, starting, zero_at, elsewhere_zero, zeros)

@@ -11,7 +11,7 @@ use Rattle.vyrd_base.specs.declared.log.StartWord.{StartWord}
 use Rattle.vyrd_base.specs.Layout.{plain_words}
 use Rattle.vyrd_base.specs.Places.{first_answer}
 use Rattle.vyrd_base.specs.Words.{given_to, value_after}
-use Rattle.vyrd_base.specs.Starts.{is_out_of_range, is_out_of_order, do_follow, words_at_start}
+use Rattle.vyrd_base.specs.Starts.{is_out_of_range, do_follow, words_at_start}
 use Rattle.vyrd_base.proofs.PlaceLaws.{first_answer-append}
 use Rattle.vyrd_base.proofs.TestLaws.{above_of, is_same, lower_isnt, first_true, second_true}
 use Rattle.vyrd_base.proofs.TestLaws.{neither_true}
@@ -28,15 +28,13 @@ some_fits h (s ∷ starting) (suc i) d fit low = some_fits h starting i d fit.1 
 pub word_fits : (h : Header) (starting : List StartWord) (i : ℕ) (d : StartWord)
     → do_follow h None starting ≡ true → i < length starting
     → (get_or starting i d).word < plain_words h
-word_fits h starting i d follows low =
-    (some_fits h starting i d (starts_of h starting follows) low).word
+word_fits h starting i d follows low = search (some_fits, starting, starts_of, arith)
 
 -- They rise.
 follows_on : (h : Header) (o : Option StartWord) (s : StartWord) (starting : List StartWord)
     → do_follow h o (s ∷ starting) ≡ true
     → do_follow h (Some s) starting ≡ true
-follows_on h o s starting follows = second_true (not (is_out_of_range h s || is_out_of_order o s))
-    (do_follow h (Some s) starting) follows
+follows_on h o s starting follows = search (second_true, starting, arith)
 
 rises : (h : Header) (last s : StartWord) (starting : List StartWord)
     → do_follow h (Some last) (s ∷ starting) ≡ true → last.word < s.word
@@ -94,22 +92,14 @@ started_more h starting i d follows low =
 
     more : (q : ℕ) → value_in q (take (i + 1) starting) ≡ option_or (value_in q (take i starting))
         (option_or (given_to q (x.word, x.value)) None)
-    more q = ap (value_in q) (take_more starting i d low)
-        ∙ first_answer-append (λ s. given_to q (s.word, s.value)) (take i starting) (x ∷ [])
+    more q = grind (arith, take_more starting i d low, starting, first_answer-append)
 
     here : unwrap_or (value_in x.word (take (i + 1) starting)) 0 ≡ x.value
-    here = ap (λ o. unwrap_or o 0) (more x.word
-        ∙ ap (λ o. option_or o (option_or (given_to x.word (x.word, x.value)) None))
-        (none_before h starting i d follows low)
-        ∙ ap (λ b. option_or (cond b (Some x.value) None) None) (is_same x.word x.word refl))
+    here = cc (more x.word, none_before h starting i d follows low, is_same x.word x.word refl)
 
     or_none : (o : Option ℕ) → option_or o None ≡ o
-    or_none None = refl
-    or_none (Some v) = refl
+    or_none o = search arith
 
     others : (q : ℕ) → ((0 + x.word) == q) ≡ false → value_after (take (i + 1) starting) [] q
         ≡ value_after (take i starting) [] q
-    others q apart = ap (λ o. unwrap_or o 0) (more q
-        ∙ ap (λ b. option_or (value_in q (take i starting))
-        (option_or (cond b (Some x.value) None) None)) (ap (λ n. n == q) (sym zero_more) ∙ apart)
-        ∙ or_none (value_in q (take i starting)))
+    others q apart = grind (arith, more q, or_none (value_in q (take i starting)))

@@ -1,6 +1,5 @@
 -- The amounts of touched keys, told key by key.
-use Rattle.std.proofs.Common.{◌≡◌, ℕ, List, ◌+◌, ◌<◌, [], ◌∷◌, ◌++◌, length, take, get_or, refl, ap}
-use Rattle.std.proofs.Common.{sym, ◌∙◌}
+use Rattle.std.proofs.Common.{◌≡◌, ℕ, List, ◌+◌, ◌<◌, [], ◌∷◌, ◌++◌, length, take, get_or, refl}
 use Rattle.std.proofs.lemmas.List.{take_more}
 use Rattle.vyrd_base.specs.Amounts.{Amounts, amount_of, with_amount}
 use Rattle.vyrd_spec.specs.Touching.{with_touched}
@@ -17,5 +16,4 @@ pub touched_more : (ks : List ℕ) (i : ℕ) (new old : Amounts) → i < length 
     → with_amount (with_touched (take i ks) new old) (get_or ks i 0) (amount_of new (get_or ks i 0))
     ≡ with_touched (take (i + 1) ks) new old
 touched_more ks i new old low =
-    sym (touched_push (take i ks) (get_or ks i 0) new old)
-    ∙ ap (λ xs. with_touched xs new old) (sym (take_more ks i 0 low))
+    cc (touched_push (take i ks) (get_or ks i 0) new old, take_more ks i 0 low)

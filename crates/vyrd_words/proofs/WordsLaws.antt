@@ -7,12 +7,12 @@ use Rattle.std.specs.Option.{option_or}
 use Rattle.std.specs.List.{list_any}
 use Rattle.std.proofs.Math.Logic.{∥∥₁_elim}
 use Rattle.std.proofs.Math.Bool.{Bool-set}
-use Rattle.std.proofs.lemmas.List.Elements.{All-head, All-tail}
+use Rattle.std.proofs.lemmas.List.Elements.{All-tail}
 use Rattle.std.proofs.lemmas.Option.{same_Some}
 use Rattle.vyrd_base.proofs.Lasting.{commit_count-cons}
 use Rattle.vyrd_base.specs.declared.header.Header.{Header}
 use Rattle.vyrd_base.specs.declared.log.Kind.{Kind}
-use Rattle.vyrd_base.specs.declared.log.Kind.TheVariants.{Call, Return, Write, Commit, BlockOpen}
+use Rattle.vyrd_base.specs.declared.log.Kind.TheVariants.{Write, Commit, BlockOpen}
 use Rattle.vyrd_base.specs.declared.log.Kind.TheVariants.{BlockClose, BlockCommit}
 use Rattle.vyrd_base.specs.declared.log.Entry.{Entry}
 use Rattle.vyrd_base.specs.declared.log.StartWord.{StartWord}
@@ -97,13 +97,7 @@ number_low c (e ∷ earlier) =
     by_kind : (kind : Kind) → inner_number c earlier ≤ commit_count earlier
         → number_at kind (commit_count earlier) (inner_number c earlier) ≤ cond (is_commit kind) 1 0
         + commit_count earlier
-    by_kind (Call method args) rest = omega (arith, rest)
-    by_kind (Return reply) rest = omega (arith, rest)
-    by_kind (Write word value) rest = omega (arith, rest)
-    by_kind Commit rest = omega arith
-    by_kind BlockOpen rest = omega arith
-    by_kind BlockClose rest = omega (arith, rest)
-    by_kind BlockCommit rest = omega (arith, rest)
+    by_kind kind rest = search arith
 
     by_test : (b : Bool) → number_at e.kind (commit_count earlier) (inner_number c earlier)
         ≤ cond (is_commit e.kind) 1 0 + commit_count earlier
@@ -111,8 +105,7 @@ number_low c (e ∷ earlier) =
         → commit_count (e ∷ earlier) ≡ cond (is_commit e.kind) 1 0 + commit_count earlier
         → cond b (number_at e.kind (commit_count earlier) (inner_number c earlier))
         (inner_number c earlier) ≤ commit_count (e ∷ earlier)
-    by_test true own other count = omega (arith, own, count)
-    by_test false own other count = omega (arith, other, count)
+    by_test b own other count = search (count, arith)
 
 pub may_number : {k : ShadowKept} {inner : List ℕ} {e : Entry} {commits : ℕ} (n : ℕ)
     → slice_get inner e.caller ≡ Some n → MayFollow k inner e commits → n ≤ commits
@@ -128,40 +121,20 @@ HasNumbers n inner earlier = (c : ℕ) → c < n → slice_get inner c ≡ Some 
 numbers_same : (n : ℕ) (inner : List ℕ) (c : ℕ) (kind : Kind) (earlier : List Entry)
     → ((commits number : ℕ) → number_at kind commits number ≡ number)
     → HasNumbers n inner earlier → HasNumbers n inner (entry c kind ∷ earlier)
-numbers_same n inner c kind earlier same has = λ d low. has d low ∙ ap Some (by_test d (c == d))
-  where
-    by_test : (d : ℕ) (b : Bool) → inner_number d earlier
-        ≡ cond b (number_at kind (commit_count earlier) (inner_number d earlier))
-        (inner_number d earlier)
-    by_test d true = sym (same (commit_count earlier) (inner_number d earlier))
-    by_test d false = refl
+numbers_same n inner c kind earlier same has = grind arith
 
 -- the caller's own number is another one
 pub numbers_set : (n : ℕ) (inner : List ℕ) (c : ℕ) (kind : Kind) (earlier : List Entry) (number : ℕ)
     → c < length inner
     → number ≡ number_at kind (commit_count earlier) (inner_number c earlier)
     → HasNumbers n inner earlier → HasNumbers n (set inner c number) (entry c kind ∷ earlier)
-numbers_set n inner c kind earlier number low is has = λ d low_d. by_same c d
-    (λ same. subst
-    (λ x. slice_get (set inner c number) x ≡ Some (inner_number x (entry c kind ∷ earlier))) same
-    (slice_get-set_same inner c number low ∙ ap Some is
-    ∙ ap (λ b. Some (cond b (number_at kind (commit_count earlier) (inner_number c earlier))
-    (inner_number c earlier))) (sym (same_number c))))
-    (λ other. slice_get-set_other inner c d number (apart_of c d other) ∙ has d low_d
-    ∙ ap (λ b. Some (cond b (number_at kind (commit_count earlier) (inner_number d earlier))
-    (inner_number d earlier))) (sym other))
+numbers_set n inner c kind earlier number low is has =
+    search (by_same, slice_get-set_same, same_number, slice_get-set_other, apart_of, arith)
 
 -- the same shadow, once no word has changed
 unchanged_follows : (k : ShadowKept) (starting : List StartWord) (earlier : List Entry)
     → HasFollowed k starting earlier → HasFollowed (record k { changed = [] }) starting earlier
-unchanged_follows k starting earlier f =
-    record {
-      rules = f.rules;
-      words = f.words;
-      blocks = f.blocks;
-      order = f.order;
-      values = f.values;
-    }
+unchanged_follows k starting earlier f = search arith
 
 -- whether some writes are to a word
 no_given : (x : ℕ) (ws : List (ℕ × ℕ)) → list_any (λ y. y == x) (words_of ws) ≡ false
@@ -169,8 +142,7 @@ no_given : (x : ℕ) (ws : List (ℕ × ℕ)) → list_any (λ y. y == x) (words
 no_given x [] e = refl
 no_given x ((w, v) ∷ ws) e =
     let parts = neither_true (w == x) (list_any (λ y. y == x) (words_of ws)) e in
-    ap (λ b. option_or (cond b (Some v) None) (first_answer (given_to x) ws)) parts.0
-    ∙ no_given x ws parts.1
+    cc (parts.0, no_given x ws parts.1)
 
 some_given : (x : ℕ) (ws : List (ℕ × ℕ)) → list_any (λ y. y == x) (words_of ws) ≡ true → (v : ℕ)
     × (first_answer (given_to x) ws ≡ Some v)
@@ -194,9 +166,7 @@ changed_low n x (w ∷ changed) within e =
   where
     by_test : (list_any (λ y. y == x) changed ≡ true → x < n) → (b : Bool) → (w == x) ≡ b
         → (b || list_any (λ y. y == x) changed) ≡ true → x < n
-    by_test rest true same f = subst (λ y. y < n) (same_of w x same)
-        (All-head (λ y. y < n) w changed within)
-    by_test rest false same f = rest f
+    by_test rest b same f = search (same_of, changed, within, arith)
 
 -- The changed words, with their values, act as the effects of the entry, where exactly the words of
 -- these effects have changed.
@@ -236,21 +206,14 @@ block_beside : (k l : ShadowKept) (starting : List StartWord) (earlier : List En
     → list_any (λ y. y == x) l.changed ≡ false
     → first_answer (given_to x) (block_writes c earlier) ≡ None
 block_beside k l starting earlier c f unchanged low inside changed x none =
-    sym (f.values c x low inside)
-    ∙ no_given x (kept_writes k c)
-    (ap (list_any (λ y. y == x))
-    (sym (changed ∙ ap (λ ws. ws ++ words_of (kept_writes k c)) unchanged)) ∙ none)
+    grind (arith, starting, unchanged, changed, no_given, words_of)
 
 -- a block's end changes no more words than the block has written
 block_few : (k l : ShadowKept) (starting : List StartWord) (earlier : List Entry) (c : ℕ)
     → HasFollowed k starting earlier → k.changed ≡ [] → c < k.header.callers
     → has_block c earlier ≡ true → l.changed ≡ k.changed ++ words_of (kept_writes k c)
     → length l.changed ≤ length (block_writes c earlier)
-block_few k l starting earlier c f unchanged low inside changed =
-    let same = ap length (changed ∙ ap (λ ws. ws ++ words_of (kept_writes k c)) unchanged
-    ∙ f.order c low inside) in
-    let few = first_few (block_writes c earlier) in
-    omega (arith, same, few)
+block_few k l starting earlier c f unchanged low inside changed = search (first_few, arith)
 
 -- an entry at which nothing takes effect
 nothing_taken : (k : ShadowKept) (inner : List ℕ) (v w : Cuts) (starting : List StartWord)
@@ -258,17 +221,8 @@ nothing_taken : (k : ShadowKept) (inner : List ℕ) (v w : Cuts) (starting : Lis
     → old_effects_at earlier c kind ≡ [] → HasWords k inner starting (entry c kind ∷ earlier)
     → w.first ≡ v.first → w.since ≡ cut_if (is_commit kind) v.since → w.begun ≡ v.begun
     → HasTaken k inner v w starting (entry c kind) earlier
-nothing_taken k inner v w starting earlier c kind nothing has first since begun = record {
-  words = has;
-  writes = [];
-  alike = λ x. ap (first_answer (given_to x)) (sym nothing);
-  first = first ∙ sym (first_with_nothing (parts_behind earlier c kind) v.first v.since);
-  since = since ∙ ap (cut_if (is_commit kind))
-      (sym (with_part_nothing (parts_behind earlier c kind) v.since));
-  few = omega arith;
-  begun = let grows = begun_grows (parts_behind earlier c kind) [] v.begun v.since in
-      omega (arith, begun, grows);
-}
+nothing_taken k inner v w starting earlier c kind nothing has first since begun =
+    grind (arith, starting, nothing, begun, first_with_nothing, with_part_nothing, begun_grows)
 
 -- a call or a return
 pub quiet_taken : (k : ShadowKept) (inner : List ℕ) (v : Cuts) (starting : List StartWord)
@@ -298,8 +252,7 @@ open_taken k l inner v starting earlier c has f header changed low =
     (record {
       followed = f;
       unchanged = changed ∙ has.unchanged;
-      numbers = subst (λ h. HasNumbers h.callers (set inner c 0) (entry c BlockOpen ∷ earlier))
-          (sym header)
+      numbers = rw header
           (numbers_set k.header.callers inner c BlockOpen earlier 0 low refl has.numbers);
     }) refl refl refl
 
@@ -331,19 +284,7 @@ acts_taken : (l m : ShadowKept) (inner : List ℕ) (v w : Cuts) (starting : List
     → w.begun ≤ begun_with (parts_behind earlier c kind) (written l.words l.changed) v.begun v.since
     → HasTaken m inner v w starting (entry c kind) earlier
 acts_taken l m inner v w starting earlier c kind f is numbers alike first since few begun =
-    subst (λ n. HasTaken n inner v w starting (entry c kind) earlier) (sym is) (record {
-      words = record {
-        followed = unchanged_follows l starting (entry c kind ∷ earlier) f;
-        unchanged = refl;
-        numbers = numbers;
-      };
-      writes = written l.words l.changed;
-      alike = alike;
-      first = first;
-      since = since;
-      few = omega (arith, few, length-written l.words l.changed);
-      begun = begun;
-    })
+    grind (arith, starting, alike, few, begun, unchanged_follows, written, length-written)
 
 -- an entry that leaves all numbers as they are
 numbers_kept : (k l : ShadowKept) (inner : List ℕ) (starting : List StartWord)
@@ -352,9 +293,7 @@ numbers_kept : (k l : ShadowKept) (inner : List ℕ) (starting : List StartWord)
     → ((commits number : ℕ) → number_at kind commits number ≡ number) → l.header ≡ k.header
     → HasWords k inner starting earlier
     → HasNumbers l.header.callers inner (entry c kind ∷ earlier)
-numbers_kept k l inner starting earlier c kind same header has =
-    subst (λ h. HasNumbers h.callers inner (entry c kind ∷ earlier)) (sym header)
-    (numbers_same k.header.callers inner c kind earlier same has.numbers)
+numbers_kept k l inner starting earlier c kind same header has = grind arith
 
 -- a write
 pub write_taken : (k l m : ShadowKept) (inner : List ℕ) (v w : Cuts) (starting : List StartWord)
@@ -376,29 +315,22 @@ write_taken k l m inner v w starting earlier c word value has low f header withi
     (by_block (has_block c earlier) refl) first since (few (has_block c earlier) here) begun
   where
     here : l.changed ≡ cond (has_block c earlier) [] (word ∷ [])
-    here = changed
-        ∙ (λ i. cond (has.followed.blocks c low i) (has.unchanged i) (has.unchanged i ++ word ∷ []))
+    here = grind arith
 
     few : (b : Bool) → l.changed ≡ cond b [] (word ∷ []) → length l.changed ≤ length {A = ℕ × ℕ}
         (cond b [] ((word, value) ∷ []))
-    few true none = omega (arith, ap length none)
-    few false one = omega (arith, ap length one)
+    few b none = search arith
 
     by_block : (b : Bool) → has_block c earlier ≡ b → ActAlike (written l.words l.changed)
         (old_effects_at earlier c (Write word value))
-    by_block true inside =
-        changed_alike l starting earlier c (Write word value) f within
-        (λ x some. absurd
-        (apart (sym (ap (list_any (λ y. y == x)) (here ∙ ap (λ b. cond b [] (word ∷ [])) inside))
-        ∙ some)))
-        (λ x none. ap (λ b. first_answer (given_to x) (cond b [] ((word, value) ∷ []))) inside)
+    by_block true inside = search (changed_alike, starting, within, apart, here, arith)
       where
         apart : false ≡ true → ⊥
         apart e = cc
     by_block false outside =
         let one : l.changed ≡ word ∷ [] = here ∙ ap (λ b. cond b [] (word ∷ [])) outside in
         let effects : old_effects_at earlier c (Write word value) ≡ (word, value) ∷ [] =
-        ap (λ b. cond b [] ((word, value) ∷ [])) outside in
+        cc in
         changed_alike l starting earlier c (Write word value) f within
         (λ x some. let given = some_given x ((word, value) ∷ [])
         (ap (list_any (λ y. y == x)) (sym one) ∙ some) in
@@ -457,8 +389,7 @@ block_commit_taken k l m inner v w u starting earlier c has low inside f header 
 pub parts_since_none : (inner : List ℕ) (c number : ℕ) (earlier : List Entry) → slice_get inner c
     ≡ Some number → slice_get inner c ≡ Some (inner_number c earlier)
     → number ≡ 0 → 0 ≡ parts_since (commit_count earlier) (inner_number c earlier)
-parts_since_none inner c number earlier here has none =
-    ap (parts_since (commit_count earlier)) (sym none ∙ same_Some _ _ (sym here ∙ has))
+parts_since_none inner c number earlier here has none = cc (same_Some _ _ (sym here ∙ has))
 
 pub parts_since_some : (inner : List ℕ) (c number commits : ℕ) (earlier : List Entry)
     → slice_get inner c ≡ Some number
@@ -475,8 +406,7 @@ parts_since_some inner c number commits earlier here has some counted =
     low = omega (arith, same, counted, number_low c earlier)
 
     by_number : (n : ℕ) → n ≢ 0 → n ≤ commits → (commits - n) + 1 ≡ parts_since commits n
-    by_number zero other few = absurd (other refl)
-    by_number (suc n) other few = omega (arith, few)
+    by_number n other few = search (few, arith)
 
 -- what is seen of the words, by what is kept
 pub may_opened : {v w : WordsView} {e : Entry} {commits : ℕ} → w ≡ v
@@ -487,19 +417,16 @@ may_opened {e = e} {commits = commits} is may =
 pub has_opened : {v w : WordsView} {starting : List StartWord} {earlier : List Entry} → w ≡ v
     → HasWords v.shadow v.inner starting earlier
     → HasWords w.shadow w.inner starting earlier
-has_opened {starting = starting} {earlier = earlier} is has =
-    subst (λ (x : WordsView). HasWords x.shadow x.inner starting earlier) (sym is) has
+has_opened {starting = starting} {earlier = earlier} is has = grind arith
 
 pub keeps_opened : {v w : WordsView} {earlier : List Entry} {e : Entry} → w ≡ v
     → Keeps v.shadow.header earlier e → Keeps w.shadow.header earlier e
-keeps_opened {earlier = earlier} {e = e} is keeps =
-    subst (λ (x : WordsView). Keeps x.shadow.header earlier e) (sym is) keeps
+keeps_opened {earlier = earlier} {e = e} is keeps = grind arith
 
 pub taken_closed : {v w : WordsView} {k : ShadowKept} {inner : List ℕ} {n : Cuts}
     {starting : List StartWord} {e : Entry} {earlier : List Entry} → w ≡ v
     → HasTaken k inner w.views n starting e earlier → HasTaken k inner v.views n starting e earlier
-taken_closed {k = k} {inner} {n} {starting} {e} {earlier} is taken =
-    subst (λ (x : WordsView). HasTaken k inner x.views n starting e earlier) is taken
+taken_closed {k = k} {inner} {n} {starting} {e} {earlier} is taken = grind arith
 
 -- answers put together
 pub ok_two : {T E P Q S : Type 0} (r : Result T E) → OnOk r P → OnOk r Q → (P → Q → S) → OnOk r S
@@ -534,8 +461,7 @@ closes_block {h} {earlier} {e} is keeps = close_kept h e.caller earlier (keeps_a
 
 pub commits_block : {h : Header} {earlier : List Entry} {e : Entry} → e.kind ≡ BlockCommit
     → Keeps h earlier e → has_block e.caller earlier ≡ true
-commits_block {h} {earlier} {e} is keeps = block_commit_kept h e.caller earlier
-    (keeps_as is keeps).rules
+commits_block {h} {earlier} {e} is keeps = search (block_commit_kept, keeps_as, arith)
 
 -- before the first entry no caller has a number
 pub numbers_first : (n m : ℕ) → n ≤ m → HasNumbers n (replicate m 0) []

@@ -31,10 +31,7 @@ use Rattle.vyrd_work.specs.Spelled.{IsVariantRead, AreBoundsRead, IsFirstRead}
 pub no_callers : (text : List ℕ) (m : ℕ) (r : List ℕ) → m < 2 ^ 64 → text ≡ decimal m ++ 32 ∷ r
     → ((n : ℕ) (s : List ℕ) → n < 2 ^ 32 → r ≡ decimal n ++ 32 ∷ s → ⊥)
     → AreBoundsRead text None
-no_callers text m r low e none size callers variant s c f =
-    let is = one_before_space m size r (decimal callers ++ 32 ∷ variant_name variant) low
-    (omega arith) (sym e ∙ f) in
-    none callers (variant_name variant) c is.1
+no_callers text m r low e none = grind (arith, one_before_space)
 
 -- a number of callers that no variant follows
 pub no_variant : (text : List ℕ) (m n : ℕ) (r t : List ℕ) → m < 2 ^ 64 → n < 2 ^ 64

@@ -1,9 +1,8 @@
 -- Generated workloads, one operation at a time, and that they keep the limits.
-use Rattle.std.proofs.Common.{◌≡◌, ℕ, suc, zero, ◌+◌, ◌-◌, ◌/◌, ◌%◌, ◌<◌, ◌≤◌, ◌^◌, Bool, true}
-use Rattle.std.proofs.Common.{false, cond, ◌&&◌, List, ◌∷◌, length, refl, ap, sym, ◌∙◌, arith}
-use Rattle.std.specs.Prelude.{◌==◌, nat_lt}
+use Rattle.std.proofs.Common.{◌≡◌, ℕ, suc, zero, ◌+◌, ◌-◌, ◌<◌, ◌≤◌, ◌^◌, Bool, true}
+use Rattle.std.proofs.Common.{cond, ◌&&◌, List, ◌∷◌, length, refl, ap, sym, ◌∙◌, arith}
+use Rattle.std.specs.Prelude.{nat_lt}
 use Rattle.std.specs.List.{AllByRecursion}
-use Rattle.std.proofs.Math.Bool.{or-true}
 use Rattle.vyrd_base.specs.declared.subject.Subject.TheVariants.{Multiset}
 use Rattle.vyrd_base.specs.declared.subject.Method.TheVariants.{Multiset as OfMultiset}
 use Rattle.vyrd_base.specs.declared.multiset.MultisetMethod.TheVariants.{Insert, InsertPair, Delete}
@@ -15,7 +14,7 @@ use Rattle.vyrd_work.specs.declared.work.WorkOp.{WorkOp}
 use Rattle.vyrd_memory.specs.Arguments.{are_small}
 use Rattle.vyrd_memory.specs.Bounds.{most_ops}
 use Rattle.vyrd_work.specs.WorkLimits.{is_op_of, KeepsLimits}
-use Rattle.vyrd_work.specs.Generated.{next_draw, upper, work_op_from, ops_from, generated_header}
+use Rattle.vyrd_work.specs.Generated.{next_draw, work_op_from, ops_from, generated_header}
 use Rattle.vyrd_work.specs.Generated.{generated}
 
 -- one more operation is drawn
@@ -37,30 +36,17 @@ op_by a b c v w =
 by_fits : (a b c : Bool) (v w : ℕ)
     → (same_subject (subject_of (op_by a b c v w).method) Multiset
     && are_args 64 (op_by a b c v w).method (op_by a b c v w).args) ≡ true
-by_fits true b c v w = refl
-by_fits false true c v w = ap (λ t. t && true && true) (or-true (w == 0))
-by_fits false false true v w = refl
-by_fits false false false v w = refl
+by_fits a b c v w = grind arith
 
 by_small : (a b c : Bool) (v w : ℕ) → nat_lt v (2 ^ 32) ≡ true → nat_lt w (2 ^ 32) ≡ true
     → are_small (op_by a b c v w).args ≡ true
-by_small true b c v w e f = both_true _ _ (both_true _ _ e refl) refl
-by_small false true c v w e f = both_true _ _ (both_true _ _ e f) refl
-by_small false false true v w e f = both_true _ _ (both_true _ _ e refl) refl
-by_small false false false v w e f = both_true _ _ (both_true _ _ e refl) refl
+by_small a b c v w e f = grind (arith, both_true)
 
 op_fits : (i x : ℕ) → is_op_of generated_header (work_op_from i x) ≡ true
-op_fits i x =
-    let kind = upper x % 8 in
-    both_true _ _ (is_below (i % 4) 4 (omega arith))
-    (by_fits (nat_lt kind 3) (kind == 3) (nat_lt kind 6) ((upper x / 8) % 256) (upper x / 2048))
+op_fits i x = grind (arith, both_true, is_below, by_fits)
 
 op_small : (i x : ℕ) → x < 2147483648 → are_small (work_op_from i x).op.args ≡ true
-op_small i x h =
-    let kind = upper x % 8 in
-    by_small (nat_lt kind 3) (kind == 3) (nat_lt kind 6) ((upper x / 8) % 256) (upper x / 2048)
-    (is_below ((upper x / 8) % 256) (2 ^ 32) (omega arith))
-    (is_below (upper x / 2048) (2 ^ 32) (omega arith))
+op_small i x h = grind (arith, by_small, is_below)
 
 next_small : (x : ℕ) → next_draw x < 2147483648
 next_small x = omega arith

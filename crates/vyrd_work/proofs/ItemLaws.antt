@@ -1,5 +1,5 @@
 -- A later line has one reading.
-use Rattle.std.proofs.Common.{◌≡◌, ℕ, ◌<◌, ◌^◌, Bool, true, false, cond, ◌&&◌, List, [], ◌∷◌, ◌++◌}
+use Rattle.std.proofs.Common.{◌≡◌, ℕ, ◌<◌, ◌^◌, Bool, true, false, cond, ◌&&◌, List, ◌∷◌, ◌++◌}
 use Rattle.std.proofs.Common.{get_or, Option, Some, None, refl, ap, sym, ◌∙◌, arith}
 use Rattle.std.specs.Prelude.{nat_lt, nat_le, codes, decimal}
 use Rattle.std.specs.Option.{option_map, option_and_then}
@@ -122,19 +122,13 @@ pub item_line_whole : (subject : Subject) (x : Item) → is_item_of subject x �
 item_line_whole subject (item.Op o) is = lacks-join 10 32 (codes "op")
     (decimal o.caller ∷ method_name o.op.method ∷ arg_fields o.op.method o.op.args) refl
     (plain_line_feeds (item_fields (item.Op o)) (op_fields_plain subject o is))
-item_line_whole subject (item.Turns t) is = lacks-join 10 32 (codes "turn")
-    (decimal t.caller ∷ decimal t.count ∷ []) refl
-    (plain_line_feeds (item_fields (item.Turns t)) (turns_fields_plain subject t is))
+item_line_whole subject (item.Turns t) is = simp (lacks-join, plain_line_feeds, turns_fields_plain)
 
 -- a guess at a call says what is called
 guess_is : (o : Option Method) (fields : List (List ℕ)) (method : Method) (args : Args)
     → option_map (λ m. Call m (args_from fields)) o ≡ Some (Call method args)
     → (o ≡ Some method) × (args_from fields ≡ args)
-guess_is None fields method args e = cc
-guess_is (Some m) fields method args e =
-    let same : m ≡ method = cc in
-    let equal : args_from fields ≡ args = cc in
-    (ap Some same, equal)
+guess_is o fields method args e = grind arith
 
 item_guess : (subject : Subject) (x : Item) → is_item_of subject x ≡ true
     → guessed_item subject (item_fields x) ≡ Some x
@@ -158,9 +152,7 @@ item_line_fields : (subject : Subject) (x : Item) → is_item_of subject x ≡ t
 item_line_fields subject (item.Op o) is = split-join 32 (codes "op")
     (decimal o.caller ∷ method_name o.op.method ∷ arg_fields o.op.method o.op.args)
     (plain_spaces (item_fields (item.Op o)) (op_fields_plain subject o is))
-item_line_fields subject (item.Turns t) is = split-join 32 (codes "turn")
-    (decimal t.caller ∷ decimal t.count ∷ [])
-    (plain_spaces (item_fields (item.Turns t)) (turns_fields_plain subject t is))
+item_line_fields subject (item.Turns t) is = simp (split-join, plain_spaces, turns_fields_plain)
 
 -- what a later line says is read back from it
 pub item_in-item_line : (subject : Subject) (x : Item) → is_item_of subject x ≡ true
@@ -185,8 +177,7 @@ item_is subject line None none = by_answer (item_in subject line) refl
     by_answer : (o : Option Item) → item_in subject line ≡ o → None ≡ o
     by_answer None e = refl
     by_answer (Some x) e = let is = item_in_sound subject line x e in absurd (none x is.1 is.0)
-item_is subject line (Some x) read =
-    sym (ap (item_in subject) read.1 ∙ item_in-item_line subject x read.0)
+item_is subject line (Some x) read = cc (read.1, item_in-item_line subject x read.0)
 
 -- a caller that no call follows is no operation's
 pub no_call : (subject : Subject) (text : List ℕ) (n : ℕ) (r : List ℕ) → n < 2 ^ 64
@@ -201,8 +192,7 @@ no_call subject text n r low e none (item.Op o) ok f =
     none o.op.method o.op.args (op_named subject o ok) (op_padded subject o ok)
     (below_of _ _ (op_a subject o ok)) (below_of _ _ (op_b subject o ok))
     (below_of _ _ (op_c subject o ok)) is.1
-no_call subject text n r low e none (item.Turns t) ok f = absurd
-    (let h : 111 ≡ 116 = ap (λ t. get_or t 0 0) f in omega (arith, h))
+no_call subject text n r low e none (item.Turns t) ok f = grind arith
 
 -- a caller that no count follows is no turns'
 module _ (text : List ℕ) (n : ℕ) (r : List ℕ) (low : n < 2 ^ 64) (e : text ≡ decimal n ++ 32 ∷ r)

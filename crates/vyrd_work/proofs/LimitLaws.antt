@@ -13,7 +13,7 @@ use Rattle.vyrd_base.specs.Subjects.{arity_of, are_padded, subject_of, same_subj
 use Rattle.vyrd_base.specs.Subjects.{is_built_in}
 use Rattle.vyrd_base.proofs.HeaderLaws.{callers_in_32_bits}
 use Rattle.vyrd_base.proofs.TestLaws.{both_true, first_true, second_true, above_then, above_of}
-use Rattle.vyrd_base.proofs.TestLaws.{not_below_of, isnt_at_most, isnt_below, neither_true}
+use Rattle.vyrd_base.proofs.TestLaws.{not_below_of, isnt_at_most, neither_true}
 use Rattle.vyrd_base.proofs.ListLaws.{all_push}
 use Rattle.vyrd_base.proofs.SubjectLaws.{named_same}
 use Rattle.vyrd_memory.specs.declared.op.Turn.{Turn}
@@ -42,8 +42,7 @@ below_callers callers caller e = grind (arith, nat_tests)
 
 none_of_them : (turns : List Turn) → nat_lt 0 (length turns) ≡ false → turns ≡ []
 none_of_them [] e = refl
-none_of_them (t ∷ turns) e = absurd
-    (let h : 0 < length (t ∷ turns) → ⊥ = λ l. grind (arith, nat_tests) in h (omega arith))
+none_of_them (t ∷ turns) e = search arith
 
 -- an operation that breaks no rule
 module _ (w : Workload) (o : WorkOp) (is : broken_by w (item.Op o) ≡ None) where
@@ -103,8 +102,7 @@ pub turns_more : (turns : List Turn) (t : Turn) → turns_in (turns ++ t ∷ [])
     + t.count
 turns_more [] t = omega (arith, turns_cons t [])
 turns_more (u ∷ turns) t =
-    let rest = turns_more turns t in
-    omega (arith, rest, turns_cons u (turns ++ t ∷ []), turns_cons u turns)
+    grind (arith, turns_more turns t, turns_cons u (turns ++ t ∷ []), turns_cons u turns)
 
 -- one more that breaks no rule keeps the limits
 pub limits_more : (w : Workload) (x : Item) → KeepsLimits w → is_item_of w.header.subject x ≡ true
@@ -146,9 +144,7 @@ ops_items (p ∷ ops) o (t ∷ turns) e = cc
 pub items_more : (w : Workload) (x : Item) → broken_by w x ≡ None → items_of (with_item w x)
     ≡ items_of w ++ x ∷ []
 items_more w (item.Op o) none = ops_items w.ops o w.turns (before_turns w o none)
-items_more w (item.Turns t) none =
-    ap (λ ts. map item.Op w.ops ++ ts) (map-append item.Turns w.turns (t ∷ []))
-    ∙ sym (append_assoc (map item.Op w.ops) (map item.Turns w.turns) (item.Turns t ∷ []))
+items_more w (item.Turns t) none = search (map-append, append_assoc, arith)
 
 -- an operation that fits breaks no rule if there is room for it
 pub op_unbroken : (w : Workload) (o : WorkOp) → is_op_of w.header o ≡ true → w.turns ≡ []
@@ -168,11 +164,7 @@ op_unbroken w o fits before room =
 pub turns_unbroken : (w : Workload) (t : Turn) → is_turn_of w.header t ≡ true
     → length w.turns < most_turn_lines → turns_in w.turns + t.count ≤ most_turns
     → broken_by w (item.Turns t) ≡ None
-turns_unbroken w t fits room sum =
-    let caller = above_then w.header.callers t.caller (first_true _ _ fits) in
-    let count = isnt_at_most most_turn_lines (length w.turns) room in
-    let total = isnt_below most_turns (turns_in w.turns + t.count) sum in
-    λ i. cond (caller i) (Some CallerRange) (cond (count i || total i) (Some TooManyTurns) None)
+turns_unbroken w t fits room sum = grind arith
 
 small_caller : (callers caller : ℕ) → callers < 2 ^ 32 → nat_lt caller callers ≡ true
     → nat_lt caller (2 ^ 32) ≡ true
@@ -194,5 +186,4 @@ op_is_item h o built fits small =
 pub turns_are_item : (h : Header) (t : Turn) → is_turn_of h t ≡ true
     → is_item_of h.subject (item.Turns t) ≡ true
 turns_are_item h t fits =
-    both_true _ _ (small_caller h.callers t.caller (callers_in_32_bits h) (first_true _ _ fits))
-    (second_true (nat_lt t.caller h.callers) _ fits)
+    grind (arith, fits, both_true, small_caller, callers_in_32_bits, first_true, second_true)

@@ -1,11 +1,9 @@
 -- The operations of a caller: one more of the list, and that they may be called.
-use Rattle.std.proofs.Common.{◌≡◌, ℕ, suc, ◌+◌, ◌<◌, ◌≤◌, Bool, true, false, cond, ◌&&◌, List, []}
+use Rattle.std.proofs.Common.{◌≡◌, ℕ, suc, ◌+◌, ◌<◌, ◌≤◌, Bool, true, cond, List, []}
 use Rattle.std.proofs.Common.{◌∷◌, ◌++◌, length, take, Option, Some, None, refl, ap, arith}
-use Rattle.std.specs.Prelude.{◌==◌, ◌≢◌, nat_lt, get_or}
-use Rattle.std.proofs.lemmas.Bool.Decides.{nat_tests}
+use Rattle.std.specs.Prelude.{◌==◌, ◌≢◌, get_or}
 use Rattle.std.specs.List.{AllByRecursion, cons_option}
 use Rattle.vyrd_base.specs.declared.header.Header.{Header}
-use Rattle.vyrd_base.specs.Subjects.{subject_of, same_subject, are_args}
 use Rattle.vyrd_base.proofs.ListLaws.{filter_map_more}
 use Rattle.vyrd_base.proofs.TestLaws.{both_true, second_true}
 use Rattle.vyrd_memory.specs.declared.op.Op.{Op}
@@ -28,16 +26,11 @@ few c (o ∷ ops) = by_owner (op_by c o) (few c ops)
   where
     by_owner : (x : Option Op) → length (ops_of c ops) ≤ length ops
         → length (cons_option x (ops_of c ops)) ≤ suc (length ops)
-    by_owner None rest = omega (arith, rest)
-    by_owner (Some op) rest = omega (arith, rest)
+    by_owner x rest = search arith
 
 callable : (h : Header) (o : WorkOp) → is_op_of h o ≡ true → are_small o.op.args ≡ true
     → is_callable h o.op ≡ true
-callable h o fits small =
-    both_true (same_subject (subject_of o.op.method) h.subject
-    && are_args h.size o.op.method o.op.args) (are_small o.op.args)
-    (second_true (nat_lt o.caller h.callers) (same_subject (subject_of o.op.method) h.subject
-    && are_args h.size o.op.method o.op.args) fits) small
+callable h o fits small = grind (arith, fits, small, both_true, second_true)
 
 all_callable : (h : Header) (c : ℕ) (ops : List WorkOp)
     → AllByRecursion (λ o. is_op_of h o ≡ true) ops
@@ -47,9 +40,7 @@ all_callable h c (o ∷ ops) fit small = by_owner (o.caller == c) (all_callable 
   where
     by_owner : (b : Bool) → are_callable h (ops_of c ops) ≡ true
         → are_callable h (cons_option (cond b (Some o.op) None) (ops_of c ops)) ≡ true
-    by_owner false rest = rest
-    by_owner true rest = both_true (is_callable h o.op) (are_callable h (ops_of c ops))
-        (callable h o fit.0 small.0) rest
+    by_owner b rest = search (both_true, callable, arith)
 
 -- a caller's operations are no more than all, and may be called
 pub ops_are_few : (w : Workload) (c : ℕ) → KeepsLimits w → length (ops_of c w.ops) ≤ most_ops
@@ -61,9 +52,7 @@ ops_are_callable w c limits = all_callable w.header c w.ops limits.ops limits.ar
 
 -- an operation of the caller, and one of another
 pub own_op : (c : ℕ) (o : WorkOp) → o.caller ≡ c → op_by c o ≡ Some o.op
-own_op c o same = let e : (o.caller == c) ≡ true = grind (arith, nat_tests) in
-    ap (λ b. cond b (Some o.op) None) e
+own_op c o same = grind arith
 
 pub other_op : (c : ℕ) (o : WorkOp) → o.caller ≢ c → op_by c o ≡ None
-other_op c o apart = let e : (o.caller == c) ≡ false = grind (arith, nat_tests) in
-    ap (λ b. cond b (Some o.op) None) e
+other_op c o apart = grind arith

@@ -11,7 +11,6 @@ use Rattle.std.proofs.lemmas.Slice.Eq.{bytes_eq-Decides}
 use Rattle.std.proofs.lemmas.List.Splits.{join_with_byte-slice_split}
 use Rattle.vyrd_base.specs.declared.subject.Subject.{Subject}
 use Rattle.vyrd_base.specs.Spelling.{end_line}
-use Rattle.vyrd_base.specs.Reading.{has_any}
 use Rattle.vyrd_base.proofs.TestLaws.{is_below}
 use Rattle.vyrd_base.proofs.SplitLaws.{cut}
 use Rattle.vyrd_base.proofs.LongLines.{long_isnt_end, longer}
@@ -20,7 +19,6 @@ use Rattle.vyrd_work.specs.declared.line.Item.{Item}
 use Rattle.vyrd_work.specs.declared.line.Item.TheVariants as item
 use Rattle.vyrd_work.specs.declared.fault.WorkRule.{WorkRule}
 use Rattle.vyrd_work.specs.declared.fault.WorkRule.TheVariants.{AfterEnd, BadHeader, BadLine}
-use Rattle.vyrd_work.specs.declared.fault.WorkRule.TheVariants.{NoLineFeed, NoEnd}
 use Rattle.vyrd_work.specs.Workloads.{Workload, item_line}
 use Rattle.vyrd_work.specs.WorkLines.{begun_in, is_item_of, item_in}
 use Rattle.vyrd_work.specs.WorkReading.{Refusal, refused, broken_by, with_item, unless_broken}
@@ -60,22 +58,17 @@ cut_joined (x ∷ xs) ys q qs e = by_byte (cut_joined xs ys q qs e) (x == 10)
 
     onto : (first : List ℕ) (ps : List (List ℕ)) → onto_first x (joined (first ∷ ps) q qs)
         ≡ joined (onto_first x (first ∷ ps)) q qs
-    onto first [] = refl
-    onto first (r ∷ rs) = refl
+    onto first ps = search arith
 
     by_byte : cut (xs ++ ys) ≡ joined (cut xs) q qs → (b : Bool)
         → cond b ([] ∷ cut (xs ++ ys)) (onto_first x (cut (xs ++ ys)))
         ≡ joined (cond b ([] ∷ cut xs) (onto_first x (cut xs))) q qs
-    by_byte on true = ap (λ ls. [] ∷ ls) on ∙ ap (λ ls. [] ∷ joined ls q qs) p.2
-        ∙ ap (λ ls. joined ([] ∷ ls) q qs) (sym p.2)
-    by_byte on false =
-        ap (onto_first x) on ∙ ap (λ ls. onto_first x (joined ls q qs)) p.2 ∙ onto p.0 p.1
-        ∙ ap (λ ls. joined (onto_first x ls) q qs) (sym p.2)
+    by_byte on true = cc (p.2)
+    by_byte on false = cc (p.2, onto p.0 p.1)
 
 -- a line of more than 64 bytes says nothing
 long_rest : (bad : WorkRule) (rest : List ℕ) → 64 < length rest → unfinished_rule bad rest ≡ bad
-long_rest bad rest long = ap (λ b. cond b bad (cond (has_any rest) NoLineFeed NoEnd))
-    (is_below 64 (length rest) long)
+long_rest bad rest long = cc (is_below 64 (length rest) long)
 
 short_item : (subject : Subject) (x : Item) → is_item_of subject x ≡ true → length (item_line x)
     ≤ 64
@@ -99,17 +92,12 @@ long_first line long = by_answer (begun_in line) refl
     by_answer : (o : Option Workload) → begun_in line ≡ o → o ≡ None
     by_answer None e = refl
     by_answer (Some w) e =
-        let short = short_first w.header w.variant in
-        let same = ap length (begun_in_sound line w e).line_is in
-        absurd (omega (arith, long, short, same))
+        grind (arith, short_first w.header w.variant, (begun_in_sound line w e).line_is)
 
 long_line : (w : Workload) (n : ℕ) (line : List ℕ) (lines : List (List ℕ)) → 64 < length line
     → lines_read w n (line ∷ lines) ≡ refused n BadLine
-long_line w n line [] long = ap (refused n) (long_rest BadLine line long)
-long_line w n line (next ∷ lines) long =
-    ap (λ b. cond b (ended w (n + 1) (next ∷ lines))
-    (then_lines n (next ∷ lines) (line_read w line))) (long_isnt_end line long)
-    ∙ ap (λ o. then_lines n (next ∷ lines) (item_read w o)) (long_item w.header.subject line long)
+long_line w n line lines long =
+    grind (arith, long, refused, long_rest, ended, long_isnt_end, long_item)
 
 -- what is read after the first line
 abbrev after_first : List ℕ → List (List ℕ) → Result Workload WorkRule → Result Workload Refusal
@@ -122,17 +110,13 @@ after_first next lines r =
 
 long_text : (line : List ℕ) (lines : List (List ℕ)) → 64 < length line → text_read (line ∷ lines)
     ≡ refused 1 BadHeader
-long_text line [] long = ap (refused 1) (long_rest BadHeader line long)
-long_text line (next ∷ lines) long = ap (λ o. after_first next lines (begun_or_bad o))
-    (long_first line long)
+long_text line lines long = grind (arith, long, refused, long_rest, long_first)
 
 -- anything after `end` is too much
 too_much : (w : Workload) (n : ℕ) (line : List ℕ) (lines : List (List ℕ))
     → 0 < length (join_with_byte 10 (line ∷ lines))
     → ended w n (line ∷ lines) ≡ refused n AfterEnd
-too_much w n [] [] some = absurd (omega (arith, some))
-too_much w n [] (next ∷ lines) some = refl
-too_much w n (b ∷ bs) lines some = refl
+too_much w n line lines some = grind arith
 
 more_too_much : (w : Workload) (n : ℕ) (line : List ℕ) (lines : List (List ℕ)) (q : List ℕ)
     (qs : List (List ℕ))
@@ -154,8 +138,7 @@ one_line_more w (item.Turns t) = omega (arith, length-append w.turns (t ∷ []))
 length_lines : (line next : List ℕ) (lines : List (List ℕ))
     → length (join_with_byte 10 (line ∷ next ∷ lines)) ≡ length line + 1
     + length (join_with_byte 10 (next ∷ lines))
-length_lines line next lines =
-    omega (arith, length-append line (10 ∷ join_with_byte 10 (next ∷ lines)))
+length_lines line next lines = search (length-append, arith)
 
 -- how many bytes the lines to come have, with 65 for each line that was taken in
 abbrev Enough : Workload → List (List ℕ) → Type 0
@@ -231,8 +214,7 @@ text_settled line (next ∷ lines) q qs enough = by_begun (begun_in line) refl
         (omega (arith, enough, length_lines line next lines, short, same, none))
 
     by_begun : (o : Option Workload) → begun_in line ≡ o → From (begun_or_bad o)
-    by_begun None e = refl
-    by_begun (Some w) e = found w (begun_in_sound line w e)
+    by_begun o e = search (found, begun_in_sound, arith)
 
 pub reading_settled : (bytes more : List ℕ) → longest_input ≤ length bytes
     → work_reading (bytes ++ more) ≡ work_reading bytes

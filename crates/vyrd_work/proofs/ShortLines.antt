@@ -5,7 +5,7 @@ use Rattle.std.specs.Prelude.{codes, decimal, nat_lt, nat_le}
 use Rattle.std.specs.List.{AllByRecursion}
 use Rattle.vyrd_base.specs.declared.header.Header.{Header}
 use Rattle.vyrd_base.specs.declared.subject.Subject.{Subject}
-use Rattle.vyrd_base.specs.Spelling.{subject_name, end_line}
+use Rattle.vyrd_base.specs.Spelling.{end_line}
 use Rattle.vyrd_base.specs.Subjects.{is_built_in}
 use Rattle.vyrd_base.proofs.HeaderLaws.{size_in_32_bits, callers_in_32_bits}
 use Rattle.vyrd_base.proofs.LongLines.{short_entry, short_number}
@@ -55,18 +55,14 @@ short_variant Broken = omega arith
 pub short_first : (h : Header) (variant : Variant)
     → length (work_header_line h.subject h.size h.callers variant) ≤ 64
 short_first h variant =
-    let size = short_number h.size (size_in_32_bits h) in
-    let callers = short_number h.callers (callers_in_32_bits h) in
-    omega (
+    search (
+      short_number,
+      size_in_32_bits,
+      callers_in_32_bits,
+      short_subject,
+      short_variant,
+      length-append,
       arith,
-      size,
-      callers,
-      short_subject h.subject,
-      short_variant variant,
-      length-append (subject_name h.subject)
-          (32 ∷ (decimal h.size ++ 32 ∷ (decimal h.callers ++ 32 ∷ variant_name variant))),
-      length-append (decimal h.size) (32 ∷ (decimal h.callers ++ 32 ∷ variant_name variant)),
-      length-append (decimal h.callers) (32 ∷ variant_name variant),
     )
 
 short_later : (h : Header) → is_built_in h.subject ≡ true → (ops : List WorkOp) (turns : List Turn)
@@ -89,8 +85,4 @@ short_later h built (o ∷ ops) turns all small rest = (
 
 pub short_lines : (w : Workload) → KeepsLimits w → AllByRecursion (λ line. length line ≤ 64)
     (lines_of w)
-short_lines w keeps = (
-  short_first w.header w.variant,
-  short_later w.header (work_built_in w keeps) w.ops w.turns
-      keeps.ops keeps.args keeps.turns,
-)
+short_lines w keeps = search (short_first, short_later, work_built_in, arith)

@@ -28,8 +28,7 @@ pub script_at : (f : ℕ → Script) (k n i : ℕ) → i < n
     → slice_index_or (map f (numbers_from k n)) i stop ≡ f (k + i)
 script_at f k zero i low = absurd (omega (arith, low))
 script_at f k (suc n) zero low = let e : k ≡ k + 0 = omega arith in ap f e
-script_at f k (suc n) (suc i) low = let e : k + 1 + i ≡ k + suc i = omega arith in script_at f
-    (k + 1) n i (omega arith) ∙ ap f e
+script_at f k (suc n) (suc i) low = grind (arith, script_at f (k + 1) n i (omega arith))
 
 how_many : (f : ℕ → Script) (k n : ℕ) → length (map f (numbers_from k n)) ≡ n
 how_many f k zero = refl

@@ -61,10 +61,7 @@ with_variant w (item.Turns t) = refl
 -- nothing follows `end`
 nothing_after : (w : Workload) (n : ℕ) (lines : List (List ℕ)) (v : Workload) → ended w n lines
     ≡ Ok v → (lines ≡ [] ∷ []) × (w ≡ v)
-nothing_after w n [] v e = cc
-nothing_after w n ([] ∷ []) v e = (refl, let same : w ≡ v = cc in same)
-nothing_after w n ([] ∷ line ∷ lines) v e = cc
-nothing_after w n ((b ∷ bs) ∷ lines) v e = cc
+nothing_after w n lines v e = grind arith
 
 lines_sound : (w : Workload) (n : ℕ) (lines : List (List ℕ)) (v : Workload) → KeepsLimits w
     → lines_read w n lines ≡ Ok v → Sound w lines v
@@ -123,21 +120,11 @@ all_lines w = work_header_line w.header.subject w.header.size w.header.callers w
     ∷ map item_line (items_of w) ++ end_line ∷ [] ∷ []
 
 all_lines_are : (w : Workload) → lines_of w ++ [] ∷ [] ≡ all_lines w
-all_lines_are w =
-    ap (λ rest. work_header_line w.header.subject w.header.size w.header.callers w.variant ∷ rest)
-    (append_assoc (map item_line (items_of w)) (end_line ∷ []) ([] ∷ []))
+all_lines_are w = grind (arith, append_assoc)
 
 -- a workload of nothing keeps the limits
 pub begun_keeps : (h : Header) (variant : Variant) → h.version ≡ 1 → KeepsLimits (begun variant h)
-begun_keeps h variant one = record {
-  version = one;
-  ops = tt;
-  args = tt;
-  turns = tt;
-  op_count = omega arith;
-  turn_count = omega arith;
-  turn_sum = omega arith;
-}
+begun_keeps h variant one = grind arith
 
 -- what is read: a workload's text, which keeps the limits
 pub record IsWorkText (bytes : List ℕ) (w : Workload) : Type 0 where
@@ -191,13 +178,7 @@ item_step : (w : Workload) (n : ℕ) (x : Item) (rest : List (List ℕ)) → has
     → is_item_of w.header.subject x ≡ true
     → broken_by w x ≡ None
     → lines_read w n (item_line x ∷ rest) ≡ lines_read (with_item w x) (n + 1) rest
-item_step w n x [] some is none = cc
-item_step w n x (next ∷ lines) some is none =
-    ap (λ b. cond b (ended w (n + 1) (next ∷ lines))
-    (then_lines n (next ∷ lines) (line_read w (item_line x)))) (item_line_isnt_end x)
-    ∙ ap (λ o. then_lines n (next ∷ lines) (item_read w o))
-    (item_in-item_line w.header.subject x is)
-    ∙ ap (λ o. then_lines n (next ∷ lines) (unless_broken w x o)) none
+item_step w n x rest some is none = grind (arith, ended, item_line_isnt_end, item_in-item_line)
 
 some_lines : (xs : List Item) (next : List ℕ) (lines : List (List ℕ))
     → has_any (map item_line xs ++ next ∷ lines) ≡ true
@@ -214,8 +195,7 @@ turns_read : (h : Header) (variant : Variant) (ops : List WorkOp) (past todo : L
     → lines_read (of_parts h variant ops past) n (map item_line (map item.Turns todo) ++ end_line
     ∷ [] ∷ [])
     ≡ Ok (of_parts h variant ops (past ++ todo))
-turns_read h variant ops past [] n all count total = ap (λ ts. Ok (of_parts h variant ops ts))
-    (sym (append-nil past))
+turns_read h variant ops past [] n all count total = cc (append-nil past)
 turns_read h variant ops past (t ∷ todo) n all count total =
     let w = of_parts h variant ops past in
     let split = turns_cons t todo in
@@ -237,8 +217,7 @@ ops_read : (h : Header) (variant : Variant) → is_built_in h.subject ≡ true
     → ((m : ℕ) → lines_read (of_parts h variant (past ++ todo) []) m (next ∷ lines) ≡ r)
     → lines_read (of_parts h variant past []) n (map item_line (map item.Op todo) ++ next ∷ lines)
     ≡ r
-ops_read h variant built past [] next lines r n all small count on =
-    ap (λ os. lines_read (of_parts h variant os []) n (next ∷ lines)) (sym (append-nil past)) ∙ on n
+ops_read h variant built past [] next lines r n all small count on = cc (append-nil past, on n)
 ops_read h variant built past (o ∷ todo) next lines r n all small count on =
     let w = of_parts h variant past [] in
     item_step w n (item.Op o) (map item_line (map item.Op todo) ++ next ∷ lines)
@@ -320,15 +299,7 @@ all_read w keeps = by_rest (map item_line (items_of w) ++ end_line ∷ [] ∷ []
 
     by_rest : (rest : List (List ℕ)) → has_any rest ≡ true
         → lines_read (begun w.variant w.header) 2 rest ≡ Ok w → text_read (first ∷ rest) ≡ Ok w
-    by_rest [] some on = cc
-    by_rest (next ∷ lines) some on =
-        ap (λ o. elim (begun_or_bad o) as (λ _. Result Workload Refusal) [
-          | Ok u ↦ lines_read u 2
-              (next ∷ lines)
-          | Err rule ↦ refused 1 rule
-        ])
-        (begun_in-first_line w.header w.variant keeps.version)
-        ∙ on
+    by_rest rest some on = search (refused, begun_in-first_line, arith)
 
 -- the text of a workload is read as that workload
 pub work_reading-work_text : (w : Workload) → KeepsLimits w → work_reading (work_text w) ≡ Ok w

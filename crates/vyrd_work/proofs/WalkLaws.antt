@@ -30,27 +30,19 @@ pub lines_step : (w : Workload) (n : ℕ) (line more : List ℕ) → lacks 10 li
     → lines_read w n (cut (line ++ 10 ∷ more))
     ≡ cond (bytes_eq line end_line) (ended w (n + 1) (cut more))
     (then_lines n (cut more) (line_read w line))
-lines_step w n line more lack =
-    let p = parts_of more in
-    ap (lines_read w n) (split_at 10 line more lack ∙ ap (λ ps. line ∷ ps) p.2)
-    ∙ ap (λ ps. cond (bytes_eq line end_line) (ended w (n + 1) ps)
-    (then_lines n ps (line_read w line))) (sym p.2)
+lines_step w n line more lack = cc (split_at 10 line more lack, (parts_of more).2)
 
 -- the line `end`, then the others
 pub end_found : (w : Workload) (n : ℕ) (line more : List ℕ) → lacks 10 line ≡ true → line ≡ end_line
     → lines_read w n (cut (line ++ 10 ∷ more)) ≡ ended w (n + 1) (cut more)
-end_found w n line more lack e =
-    lines_step w n line more lack
-    ∙ ap (λ b. cond b (ended w (n + 1) (cut more)) (then_lines n (cut more) (line_read w line)))
-    (ap (λ t. bytes_eq t end_line) e ∙ bytes_same end_line)
+end_found w n line more lack e = cc (lines_step w n line more lack, bytes_same end_line)
 
 -- another line, then the others
 pub line_found : (w : Workload) (n : ℕ) (line more : List ℕ) → lacks 10 line ≡ true
     → ¬ (line ≡ end_line)
     → lines_read w n (cut (line ++ 10 ∷ more)) ≡ then_lines n (cut more) (line_read w line)
-line_found w n line more lack other = lines_step w n line more lack
-    ∙ ap (λ b. cond b (ended w (n + 1) (cut more)) (then_lines n (cut more) (line_read w line)))
-    (by_test (bytes_eq line end_line) refl)
+line_found w n line more lack other =
+    cc (lines_step w n line more lack, by_test (bytes_eq line end_line) refl)
   where
     by_test : (b : Bool) → bytes_eq line end_line ≡ b → b ≡ false
     by_test true e = absurd (other ((bytes_eq-Decides line end_line).0 e))

@@ -1,7 +1,7 @@
 -- The string buffers as a structure: a buffer's lock guards its words, and nothing is reserved.
-use Rattle.std.proofs.Common.{◌≡◌, ℕ, ◌+◌, ◌*◌, ◌/◌, ◌<◌, ◌≤◌, Bool, true, false, cond, List, []}
+use Rattle.std.proofs.Common.{◌≡◌, ℕ, ◌+◌, ◌*◌, ◌/◌, ◌<◌, ◌≤◌, true, List, []}
 use Rattle.std.proofs.Common.{◌∷◌, map, refl, ap, ◌∙◌, sym, subst, arith}
-use Rattle.std.specs.Prelude.{◌==◌, flat_map, slice_index}
+use Rattle.std.specs.Prelude.{flat_map, slice_index}
 use Rattle.vyrd_base.specs.declared.header.Header.{Header}
 use Rattle.vyrd_base.specs.declared.subject.Subject.TheVariants.{Buffers}
 use Rattle.vyrd_base.specs.declared.log.Entry.{Entry}
@@ -29,20 +29,11 @@ use Rattle.vyrd_every.specs.Guarded.{buffers}
 -- what a buffer gives that has the same words as a sound one
 gives : (size k : ℕ) (a b : Buffer) → Alike a b → is_buffer b ≡ true → buffer_parts size k a
     ≡ (k, shown b) ∷ []
-gives size k a b alike sound =
-    ap (λ t. cond t ((k, shown a) ∷ []) ((size + k, 1) ∷ [])) (sound_alike a b alike ∙ sound)
-    ∙ ap (λ text. (k, text) ∷ []) (shown_alike a b alike sound)
+gives size k a b alike sound = grind (arith, alike, shown, sound_alike, shown_alike)
 
 -- nothing was written yet
 nothing_given : (q k : ℕ) → given q ((k, shown (buffer_of (shown_by []) k)) ∷ []) ≡ 0
-nothing_given q k =
-    let one : given q ((k, shown (buffer_of (shown_by []) k)) ∷ []) ≡ cond (q == k) 0 0 =
-    omega arith in
-    one ∙ by_key (q == k)
-  where
-    by_key : (b : Bool) → ◌≡◌ {A = ℕ} (cond b 0 0) 0
-    by_key true = refl
-    by_key false = refl
+nothing_given q k = grind (arith, given, shown, shown_by)
 
 empty_represents : (h : Header) → h.subject ≡ Buffers → Represents h (shown_by []) start.shown
 unfolding view_of_words

@@ -3,7 +3,6 @@ use Rattle.std.proofs.Common.{◌≡◌, ℕ, zero, suc, ◌+◌, ◌*◌, ◌%�
 use Rattle.std.proofs.Common.{cond, not, List, [], ◌∷◌, ◌++◌, length, Some, refl, ap, ◌∙◌, sym}
 use Rattle.std.proofs.Common.{subst, append-nil, append_assoc, add-one, arith}
 use Rattle.std.specs.Prelude.{◌==◌, ◌||◌}
-use Rattle.std.specs.List.{list_any}
 use Rattle.vyrd_base.specs.declared.header.Header.{Header}
 use Rattle.vyrd_base.specs.declared.log.Kind.TheVariants.{Commit, BlockOpen, BlockCommit}
 use Rattle.vyrd_base.specs.Callers.{Called}
@@ -14,7 +13,7 @@ use Rattle.vyrd_base.specs.Specification.{next_state}
 use Rattle.vyrd_base.proofs.TestLaws.{same_number, same_of, isnt_same, apart_of}
 use Rattle.vyrd_base.proofs.TextLaws.{text_same}
 use Rattle.vyrd_memory.specs.declared.act.Act.TheVariants.{Load, Mark}
-use Rattle.vyrd_memory.specs.Alone.{Memory, with_cell}
+use Rattle.vyrd_memory.specs.Alone.{Memory}
 use Rattle.vyrd_memory.proofs.Memories.{Represents}
 use Rattle.vyrd_memory.specs.Scripts.{Script, step, perform, returns}
 use Rattle.vyrd_memory.proofs.SoundActs.{gone}
@@ -36,20 +35,11 @@ use Rattle.vyrd_every.proofs.Acts.{writing}
 
 -- the last lock that was taken is held, and those before it
 held_last : (h : Header) (locks : List ℕ) (b : ℕ) → b < h.size → IsHeld h (lock_of h b ∷ locks) b
-held_last h locks b low = record {
-  low = low;
-  held = ap (λ same. same || list_any (λ lock. lock == lock_of h b) locks)
-      (same_number (lock_of h b));
-}
+held_last h locks b low = grind (arith, same_number (lock_of h b))
 
 held_still : (h : Header) (locks : List ℕ) (lock b : ℕ) → IsHeld h locks b
     → IsHeld h (lock ∷ locks) b
-held_still h locks lock b held =
-    record { low = held.low; held = either (lock == lock_of h b) _ held.held }
-  where
-    either : (x y : Bool) → y ≡ true → (x || y) ≡ true
-    either true y e = refl
-    either false y e = e
+held_still h locks lock b held = grind (arith, held, lock_of)
 
 -- a word of a buffer is loaded, and has afterwards what was found
 pub word_right : (h : Header) (locks : List ℕ) (called : Called) (k : Locals) (before : Memory)
@@ -63,8 +53,7 @@ word_right h locks called k before b cell rest held from to later =
     (word_access h locks false false called b cell held from to) refl
     (λ now rely.
     let stays : Stays h locks before now = stays_so h locks false false called k before now rely in
-    subst (λ value. DoesRight (buffers h) (at locks false false called) k now (rest value))
-    (stays.word b cell held from to) (later now stays))
+    rw (← stays.word b cell held from to) (later now stays))
 
 -- so are characters of a buffer
 pub load_from_right : (h : Header) (locks : List ℕ) (called : Called) (k : Locals) (before : Memory)
@@ -75,8 +64,7 @@ pub load_from_right : (h : Header) (locks : List ℕ) (called : Called) (k : Loc
     (later (found ++ loaded now b left i)))
     → DoesRight (buffers h) (at locks false false called) k before (load_from left b i found later)
 load_from_right h locks called k before b zero i found later held few rest =
-    subst (λ all. DoesRight (buffers h) (at locks false false called) k before (later all))
-    (append-nil found) (rest before (stays_same h locks before))
+    grind (arith, append-nil found, rest before (stays_same h locks before))
 load_from_right h locks called k before b (suc left) i found later held few rest =
     word_right h locks called k before b (character_cell b i)
     (λ character. load_from left b (i + 1) (found ++ character ∷ []) later) held (omega arith)
@@ -85,10 +73,9 @@ load_from_right h locks called k before b (suc left) i found later held few rest
     load_from_right h locks called k mid b left (i + 1) (found ++ mid (character_cell b i) ∷ [])
     later held (omega (arith, few))
     (λ now second.
-    subst (λ all. DoesRight (buffers h) (at locks false false called) k now (later all))
-    (ap (λ c. found ++ c ∷ loaded now b left (i + 1))
-    (stays_character h locks mid now b i second held (omega (arith, few)))
-    ∙ sym (append_assoc found (mid (character_cell b i) ∷ []) (loaded now b left (i + 1))))
+    rw (← ap (λ c. found ++ c ∷ loaded now b left (i + 1)) (stays_character h locks mid now b i
+    second held (omega (arith, few))) ∙ sym (append_assoc found (mid (character_cell b i) ∷ [])
+    (loaded now b left (i + 1))))
     (rest now (stays_more h locks before mid now first second))))
 
 -- A read loads the characters that are left, and returns the text that they make after those that
@@ -101,11 +88,7 @@ pub read_from_right : (h : Header) (locks : List ℕ) (called : Called) (k : Loc
     (unlock h b (returns (text_of (λ j. now (character_cell b j) % 255) n))))
     → DoesRight (buffers h) (at locks false false called) k before (read_from h left b i text)
 read_from_right h locks called k before b zero i n text held all few is later =
-    let e : i ≡ n = omega (arith, all) in
-    subst (λ t. DoesRight (buffers h) (at locks false false called) k before
-    (unlock h b (returns t)))
-    (sym (is ∙ ap (text_of (λ j. before (character_cell b j) % 255)) e))
-    (later before (stays_same h locks before))
+    grind (arith, later before (stays_same h locks before))
 read_from_right h locks called k before b (suc left) i n text held all few is later =
     word_right h locks called k before b (character_cell b i)
     (λ character. read_from h left b (i + 1) (text + (character % 255 + 1) * 256 ^ i))
@@ -119,14 +102,7 @@ read_from_right h locks called k before b (suc left) i n text held all few is la
     one_more : (mid : Memory) → Stays h locks before mid
         → text + (mid (character_cell b i) % 255 + 1) * 256 ^ i
         ≡ text_of (λ j. mid (character_cell b j) % 255) (i + 1)
-    one_more mid first =
-        let same : text_of (λ j. before (character_cell b j) % 255) i
-        ≡ text_of (λ j. mid (character_cell b j) % 255) i =
-        text_same (λ j. before (character_cell b j) % 255) (λ j. mid (character_cell b j) % 255) i
-        (λ j low. ap (λ c. c % 255)
-        (sym (stays_character h locks before mid b j first held (omega (arith, low, all, few))))) in
-        ap (λ t. t + (mid (character_cell b i) % 255 + 1) * 256 ^ i) (is ∙ same)
-        ∙ ap (text_of (λ j. mid (character_cell b j) % 255)) (sym (add-one i))
+    one_more mid first = search (text_same, stays_character, held, few, add-one, arith)
 
 -- what is stored as characters of a buffer in a block shows when the block ends
 store_from_right : (h : Header) (locks : List ℕ) (called : Called) (k : Locals) (before : Memory)
@@ -136,8 +112,7 @@ store_from_right : (h : Header) (locks : List ℕ) (called : Called) (k : Locals
     → DoesRight (buffers h) (at locks false true called)
     (writing k (writes_of characters b i k.pending)) now later)
     → DoesRight (buffers h) (at locks false true called) k before (store_from characters b i later)
-store_from_right h locks called k before [] b i later held few rest = rest before
-    (stays_same h locks before)
+store_from_right h locks called k before [] b i later held few rest = search (stays_same, arith)
 store_from_right h locks called k before (character ∷ characters) b i later held few rest =
     block_store_right (buffers h) locks k before called (character_cell b i) character
     (store_from characters b (i + 1) later)
@@ -221,7 +196,7 @@ block_right h locks called k before characters b i count reply later held few is
       returns = finishes.will;
       next = end.0;
       allowed = end.1;
-      means = subst (λ memory. Represents h memory end.0) (sym (shows m2)) end.2;
+      means = rw (shows m2) end.2;
     })
     (λ last rely. finishes.ends (without_slots (writing k pending) pending) last
     (λ slot. refl) is))))
@@ -230,14 +205,13 @@ block_right h locks called k before characters b i count reply later held few is
     pending = (8 * b, count) ∷ writes_of characters b i []
 
     shows : (memory : Memory) → written pending memory ≡ after_block characters b i count memory
-    shows memory = ap (λ m. with_cell m (8 * b) count) (written_is characters b i [] memory)
+    shows memory = cc (written_is characters b i [] memory)
 
     guarantee : (memory : Memory) → Guarantee (buffers h) (at locks false true called)
         (writing k pending) memory (after_block characters b i count memory)
     guarantee memory = record {
       others = λ cell below free. block_leaves characters b i count memory few cell (λ same.
-          never free (subst (λ n. list_any (λ lock. lock == lock_of h n) locks ≡ true)
-          (sym same) held.held));
+          never free (rw same held.held));
       reserved = λ slot one other. tt;
     }
 
@@ -249,8 +223,7 @@ unlock_right h called b reply mutator = record {
   ends = λ k now none is.
       give_right (buffers h) (at (lock_of h b ∷ []) true false called) k now (lock_of h b)
       (returns reply) refl
-      (λ last rely. subst (λ locks. DoesRight (buffers h) (at locks true false called) k last
-      (returns reply)) (sym (gone (lock_of h b) []))
+      (λ last rely. rw (gone (lock_of h b) [])
       (returns_right (buffers h) k last true called reply none
       (mutates k called reply is mutator)));
 }
@@ -266,10 +239,8 @@ unlock_two_right h called first second reply mutator apart = record {
   ends = λ k now none is.
       give_right (buffers h) (at (lock_of h second ∷ lock_of h first ∷ []) true false called) k now
       (lock_of h second) (unlock h first (returns reply)) refl
-      (λ last rely. subst (λ locks. DoesRight (buffers h) (at locks true false called) k last
-      (unlock h first (returns reply)))
-      (sym (gone (lock_of h second) (lock_of h first ∷ [])
-      ∙ ap (λ b. cond (not b) (lock_of h first ∷ []) []) apart))
+      (λ last rely. rw (gone (lock_of h second) (lock_of h first ∷ []) ∙ ap (λ b. cond (not b)
+      (lock_of h first ∷ []) []) apart)
       ((unlock_right h called first reply mutator).ends k last none is));
 }
 
@@ -297,18 +268,9 @@ lock_both_right h called k before first second later order low mutator rest =
     lock_right h called k before first (lock_other h first second later) (omega (arith, order, low))
     (λ now held. by_test now held (first == second) refl)
   where
-    unlocked : ℕ → Bool → Script
-    unlocked reply b = cond b (unlock h first (returns reply))
-        (unlock h second (unlock h first (returns reply)))
-
-    higher : (first == second) ≡ false → lock_of h first < lock_of h second
-    higher e = let apart = apart_of first second e in omega (arith, apart, order)
-
     above_first : (first == second) ≡ false → (held : ℕ) → (b : Bool) → (lock_of h first == held)
         ≡ b → (b || false) ≡ true → held < lock_of h second
-    above_first e held true f g = subst (λ x. x < lock_of h second)
-        (same_of (lock_of h first) held f) (higher e)
-    above_first e held false f g = cc
+    above_first e held b f g = search (held, lock_of, same_of, arith)
 
     by_test : (now : Memory) → IsHeld h (lock_of h first ∷ []) first → (b : Bool)
         → (first == second) ≡ b
@@ -317,8 +279,7 @@ lock_both_right h called k before first second later order low mutator rest =
     by_test now held true e =
         rest (lock_of h first ∷ []) now held
         (subst (IsHeld h (lock_of h first ∷ [])) (same_of first second e) held)
-        (λ reply. subst (λ b. Finishes h (lock_of h first ∷ []) called reply (unlocked reply b))
-        (sym e)
+        (λ reply. rw e
         (unlock_right h called first reply mutator))
     by_test now held false e =
         take_right (buffers h) (at (lock_of h first ∷ []) false false called) k now
@@ -328,8 +289,7 @@ lock_both_right h called k before first second later order low mutator rest =
         rest (lock_of h second ∷ lock_of h first ∷ []) last
         (held_still h (lock_of h first ∷ []) (lock_of h second) first held)
         (held_last h (lock_of h first ∷ []) second low)
-        (λ reply. subst (λ b. Finishes h (lock_of h second ∷ lock_of h first ∷ []) called reply
-        (unlocked reply b)) (sym e)
+        (λ reply. rw e
         (unlock_two_right h called first second reply mutator
         (isnt_same (lock_of h first) (lock_of h second)
         (λ same. apart_of first second e (omega (arith, same)))))))

@@ -1,7 +1,7 @@
 -- What is known of buffers while their locks are held, and what a block that stores into one makes
 -- of the state.
-use Rattle.std.proofs.Common.{◌≡◌, ℕ, ◌+◌, ◌*◌, ◌/◌, ◌<◌, ◌≤◌, Bool, true, not, List, [], ◌∷◌}
-use Rattle.std.proofs.Common.{length, refl, ap, ◌∙◌, sym, subst, arith}
+use Rattle.std.proofs.Common.{◌≡◌, ℕ, ◌+◌, ◌*◌, ◌<◌, ◌≤◌, Bool, true, not, List, [], ◌∷◌}
+use Rattle.std.proofs.Common.{length, refl, ap, ◌∙◌, sym, arith}
 use Rattle.std.specs.Prelude.{◌==◌, nat_le, slice_index}
 use Rattle.std.specs.List.{list_any}
 use Rattle.vyrd_base.specs.declared.header.Header.{Header}
@@ -34,13 +34,7 @@ pub record IsHeld (h : Header) (locks : List ℕ) (b : ℕ) : Type 0 where
 pub word_access : (h : Header) (locks : List ℕ) (committed in_block : Bool) (called : Called)
     (b cell : ℕ) → IsHeld h locks b → 8 * b ≤ cell → cell < 8 * b + 8
     → Access (buffers h) (at locks committed in_block called) cell
-word_access h locks committed in_block called b cell held from to =
-    let low = held.low in
-    record {
-      low = omega (arith, low, from, to);
-      held = let e : b ≡ cell / 8 = omega (arith, from, to) in
-          subst (λ n. list_any (λ lock. lock == lock_of h n) locks ≡ true) e held.held;
-    }
+word_access h locks committed in_block called b cell held from to = grind (arith, held, lock_of)
 
 -- the words of such buffers are as they were
 pub record Stays (h : Header) (locks : List ℕ) (before now : Memory) : Type 0 where
@@ -60,9 +54,7 @@ stays_same h locks now = record { word = λ b cell held from to. refl }
 
 pub stays_more : (h : Header) (locks : List ℕ) (a b c : Memory) → Stays h locks a b
     → Stays h locks b c → Stays h locks a c
-stays_more h locks a b c first second = record {
-  word = λ n cell held from to. second.word n cell held from to ∙ first.word n cell held from to;
-}
+stays_more h locks a b c first second = grind arith
 
 -- the count of such a buffer, and its character i
 pub stays_count : (h : Header) (locks : List ℕ) (before now : Memory) (b : ℕ)
@@ -72,8 +64,7 @@ stays_count h locks before now b stays held = stays.word b (8 * b) held (omega a
 pub stays_character : (h : Header) (locks : List ℕ) (before now : Memory) (b i : ℕ)
     → Stays h locks before now → IsHeld h locks b → i < 7
     → now (8 * b + (1 + i)) ≡ before (8 * b + (1 + i))
-stays_character h locks before now b i stays held few = stays.word b (8 * b + (1 + i)) held
-    (omega arith) (omega (arith, few))
+stays_character h locks before now b i stays held few = search (held, few, arith)
 
 -- the writes when these are stored as characters of a buffer, from character i on, after earlier
 -- ones
@@ -98,11 +89,8 @@ after_block characters b i count memory = with_cell (with_characters characters 
 pub block_leaves : (characters : List ℕ) (b i count : ℕ) (memory : Memory) → i + length characters
     ≤ 7
     → Leaves memory (after_block characters b i count memory) b
-block_leaves characters b i count memory few = λ cell apart.
-    other_cell (with_characters characters b i memory) (count_cell b) count cell
-    (λ same. apart (omega (arith, same)))
-    ∙ with_characters-other characters b i memory cell
-    (λ j from to same. apart (omega (arith, to, same, few)))
+block_leaves characters b i count memory few =
+    λ cell apart. grind (arith, apart, other_cell, count, with_characters-other, few)
 
 -- Characters are appended that make this text.
 pub appended_represents : (h : Header) (memory : Memory) (state : Amounts) (b count n text : ℕ)

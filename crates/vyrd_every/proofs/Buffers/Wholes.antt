@@ -1,8 +1,8 @@
 -- Each procedure of the correct string buffers does right: all of it happens under the locks of its
 -- buffers.
 use Rattle.std.proofs.Common.{◌≡◌, ℕ, ◌+◌, ◌*◌, ◌%◌, ◌<◌, ◌≤◌, Bool, true, false, cond, not, min}
-use Rattle.std.proofs.Common.{max, List, [], ◌∷◌, Some, refl, ap, ◌∙◌, sym, subst, arith}
-use Rattle.std.specs.Prelude.{nat_lt, nat_le, slice_index}
+use Rattle.std.proofs.Common.{max, List, [], ◌∷◌, Some, refl, ap, ◌∙◌, sym, arith}
+use Rattle.std.specs.Prelude.{nat_le, slice_index}
 use Rattle.vyrd_base.specs.declared.header.Header.{Header}
 use Rattle.vyrd_base.specs.declared.subject.Subject.TheVariants.{Buffers}
 use Rattle.vyrd_base.specs.declared.subject.Method.{Method}
@@ -15,7 +15,7 @@ use Rattle.vyrd_base.specs.declared.buffers.BuffersMethod.TheVariants.{Length, R
 use Rattle.vyrd_base.specs.declared.subject.Args.{Args}
 use Rattle.vyrd_base.specs.declared.log.Kind.TheVariants.{Commit, BlockOpen}
 use Rattle.vyrd_base.specs.Callers.{Called}
-use Rattle.vyrd_base.specs.Subjects.{subject_of, arity_of, are_padded, are_ranged, are_args}
+use Rattle.vyrd_base.specs.Subjects.{subject_of, are_ranged, are_args}
 use Rattle.vyrd_base.specs.Amounts.{Amounts, amount_of, with_amount}
 use Rattle.vyrd_base.specs.Buffers.{text_of, has_room, joined, cut_to, are_characters, is_buffer}
 use Rattle.vyrd_base.proofs.TestLaws.{first_true, second_true, below_of, at_most_of, above_of}
@@ -100,8 +100,7 @@ append_right h k before args is low small none called_is =
         let same = stays_count h locks now then_ args.a stays held in (
           with_amount state args.a (joined (amount_of state args.a) (args.b + 1)),
           room_allowed state args.a (args.b + 1)
-              (room_for_one_at h then_ state args.a args.b is s low small
-              ∙ ap (λ n. not (nat_le 7 n)) same ∙ ap not e),
+              (cc (room_for_one_at h then_ state args.a args.b is s low small)),
           appended_represents h then_ state args.a (now (8 * args.a)) 1 (args.b + 1)
               (args.b ∷ []) is s low same refl (omega (arith, few))
               (is_below args.b 255 small) (one_text args.b),
@@ -110,19 +109,7 @@ append_right h k before args is low small none called_is =
 -- the locks of two buffers, of which the lower one was taken first
 both_held : (h : Header) (locks : List ℕ) (a b : ℕ) → IsHeld h locks (min a b)
     → IsHeld h locks (max a b) → IsHeld h locks a × IsHeld h locks b
-both_held h locks a b lower higher = by_order (nat_le a b) refl
-  where
-    by_order : (order : Bool) → nat_le a b ≡ order → IsHeld h locks a × IsHeld h locks b
-    by_order true e =
-        let most = at_most_of a b e in
-        let first : min a b ≡ a = omega (arith, most) in
-        let second : max a b ≡ b = omega (arith, most) in
-        (subst (IsHeld h locks) first lower, subst (IsHeld h locks) second higher)
-    by_order false e =
-        let less = above_of a b e in
-        let first : max a b ≡ a = omega (arith, less) in
-        let second : min a b ≡ b = omega (arith, less) in
-        (subst (IsHeld h locks) first higher, subst (IsHeld h locks) second lower)
+both_held h locks a b lower higher = grind (arith, lower, at_most_of, above_of)
 
 -- a count that is at most 7 is the lesser of it and 7
 lesser : (n m : ℕ) → m ≡ n → m ≤ 7 → m ≡ min n 7
@@ -164,20 +151,12 @@ append_all_right h locks k now args first second is held_a held_b none called_is
     room_is : (then_ : Memory) (state : Amounts) → Stays h locks now then_
         → Represents h then_ state
         → has_room (amount_of state args.a) (amount_of state args.b) ≡ nat_le (count + more) 7
-    room_is then_ state stays s =
-        room_at h then_ state args.a args.b is s held_a.low held_b.low
-        ∙ ap (λ n. nat_le (n + then_ (8 * args.b)) 7)
-        (count_now h locks now then_ state args.a is stays held_a s)
-        ∙ ap (λ n. nat_le (count + n) 7)
-        (count_now h locks now then_ state args.b is stays held_b s)
+    room_is then_ state stays s = search (room_at, count_now, stays, count, arith)
 
     -- the characters that were loaded are still there
     loaded_is : (last then_ : Memory) → Stays h locks last then_ → (j : ℕ) → j < more
         → slice_index (loaded last args.b more 0) j ≡ then_ (8 * args.b + (1 + j))
-    loaded_is last then_ stays j low =
-        let e : 0 + j ≡ j = omega arith in
-        loaded-at last args.b more 0 j low ∙ ap (λ n. last (character_cell args.b n)) e
-        ∙ sym (stays_character h locks last then_ args.b j stays held_b (omega (arith, low, few)))
+    loaded_is last then_ stays j low = search (loaded-at, more, stays_character, stays, few, arith)
 
     leads : (last then_ : Memory) → Stays h locks now last → Stays h locks last then_
         → nat_le (count + more) 7 ≡ true
@@ -247,9 +226,7 @@ append_from_right h k before args is low_a low_b none called_is =
     word_right h locks called k m1 args.b (count_cell args.b) (rest (m1 (8 * args.a))) both.1
     (omega arith) (omega arith)
     (λ now stays_b.
-    subst (λ count. DoesRight (buffers h) (at locks false false called) k now
-    (rest count (now (8 * args.b))))
-    (stays_count h locks m1 now args.a stays_b both.0)
+    rw (← stays_count h locks m1 now args.a stays_b both.0)
     (append_all_right h locks k now args first second is both.0 both.1 none called_is finishes))))
   where
     called : Called
@@ -386,28 +363,19 @@ procedure_right h k before method args is of fit none called_is = by_method meth
   where
     ranged : (method : Method) → are_args h.size method args ≡ true → are_ranged h.size method args
         ≡ true
-    ranged method fit = second_true (are_padded (arity_of method) args)
-        (are_ranged h.size method args) fit
+    ranged method fit = search (second_true, arith)
 
     by_method : (method : Method) → subject_of method ≡ Buffers → are_ranged h.size method args
         ≡ true → k.called ≡ Some (record { method = method; args = args })
         → DoesRight (buffers h) (just_called method) k before (procedure_of h Correct method args)
     by_method (OfBuffers Append) of fit called_is =
-        append_right h k before args is
-        (below_of args.a h.size (first_true (nat_lt args.a h.size) (nat_lt args.b 255) fit))
-        (below_of args.b 255 (second_true (nat_lt args.a h.size) (nat_lt args.b 255) fit)) none
-        called_is
+        search (append_right, below_of, first_true, second_true, called_is, arith)
     by_method (OfBuffers AppendFrom) of fit called_is =
-        append_from_right h k before args is
-        (below_of args.a h.size (first_true (nat_lt args.a h.size) (nat_lt args.b h.size) fit))
-        (below_of args.b h.size (second_true (nat_lt args.a h.size) (nat_lt args.b h.size) fit))
-        none called_is
-    by_method (OfBuffers Cut) of fit called_is = cut_right h k before args is
-        (below_of args.a h.size fit) none called_is
+        search (append_from_right, below_of, first_true, second_true, called_is, arith)
+    by_method (OfBuffers Cut) of fit called_is = search (cut_right, below_of, called_is, arith)
     by_method (OfBuffers Length) of fit called_is = length_right h k before args is
         (below_of args.a h.size fit) none called_is
-    by_method (OfBuffers Read) of fit called_is = read_right h k before args is
-        (below_of args.a h.size fit) none called_is
+    by_method (OfBuffers Read) of fit called_is = search (read_right, below_of, called_is, arith)
     by_method (OfMultiset other) of fit called_is = cc
     by_method (OfCache other) of fit called_is = cc
     by_method (OfTree other) of fit called_is = cc
@@ -418,6 +386,5 @@ procedure_right h k before method args is of fit none called_is = by_method meth
 -- so each operation that may be called does right
 pub buffers_right : (h : Header) (op : Op) → h.subject ≡ Buffers → is_callable h op ≡ true
     → IsRight (buffers h) (buffers_procedure h Correct) op
-buffers_right h op is callable k before none called =
-    procedure_right h k before op.method op.args is (callable_method h op callable ∙ is)
-    (callable_args h op callable) none called
+buffers_right h op is callable =
+    grind (arith, callable, procedure_right, callable_method, callable_args)

@@ -1,6 +1,6 @@
 -- What is known of a chunk while its lock is held, and what a block that stores into it makes of
 -- the state.
-use Rattle.std.proofs.Common.{◌≡◌, ◌≢◌, ℕ, ◌+◌, ◌*◌, ◌/◌, ◌<◌, ◌≤◌, true, ap, ◌∙◌, subst, arith}
+use Rattle.std.proofs.Common.{◌≡◌, ◌≢◌, ℕ, ◌+◌, ◌*◌, ◌<◌, ◌≤◌, true, ap, ◌∙◌, subst, arith}
 use Rattle.vyrd_base.specs.declared.header.Header.{Header}
 use Rattle.vyrd_base.specs.declared.subject.Subject.TheVariants.{Cache}
 use Rattle.vyrd_base.specs.Amounts.{Amounts, with_amount}
@@ -22,23 +22,13 @@ use Rattle.vyrd_every.specs.Guarded.{cache}
 pub chunk_access : (h : Header) (s : Situation) (n cell : ℕ) → n < h.size → holds s (lock_of h n)
     ≡ true → 5 * n ≤ cell → cell < 5 * n + 5
     → Access (cache h) s cell
-chunk_access h s n cell low held from to = record {
-  low = omega (arith, low, from, to);
-  held = let e : n ≡ cell / 5 = omega (arith, from, to) in subst (λ k. holds s (lock_of h k) ≡ true)
-      e held;
-}
+chunk_access h s n cell low held from to = grind (arith, held, lock_of)
 
 -- they stay as they are
 pub chunk_stays : (h : Header) (s : Situation) (k : Locals) (before now : Memory) (n : ℕ)
     → n < h.size → holds s (lock_of h n) ≡ true
     → Rely (cache h) s k before now → chunk_of now n ≡ chunk_of before n
-chunk_stays h s k before now n low held rely =
-    same_chunk (chunk_of now n) (chunk_of before n)
-    (rely.held (5 * n) (chunk_access h s n (5 * n) low held (omega arith) (omega arith)))
-    (rely.held (5 * n + 1) (chunk_access h s n (5 * n + 1) low held (omega arith) (omega arith)))
-    (rely.held (5 * n + 2) (chunk_access h s n (5 * n + 2) low held (omega arith) (omega arith)))
-    (rely.held (5 * n + 3) (chunk_access h s n (5 * n + 3) low held (omega arith) (omega arith)))
-    (rely.held (5 * n + 4) (chunk_access h s n (5 * n + 4) low held (omega arith) (omega arith)))
+chunk_stays h s k before now n low held rely = grind (arith, held, same_chunk, chunk_access)
 
 -- the memory after three stores
 abbrev pub thrice : Memory → ℕ → ℕ → ℕ → ℕ → ℕ → ℕ → Memory
@@ -48,19 +38,14 @@ thrice-state : (memory : Memory) (a x b y s z : ℕ) → thrice memory a x b y s
 thrice-state memory a x b y s z = changed_cell (with_cell (with_cell memory a x) b y) s z
 
 thrice-high : (memory : Memory) (a x b y s z : ℕ) → b ≢ s → thrice memory a x b y s z b ≡ y
-thrice-high memory a x b y s z other = other_cell (with_cell (with_cell memory a x) b y) s z b other
-    ∙ changed_cell (with_cell memory a x) b y
+thrice-high memory a x b y s z other = search (other_cell, changed_cell, arith)
 
 thrice-low : (memory : Memory) (a x b y s z : ℕ) → a ≢ s → a ≢ b → thrice memory a x b y s z a ≡ x
-thrice-low memory a x b y s z other lower =
-    other_cell (with_cell (with_cell memory a x) b y) s z a other
-    ∙ other_cell (with_cell memory a x) b y a lower ∙ changed_cell memory a x
+thrice-low memory a x b y s z other lower = grind (arith, lower, other_cell, changed_cell)
 
 pub thrice-other : (memory : Memory) (a x b y s z cell : ℕ) → cell ≢ s → cell ≢ b → cell ≢ a
     → thrice memory a x b y s z cell ≡ memory cell
-thrice-other memory a x b y s z cell other upper lower =
-    other_cell (with_cell (with_cell memory a x) b y) s z cell other
-    ∙ other_cell (with_cell memory a x) b y cell upper ∙ other_cell memory a x cell lower
+thrice-other memory a x b y s z cell other upper lower = grind (arith, lower, other_cell)
 
 -- the chunk after its cached pair and its state were stored, and after its stored pair and its
 -- state were
@@ -68,41 +53,17 @@ pub after_cached : (memory : Memory) (n z x y : ℕ)
     → chunk_of (thrice memory (5 * n + 1) x (5 * n + 2) y (5 * n) z) n ≡ with_cached z x y
     (chunk_of memory n)
 after_cached memory n z x y =
-    same_chunk (chunk_of (thrice memory (5 * n + 1) x (5 * n + 2) y (5 * n) z) n)
-    (with_cached z x y (chunk_of memory n))
-    (thrice-state memory (5 * n + 1) x (5 * n + 2) y (5 * n) z)
-    (thrice-low memory (5 * n + 1) x (5 * n + 2) y (5 * n) z (λ e. omega (arith, e))
-    (λ e. omega (arith, e)))
-    (thrice-high memory (5 * n + 1) x (5 * n + 2) y (5 * n) z (λ e. omega (arith, e)))
-    (thrice-other memory (5 * n + 1) x (5 * n + 2) y (5 * n) z (5 * n + 3) (λ e. omega (arith, e))
-    (λ e. omega (arith, e)) (λ e. omega (arith, e)))
-    (thrice-other memory (5 * n + 1) x (5 * n + 2) y (5 * n) z (5 * n + 4) (λ e. omega (arith, e))
-    (λ e. omega (arith, e)) (λ e. omega (arith, e)))
+    grind (arith, same_chunk, thrice-state, thrice-low, thrice-high, thrice-other)
 
 pub after_stored : (memory : Memory) (n z x y : ℕ)
     → chunk_of (thrice memory (5 * n + 3) x (5 * n + 4) y (5 * n) z) n ≡ with_stored z x y
     (chunk_of memory n)
 after_stored memory n z x y =
-    same_chunk (chunk_of (thrice memory (5 * n + 3) x (5 * n + 4) y (5 * n) z) n)
-    (with_stored z x y (chunk_of memory n))
-    (thrice-state memory (5 * n + 3) x (5 * n + 4) y (5 * n) z)
-    (thrice-other memory (5 * n + 3) x (5 * n + 4) y (5 * n) z (5 * n + 1) (λ e. omega (arith, e))
-    (λ e. omega (arith, e)) (λ e. omega (arith, e)))
-    (thrice-other memory (5 * n + 3) x (5 * n + 4) y (5 * n) z (5 * n + 2) (λ e. omega (arith, e))
-    (λ e. omega (arith, e)) (λ e. omega (arith, e)))
-    (thrice-low memory (5 * n + 3) x (5 * n + 4) y (5 * n) z (λ e. omega (arith, e))
-    (λ e. omega (arith, e)))
-    (thrice-high memory (5 * n + 3) x (5 * n + 4) y (5 * n) z (λ e. omega (arith, e)))
+    grind (arith, same_chunk, thrice-state, thrice-other, thrice-low, thrice-high)
 
 pub after_state : (memory : Memory) (n z : ℕ) → chunk_of (with_cell memory (5 * n) z) n
     ≡ with_state z (chunk_of memory n)
-after_state memory n z =
-    same_chunk (chunk_of (with_cell memory (5 * n) z) n) (with_state z (chunk_of memory n))
-    (changed_cell memory (5 * n) z)
-    (other_cell memory (5 * n) z (5 * n + 1) (λ e. omega (arith, e)))
-    (other_cell memory (5 * n) z (5 * n + 2) (λ e. omega (arith, e)))
-    (other_cell memory (5 * n) z (5 * n + 3) (λ e. omega (arith, e)))
-    (other_cell memory (5 * n) z (5 * n + 4) (λ e. omega (arith, e)))
+after_state memory n z = grind (arith, same_chunk, changed_cell, other_cell)
 
 -- the memory represents a state where its chunk is known
 pub kept : (h : Header) (old new : Memory) (state : Amounts) (n : ℕ) (chunk : Chunk) → h.subject

@@ -1,7 +1,7 @@
 -- The cache as a structure: a chunk's lock guards its words, and nothing is reserved.
-use Rattle.std.proofs.Common.{◌≡◌, ℕ, ◌+◌, ◌*◌, ◌/◌, ◌<◌, ◌≤◌, Bool, true, false, cond, List, []}
+use Rattle.std.proofs.Common.{◌≡◌, ℕ, ◌+◌, ◌*◌, ◌/◌, ◌<◌, ◌≤◌, true, List, []}
 use Rattle.std.proofs.Common.{map, refl, ap, ◌∙◌, sym, subst, arith}
-use Rattle.std.specs.Prelude.{◌==◌, flat_map, slice_index}
+use Rattle.std.specs.Prelude.{flat_map, slice_index}
 use Rattle.vyrd_base.specs.declared.header.Header.{Header}
 use Rattle.vyrd_base.specs.declared.subject.Subject.TheVariants.{Cache}
 use Rattle.vyrd_base.specs.declared.log.Entry.{Entry}
@@ -28,14 +28,7 @@ use Rattle.vyrd_every.specs.Guarded.{cache}
 
 -- nothing was written yet
 nothing_given : (size q k : ℕ) → given q (chunk_parts size k (chunk_of (shown_by []) k)) ≡ 0
-nothing_given size q k =
-    let one : given q (chunk_parts size k (chunk_of (shown_by []) k)) ≡ cond (q == k) 0 0 =
-    omega arith in
-    one ∙ by_key (q == k)
-  where
-    by_key : (b : Bool) → ◌≡◌ {A = ℕ} (cond b 0 0) 0
-    by_key true = refl
-    by_key false = refl
+nothing_given size q k = grind (arith, given, shown_by)
 
 empty_represents : (h : Header) → h.subject ≡ Cache → Represents h (shown_by []) start.shown
 unfolding view_of_words

@@ -1,7 +1,7 @@
 -- Each procedure of the correct cache does right: all of it happens under the lock of its chunk.
 use Rattle.std.proofs.Common.{◌≡◌, ◌≢◌, ℕ, ◌+◌, ◌*◌, ◌/◌, ◌<◌, ◌≤◌, ◌^◌, Bool, true, false, cond}
-use Rattle.std.proofs.Common.{List, [], ◌∷◌, Some, refl, ap, ◌∙◌, sym, subst, arith}
-use Rattle.std.specs.Prelude.{◌==◌, ◌&&◌, nat_lt}
+use Rattle.std.proofs.Common.{List, [], ◌∷◌, Some, refl, ap, ◌∙◌, sym, arith}
+use Rattle.std.specs.Prelude.{◌==◌, nat_lt}
 use Rattle.vyrd_base.specs.declared.header.Header.{Header}
 use Rattle.vyrd_base.specs.declared.subject.Subject.TheVariants.{Cache}
 use Rattle.vyrd_base.specs.declared.subject.Method.{Method}
@@ -14,7 +14,7 @@ use Rattle.vyrd_base.specs.declared.subject.Args.{Args}
 use Rattle.vyrd_base.specs.declared.log.Kind.TheVariants.{Return, BlockOpen, BlockClose}
 use Rattle.vyrd_base.specs.declared.log.Kind.TheVariants.{BlockCommit}
 use Rattle.vyrd_base.specs.Callers.{Called}
-use Rattle.vyrd_base.specs.Subjects.{is_observer, subject_of, are_args, same_subject}
+use Rattle.vyrd_base.specs.Subjects.{is_observer, subject_of}
 use Rattle.vyrd_base.specs.Amounts.{Amounts, with_amount}
 use Rattle.vyrd_base.specs.Specification.{next_state}
 use Rattle.vyrd_base.specs.Cache.{Chunk, cached_pair}
@@ -67,16 +67,14 @@ access_in : (h : Header) (n cell : ℕ) (committed in_block : Bool) (called : Ca
     → 5 * n ≤ cell → cell < 5 * n + 5
     → Access (cache h) (locked h n committed in_block called) cell
 access_in h n cell committed in_block called low from to =
-    chunk_access h (locked h n committed in_block called) n cell low
-    (has_lock h n committed in_block called) from to
+    grind (arith, chunk_access, locked, has_lock)
 
 stays_in : (h : Header) (n : ℕ) (committed in_block : Bool) (called : Called) (k : Locals)
     (before now : Memory) → n < h.size
     → Rely (cache h) (locked h n committed in_block called) k before now → chunk_of now n
     ≡ chunk_of before n
 stays_in h n committed in_block called k before now low rely =
-    chunk_stays h (locked h n committed in_block called) k before now n low
-    (has_lock h n committed in_block called) rely
+    grind (arith, chunk_stays, locked, has_lock)
 
 -- a load of a word of the chunk finds what it has afterwards too
 look_right : (h : Header) (n cell : ℕ) (called : Called) (k : Locals) (before : Memory)
@@ -87,9 +85,7 @@ look_right : (h : Header) (n cell : ℕ) (called : Called) (k : Locals) (before 
 look_right h n cell called k before rest low from to later =
     load_right (cache h) (locked h n false false called) k before cell rest
     (access_in h n cell false false called low from to) refl
-    (λ now rely. subst (λ value. DoesRight (cache h) (locked h n false false called) k now
-    (rest value))
-    (rely.held cell (access_in h n cell false false called low from to))
+    (λ now rely. rw (← rely.held cell (access_in h n cell false false called low from to))
     (later now (stays_in h n false false called k before now low rely)))
 
 -- both halves of a pair are loaded
@@ -109,10 +105,8 @@ look_twice h n a b called k before rest low from_a to_a from_b to_b later =
     (λ now second.
     let both : Rely (cache h) (locked h n false false called) k before now = rely_more (cache h)
     (locked h n false false called) k before mid now first second in
-    subst (λ x. DoesRight (cache h) (locked h n false false called) k now (rest x (mid b)))
-    (both.held a (access_in h n a false false called low from_a to_a))
-    (subst (λ y. DoesRight (cache h) (locked h n false false called) k now (rest (now a) y))
-    (second.held b (access_in h n b false false called low from_b to_b))
+    rw (← both.held a (access_in h n a false false called low from_a to_a))
+    (rw (← second.held b (access_in h n b false false called low from_b to_b))
     (later now (stays_in h n false false called k before now low both)))))
 
 -- the lock is taken
@@ -131,8 +125,7 @@ leave_right : (h : Header) (n : ℕ) (called : Called) (k : Locals) (now : Memor
     (in_order (Give (lock_of h n) ∷ Mark (Return 1) ∷ []))
 leave_right h n called k now none is mutator =
     give_right (cache h) (locked h n true false called) k now (lock_of h n) (returns 1) refl
-    (λ last rely. subst (λ locks. DoesRight (cache h) (at locks true false called) k last
-    (returns 1)) (sym (gone (lock_of h n) []))
+    (λ last rely. rw (gone (lock_of h n) [])
     (returns_right (cache h) k last true called 1 none (mutates k called 1 is mutator)))
 
 -- stores into a chunk leave other chunks alone
@@ -150,9 +143,7 @@ leaves_alone h n a x b y z called k memory low from_a to_a from_b to_b = record 
   where
     outside : (cell word : ℕ) → holds (locked h n false true called) (lock_of h (cell / 5)) ≡ false
         → Access (cache h) (locked h n false true called) word → cell ≢ word
-    outside cell word free access = λ same.
-        never free (subst (λ c. holds (locked h n false true called) (lock_of h (c / 5)) ≡ true)
-        (sym same) access.held)
+    outside cell word free access = search (never, free, locked, lock_of, arith)
 
 -- a block that stores a pair and a state, up to its end
 stored_right : (h : Header) (n a x b y z : ℕ) (called : Called) (k : Locals) (before : Memory)
@@ -355,7 +346,7 @@ forget_right h n called k before is low called_is mutator stays other there =
           (after_state m1 n 0)
           (forgotten_sound (chunk_of m1 n) (sound_at h m1 state n is s low))
           (sym (shown_clean (chunk_of m1 n) (sound_at h m1 state n is s low)
-          (ap (λ c. c.state == 2) same ∙ other) (ap (λ c. c.state == 0) same ∙ there)));
+          (cc) (cc)));
     })
     (λ last rely. leave_right h n called
     (without_slots (writing k ((5 * n, 0) ∷ [])) ((5 * n, 0) ∷ [])) last (λ i. refl) called_is
@@ -363,13 +354,7 @@ forget_right h n called k before is low called_is mutator stays other there =
   where
     guarantee : (memory : Memory) → Guarantee (cache h) (locked h n false true called)
         (writing k ((5 * n, 0) ∷ [])) memory (with_cell memory (5 * n) 0)
-    guarantee memory = record {
-      others = λ cell below free. other_cell memory (5 * n) 0 cell (λ same.
-          never free (subst (λ c. holds (locked h n false true called) (lock_of h (c / 5)) ≡ true)
-          (sym same)
-          (access_in h n (5 * n) false true called low (omega arith) (omega arith)).held));
-      reserved = λ slot one other. tt;
-    }
+    guarantee memory = grind arith
 
 -- a flush
 flush_right : (h : Header) (k : Locals) (before : Memory) (args : Args) → h.subject ≡ Cache
@@ -393,11 +378,8 @@ flush_right h k before args is low none called_is =
     by_state : (now : Memory) (b : Bool) → (now (5 * args.a) == 2) ≡ b
         → DoesRight (cache h) (locked h args.a false false called) k now
         (cond b (put_stored h args.a 1) (only_commit h args.a))
-    by_state now true dirty =
-        put_stored_right h args.a 1 called k now is low called_is refl (λ state. refl) dirty
-        (λ c sound. flushed_sound c sound) (λ c. refl)
-    by_state now false other = only_commit_right h args.a called k now none called_is refl
-        (λ state. refl)
+    by_state now true dirty = search (put_stored_right, called_is, flushed_sound, arith)
+    by_state now false other = search (only_commit_right, called_is, arith)
 
 -- an evict
 evict_right : (h : Header) (k : Locals) (before : Memory) (args : Args) → h.subject ≡ Cache
@@ -421,13 +403,9 @@ evict_right h k before args is low none called_is =
         → (now (5 * args.a) == 0) ≡ c
         → DoesRight (cache h) (locked h args.a false false called) k now
         (cond b (put_stored h args.a 0) (cond c (only_commit h args.a) (forget h args.a)))
-    by_state now true dirty c e =
-        put_stored_right h args.a 0 called k now is low called_is refl (λ state. refl) dirty
-        (λ c sound. evicted_sound c sound) (λ c. refl)
-    by_state now false other true absent = only_commit_right h args.a called k now none called_is
-        refl (λ state. refl)
-    by_state now false other false there = forget_right h args.a called k now is low called_is refl
-        (λ state. refl) other there
+    by_state now true dirty c e = search (put_stored_right, called_is, evicted_sound, arith)
+    by_state now false other true absent = search (only_commit_right, called_is, arith)
+    by_state now false other false there = search (forget_right, called_is, there, arith)
 
 -- a read has its answer when it gives its lock back
 answer_cached_right : (h : Header) (k : Locals) (before : Memory) (args : Args) → h.subject ≡ Cache
@@ -574,15 +552,5 @@ procedure_right h k before (OwnOnce i) args is of low few none called_is = cc
 -- so each operation that may be called does right
 pub cache_right : (h : Header) (op : Op) → h.subject ≡ Cache → is_callable h op ≡ true
     → IsRight (cache h) (cache_procedure h Correct) op
-cache_right h op is callable k before none called =
-    procedure_right h k before op.method op.args is of_cache
-    (chunk_below h.size op.method op.args of_cache
-    (second_true (same_subject (subject_of op.method) h.subject) (are_args h.size op.method op.args)
-    (first_true (same_subject (subject_of op.method) h.subject && are_args h.size op.method op.args)
-    (are_small op.args) callable)))
-    (second_true (same_subject (subject_of op.method) h.subject
-    && are_args h.size op.method op.args) (are_small op.args) callable)
-    none called
-  where
-    of_cache : subject_of op.method ≡ Cache
-    of_cache = callable_method h op callable ∙ is
+cache_right h op is callable =
+    grind (arith, callable, procedure_right, chunk_below, second_true, first_true, callable_method)

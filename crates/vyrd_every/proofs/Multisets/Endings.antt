@@ -1,6 +1,6 @@
 -- What each procedure does at its end does right: blocks that commit, giving up, and returns.
 use Rattle.std.proofs.Common.{◌≡◌, ◌≢◌, ℕ, ◌+◌, ◌*◌, ◌/◌, ◌<◌, inl, true, false, List, [], ◌∷◌}
-use Rattle.std.proofs.Common.{Some, refl, ap, ◌∙◌, sym, subst, arith}
+use Rattle.std.proofs.Common.{Some, refl, ap, ◌∙◌, sym, arith}
 use Rattle.vyrd_base.specs.declared.header.Header.{Header}
 use Rattle.vyrd_base.specs.declared.subject.Method.TheVariants.{Multiset as OfMultiset}
 use Rattle.vyrd_base.specs.declared.multiset.MultisetMethod.TheVariants.{InsertPair}
@@ -53,17 +53,7 @@ gives_up_right h k shown called none is mutator stays =
 changes_one : (h : Header) (s : Situation) (k : Locals) (shown : Memory) (slot state : ℕ)
     → Access (multiset h) s (2 * slot) → (shown (2 * slot) ≡ 1 → k.owned slot ≡ true)
     → Guarantee (multiset h) s k shown (with_cell shown (2 * slot) state)
-changes_one h s k shown slot state access mine = record {
-  others = λ cell low free. other_cell shown (2 * slot) state cell
-      (λ same. never free (subst (λ x. holds s (lock_of h (x / 8)) ≡ true) (sym same) access.held));
-  reserved = λ i one other.
-      let apart : i ≢ slot = λ same. never other
-      (subst (λ x. k.owned x ≡ true) (sym same) (mine (subst (λ x. shown (2 * x) ≡ 1) same one))) in (
-        other_cell shown (2 * slot) state (2 * i) (λ f. apart (omega (arith, f))),
-        other_cell shown
-            (2 * slot) state (2 * i + 1) (λ f. omega (arith, f)),
-      );
-}
+changes_one h s k shown slot state access mine = grind arith
 
 -- in a block that commits a slot gets its state
 pub commit_state_right : (h : Header) (k : Locals) (shown : Memory) (called : Called)
@@ -109,19 +99,13 @@ commit_state_right h k shown called bucket slot state low of is mutator mine lea
     (mutates (without_slots k ((2 * slot, state) ∷ [])) called 1 is mutator)))))
   where
     without : Locals → List (ℕ × ℕ) → Locals
-    without k pending = record {
-      owned = k.owned;
-      pending = pending;
-      called = k.called;
-      answered = k.answered;
-    }
+    without k pending = record k { pending = pending }
 
     inside : Situation
     inside = at (lock_of h bucket ∷ []) false true called
 
     held : holds inside (lock_of h (slot / 4)) ≡ true
-    held = subst (λ b. holds inside (lock_of h b) ≡ true) (sym of)
-        (holds_first (lock_of h bucket) [] false true called)
+    held = cc (holds_first (lock_of h bucket) [] false true called)
 
     access : Access (multiset h) inside (2 * slot)
     access = state_access h inside slot low held
@@ -159,9 +143,7 @@ undo_right h k shown called x slot low of mine one is mutator stays =
     inside = at (lock_of h (bucket_of h x) ∷ []) false false called
 
     access : Access (multiset h) inside (2 * slot)
-    access = state_access h inside slot low
-        (subst (λ b. holds inside (lock_of h b) ≡ true) (sym of)
-        (holds_first (lock_of h (bucket_of h x)) [] false false called))
+    access = search (state_access, lock_of, holds_first, arith)
 
     zero_two : (n : ℕ) → n ≡ 0 → n ≡ 2 → ⊥
     zero_two n e f = omega (arith, e, f)
@@ -241,9 +223,9 @@ pair_leaves h s k shown slot_x slot_y access_x access_y mine_x mine_y = record {
       ∙ other_cell shown (2 * slot_x) 2 cell (outside cell (2 * slot_x) free access_x);
   reserved = λ i one other.
       let not_x : i ≢ slot_x = λ same. never other
-      (subst (λ x. k.owned x ≡ true) (sym same) mine_x) in
+      (rw same mine_x) in
       let not_y : i ≢ slot_y = λ same. never other
-      (subst (λ x. k.owned x ≡ true) (sym same) mine_y) in (
+      (rw same mine_y) in (
         other_cell mid (2 * slot_y) 2 (2 * i) (λ e. not_y (omega (arith, e)))
             ∙ other_cell shown (2 * slot_x) 2 (2 * i) (λ e. not_x (omega (arith, e))),
         other_cell mid (2 * slot_y) 2 (2 * i + 1) (λ e. omega (arith, e))
@@ -256,8 +238,7 @@ pair_leaves h s k shown slot_x slot_y access_x access_y mine_x mine_y = record {
 
     outside : (cell word : ℕ) → holds s (lock_of h (cell / 8)) ≡ false → Access (multiset h) s word
         → cell ≢ word
-    outside cell word free access = λ same. never free
-        (subst (λ x. holds s (lock_of h (x / 8)) ≡ true) (sym same) access.held)
+    outside cell word free access = search (never, free, lock_of, arith)
 
 pub validate_both_right : (h : Header) (locks : List ℕ) (k : Locals) (shown : Memory) (args : Args)
     (first second slot_x slot_y : ℕ)
@@ -314,17 +295,11 @@ validate_both_right h locks k shown args first second slot_x slot_y r is access_
     later = perform (Mark BlockCommit) (unlock_both h first second)
 
     with_writes : List (ℕ × ℕ) → Locals
-    with_writes pending = record {
-      owned = k.owned;
-      pending = pending;
-      called = k.called;
-      answered = k.answered;
-    }
+    with_writes pending = record k { pending = pending }
 
     inside : Situation
     inside = at locks false true (pair_of args)
 
     keeps_own : (k k' : Locals) (shown now : Memory) → k'.owned ≡ k.owned → Keeps k' shown now
         → Keeps k shown now
-    keeps_own k k' shown now same keeps =
-        record { slots = λ i mine one. keeps.slots i (ap (λ o. o i) same ∙ mine) one }
+    keeps_own k k' shown now same keeps = search arith

@@ -23,7 +23,6 @@ use Rattle.vyrd_every.specs.Locals.{Locals, Access, shown_after}
 use Rattle.vyrd_every.specs.Others.{Rely, Guarantee}
 use Rattle.vyrd_every.specs.RightScripts.{DoesRight}
 use Rattle.vyrd_every.proofs.Acts.{never, load_right, take_right as take, give_right as give, at}
-use Rattle.vyrd_every.proofs.Acts.{holds_first}
 use Rattle.vyrd_every.proofs.Relies.{rely_same, rely_more}
 
 pub one_two : (n : ℕ) → n ≡ 1 → n ≡ 2 → ⊥
@@ -32,19 +31,11 @@ one_two n e f = omega (arith, e, f)
 -- the words of a slot whose bucket's lock is held
 pub state_access : (h : Header) (s : Situation) (j : ℕ) → j < 4 * h.size
     → holds s (lock_of h (j / 4)) ≡ true → Access (multiset h) s (2 * j)
-state_access h s j low held = record {
-  low = omega (arith, low);
-  held = let e : j / 4 ≡ (2 * j) / 8 = omega arith in subst (λ b. holds s (lock_of h b) ≡ true) e
-      held;
-}
+state_access h s j low held = grind (arith, held, lock_of)
 
 pub value_access : (h : Header) (s : Situation) (j : ℕ) → j < 4 * h.size
     → holds s (lock_of h (j / 4)) ≡ true → Access (multiset h) s (2 * j + 1)
-value_access h s j low held = record {
-  low = omega (arith, low);
-  held = let e : j / 4 ≡ (2 * j + 1) / 8 = omega arith in subst (λ b. holds s (lock_of h b) ≡ true)
-      e held;
-}
+value_access h s j low held = grind (arith, held, lock_of)
 
 pub take_right : (h : Header) (s : Situation) (k : Locals) (shown : Memory) (bucket : ℕ)
     (later : Script)
@@ -84,28 +75,26 @@ store_right h s k next shown cell value j later out access is mine kept fresh me
       record {
         reaches = access;
         guarantee = subst (Guarantee (multiset h) s k shown) (sym here) guarantee;
-        kept = λ i now_mine was one. ap (λ m. m (2 * i)) here ∙ kept i now_mine was one;
+        kept = λ i now_mine was one. cc (kept i now_mine was one);
         fresh = λ i now_mine wasnt. (
           (fresh i now_mine wasnt).0,
-          ap (λ m. m (2 * i)) here
-              ∙ (fresh i now_mine wasnt).1,
+          cc ((fresh i now_mine wasnt).1),
         );
-        leads = λ state m. subst (λ mem. IsMultiset h mem state) (sym here) (means state m);
+        leads = λ state m. rw here (means state m);
         pending = pending;
         called = called;
         answers = answered;
       },
-      λ now rely. rest now (subst (λ m. Rely (multiset h) s next m now) here rely),
+      λ now rely. rest now (rw (← here) rely),
     )
   where
     here : shown_after s k shown (Store cell value) ≡ with_cell shown cell value
-    here = ap (λ b. cond b shown (with_cell shown cell value)) out
+    here = cc
 
     guarantee : Guarantee (multiset h) s k shown (with_cell shown cell value)
     guarantee = record {
       others = λ other low free. other_cell shown cell value other
-          (λ same. never free (subst (λ x. holds s (lock_of h (x / 8))
-          ≡ true) (sym same) access.held));
+          (λ same. never free (rw same access.held));
       reserved = λ i one other. apart i one other is;
     }
       where
@@ -113,22 +102,7 @@ store_right h s k next shown cell value j later out access is mine kept fresh me
             ⊎ (cell ≡ 2 * j + 1)
             → (with_cell shown cell value (2 * i) ≡ shown (2 * i))
             × (with_cell shown cell value (2 * i + 1) ≡ shown (2 * i + 1))
-        apart i one other (inl e) =
-            let not_j : i ≢ j = λ same. never other
-            (subst (λ x. k.owned x ≡ true) (sym same)
-            (mine (subst (λ x. shown (2 * x) ≡ 1) same one))) in (
-              other_cell shown cell value (2 * i) (λ f. not_j (omega (arith, e, f))),
-              other_cell
-                  shown cell value (2 * i + 1) (λ f. omega (arith, e, f)),
-            )
-        apart i one other (inr e) =
-            let not_j : i ≢ j = λ same. never other
-            (subst (λ x. k.owned x ≡ true) (sym same)
-            (mine (subst (λ x. shown (2 * x) ≡ 1) same one))) in (
-              other_cell shown cell value (2 * i) (λ f. omega (arith, e, f)),
-              other_cell shown cell
-                  value (2 * i + 1) (λ f. not_j (omega (arith, e, f))),
-            )
+        apart i one other e3 = search (never, shown, other_cell, arith)
 
 -- what is said of slots that were reserved holds of them still
 pub record Keeps (k : Locals) (shown now : Memory) : Type 0 where
@@ -137,16 +111,10 @@ pub record Keeps (k : Locals) (shown now : Memory) : Type 0 where
 
 pub keeps_rely : (h : Header) (s : Situation) (k : Locals) (shown now : Memory)
     → Rely (multiset h) s k shown now → Keeps k shown now
-keeps_rely h s k shown now rely =
-    record { slots = λ i mine one. ((rely.owned i mine).0 ∙ one, (rely.owned i mine).1) }
+keeps_rely h s k shown now rely = grind arith
 
 pub keeps_more : (k : Locals) (a b c : Memory) → Keeps k a b → Keeps k b c → Keeps k a c
-keeps_more k a b c first second = record {
-  slots = λ i mine one.
-      let at_b = first.slots i mine one in
-      let at_c = second.slots i mine at_b.0 in
-      (at_c.0, at_c.1 ∙ at_b.1);
-}
+keeps_more k a b c first second = grind arith
 
 -- the locals with one more slot that is reserved, whatever was written for it
 abbrev pub with_slot : Locals → ℕ → List (ℕ × ℕ) → Locals
@@ -163,19 +131,11 @@ has_slot k j pending = ap (λ b. cond b true (k.owned j)) (same_number j)
 
 pub had_slot : (k : Locals) (j i : ℕ) (pending : List (ℕ × ℕ)) → k.owned i ≡ true
     → (with_slot k j pending).owned i ≡ true
-had_slot k j i pending mine = by_test (i == j)
-  where
-    by_test : (b : Bool) → cond b true (k.owned i) ≡ true
-    by_test true = refl
-    by_test false = mine
+had_slot k j i pending mine = grind arith
 
 new_slot : (k : Locals) (j i : ℕ) (pending : List (ℕ × ℕ)) → (with_slot k j pending).owned i ≡ true
     → k.owned i ≡ false → i ≡ j
-new_slot k j i pending mine wasnt = by_test (i == j) refl mine
-  where
-    by_test : (b : Bool) → (i == j) ≡ b → cond b true (k.owned i) ≡ true → i ≡ j
-    by_test true e m = same_of i j e
-    by_test false e m = absurd (never wasnt m)
+new_slot k j i pending mine wasnt = grind (arith, same_of, never)
 
 -- the value of a free slot is stored, and the slot reserved
 reserve_right : (h : Header) (s : Situation) (k : Locals) (shown : Memory) (j value : ℕ)
@@ -202,12 +162,7 @@ reserve_right h s k shown j value later out low held free rest =
     invalid_zero n e f = omega (arith, e, f)
 
     filled : Locals
-    filled = record {
-      owned = k.owned;
-      pending = (2 * j + 1, value) ∷ k.pending;
-      called = k.called;
-      answered = k.answered;
-    }
+    filled = record k { pending = (2 * j + 1, value) ∷ k.pending }
 
     second : (now : Memory) → Rely (multiset h) s filled (with_cell shown (2 * j + 1) value) now
         → DoesRight (multiset h) s filled now (perform (Store (2 * j) 1) later)
@@ -217,10 +172,10 @@ reserve_right h s k shown j value later out low held free rest =
         (λ one. absurd (zero_one (now (2 * j)) here one))
         (λ i mine was one. other_cell now (2 * j) 1 (2 * i) (λ e.
         let same : i ≡ j = omega (arith, e) in
-        zero_one (now (2 * j)) here (subst (λ x. now (2 * x) ≡ 1) same one)) ∙ one)
+        zero_one (now (2 * j)) here (rw (← same) one)) ∙ one)
         (λ i mine wasnt.
         let same : i ≡ j = new_slot k j i pending mine wasnt in
-        subst (λ x. (now (2 * x) ≡ 0) × (with_cell now (2 * j) 1 (2 * x) ≡ 1)) (sym same)
+        rw same
         (here, changed_cell now (2 * j) 1))
         (λ state m. left_invalid h now (with_cell now (2 * j) 1) state j m low
         (λ cell not_state not_value. other_cell now (2 * j) 1 cell not_state)
@@ -238,12 +193,10 @@ reserve_right h s k shown j value later out low held free rest =
         pending = (2 * j, 1) ∷ (2 * j + 1, value) ∷ k.pending
 
         here : now (2 * j) ≡ 0
-        here = rely.held (2 * j) (state_access h s j low held) ∙ other_cell shown (2 * j + 1) value
-            (2 * j) (λ e. omega (arith, e)) ∙ free
+        here = search (state_access, held, other_cell, shown, free, arith)
 
         has : now (2 * j + 1) ≡ value
-        has = rely.held (2 * j + 1) (value_access h s j low held)
-            ∙ changed_cell shown (2 * j + 1) value
+        has = search (value_access, held, changed_cell, shown, arith)
 
         kept : (last : Memory) → Rely (multiset h) s (with_slot k j pending)
             (with_cell now (2 * j) 1) last
@@ -251,7 +204,7 @@ reserve_right h s k shown j value later out low held free rest =
             × (last (2 * i + 1) ≡ shown (2 * i + 1))
         kept last rely' i mine one =
             let apart : i ≢ j = λ same. zero_one (shown (2 * j)) free
-            (subst (λ x. shown (2 * x) ≡ 1) same one) in
+            (rw (← same) one) in
             let after = rely'.owned i (had_slot k j i pending mine) in
             let before = rely.owned i mine in (
               after.0 ∙ other_cell now (2 * j) 1 (2 * i) (λ e. apart (omega (arith, e))) ∙ before.0
@@ -267,10 +220,7 @@ pub record AreHeld (h : Header) (s : Situation) (slot left : ℕ) : Type 0 where
 
 held_next : (h : Header) (s : Situation) (slot left : ℕ) → AreHeld h s slot (suc left)
     → AreHeld h s (slot + 1) left
-held_next h s slot left each = record {
-  low = λ j from to. each.low j (omega (arith, from)) (omega (arith, to));
-  held = λ j from to. each.held j (omega (arith, from)) (omega (arith, to));
-}
+held_next h s slot left each = grind arith
 
 -- a free slot is found among these and reserved, or there is none
 pub find_from_right : (h : Header) (s : Situation) (k : Locals) (shown : Memory)
@@ -325,25 +275,13 @@ pub give_last : (h : Header) (k : Locals) (shown : Memory) (bucket : ℕ) (commi
     → DoesRight (multiset h) (at (lock_of h bucket ∷ []) committed false called) k shown
     (unlock h bucket later)
 give_last h k shown bucket committed called later rest =
-    give_right h (at (lock_of h bucket ∷ []) committed false called) k shown bucket later refl
-    (λ now rely. subst
-    (λ locks. DoesRight (multiset h) (at locks committed false called) k now later)
-    (sym (gone (lock_of h bucket) []))
-    (rest now (keeps_rely h (after_act (at (lock_of h bucket ∷ []) committed false called)
-    (Give (lock_of h bucket))) k shown now rely)))
+    search (shown, give_right, lock_of, gone, keeps_rely, arith)
 
 -- the slots of a bucket
 pub bucket_slots : (h : Header) (bucket : ℕ) (committed in_block : Bool) (called : Called)
     (locks : List ℕ) → bucket < h.size
     → AreHeld h (at (lock_of h bucket ∷ locks) committed in_block called) (4 * bucket) 4
-bucket_slots h bucket committed in_block called locks low = record {
-  low = λ j from to. omega (arith, from, to, low);
-  held = λ j from to.
-      let e : bucket ≡ j / 4 = omega (arith, from, to) in
-      subst (λ b. holds (at (lock_of h bucket ∷ locks) committed in_block called) (lock_of h b)
-      ≡ true) e
-      (holds_first (lock_of h bucket) locks committed in_block called);
-}
+bucket_slots h bucket committed in_block called locks low = grind arith
 
 pub find_right : (h : Header) (k : Locals) (shown : Memory) (value : ℕ) (called : Called)
     (found : Option ℕ → Script) → bucket_of h value < h.size
@@ -407,8 +345,7 @@ pub search_from_right : (h : Header) (s : Situation) (k : Locals) (shown : Memor
     → DoesRight (multiset h) s k now (ended None))
     → DoesRight (multiset h) s k shown (search_from left slot value ended)
 search_from_right h s k shown zero slot value ended out each some none =
-    none shown (rely_same (multiset h) s k shown)
-    (λ j from to valid has. absurd (omega (arith, from, to)))
+    search (shown, rely_same, arith)
 search_from_right h s k shown (suc left) slot value ended out each some none =
     load_right (multiset h) s k shown (2 * slot)
     (λ state. cond (state == 2)
@@ -421,12 +358,10 @@ search_from_right h s k shown (suc left) slot value ended out each some none =
     (shown (2 * slot) == 2) refl)
   where
     state_held : Access (multiset h) s (2 * slot)
-    state_held = state_access h s slot (each.low slot (omega arith) (omega arith))
-        (each.held slot (omega arith) (omega arith))
+    state_held = search (state_access, arith)
 
     value_held : Access (multiset h) s (2 * slot + 1)
-    value_held = value_access h s slot (each.low slot (omega arith) (omega arith))
-        (each.held slot (omega arith) (omega arith))
+    value_held = search (value_access, arith)
 
     later : (then_ : Memory) → Rely (multiset h) s k shown then_
         → (shown (2 * slot) ≡ 2 → then_ (2 * slot + 1) ≡ value → ⊥)
@@ -445,8 +380,8 @@ search_from_right h s k shown (suc left) slot value ended out each some none =
             → (b : Bool) → (j == slot) ≡ b → ⊥
         by_place now rely' more j from to valid has true e =
             let same : j ≡ slot = same_of j slot e in
-            let valid_here : now (2 * slot) ≡ 2 = subst (λ x. now (2 * x) ≡ 2) same valid in
-            let has_here : now (2 * slot + 1) ≡ value = subst (λ x. now (2 * x + 1) ≡ value) same
+            let valid_here : now (2 * slot) ≡ 2 = rw (← same) valid in
+            let has_here : now (2 * slot + 1) ≡ value = rw (← same)
             has in
             here (sym (rely'.held (2 * slot) state_held ∙ rely.held (2 * slot) state_held)
             ∙ valid_here)

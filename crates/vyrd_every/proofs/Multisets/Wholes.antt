@@ -1,9 +1,8 @@
 -- Each procedure of the correct multiset does right.
-use Rattle.std.proofs.Common.{◌≡◌, ℕ, ◌+◌, ◌-◌, ◌*◌, ◌/◌, ◌<◌, ◌≤◌, ◌⊎◌, inl, inr, Bool, true}
+use Rattle.std.proofs.Common.{◌≡◌, ℕ, ◌+◌, ◌-◌, ◌*◌, ◌/◌, ◌<◌, ◌≤◌, ◌⊎◌, Bool, true}
 use Rattle.std.proofs.Common.{false, cond, not, List, [], ◌∷◌, Option, Some, None, min, max, refl}
 use Rattle.std.proofs.Common.{ap, ◌∙◌, sym, subst, arith}
-use Rattle.std.specs.Prelude.{nat_le, ◌==◌, ◌||◌, if◌then◌else◌}
-use Rattle.std.specs.Bool.{then_some}
+use Rattle.std.specs.Prelude.{◌==◌, ◌||◌}
 use Rattle.std.proofs.lemmas.Bool.Decides.{nat_tests}
 use Rattle.vyrd_base.specs.declared.header.Header.{Header}
 use Rattle.vyrd_base.specs.declared.subject.Subject.TheVariants.{Multiset}
@@ -19,7 +18,7 @@ use Rattle.vyrd_base.specs.Callers.{Called}
 use Rattle.vyrd_base.specs.Subjects.{is_observer, subject_of}
 use Rattle.vyrd_base.specs.Amounts.{Amounts, amount_of, with_amount, plus_amount}
 use Rattle.vyrd_base.specs.Specification.{answer_in}
-use Rattle.vyrd_base.proofs.TestLaws.{at_most_of, above_of, same_of, same_number, isnt_same}
+use Rattle.vyrd_base.proofs.TestLaws.{at_most_of, above_of, same_of, isnt_same}
 use Rattle.vyrd_base.proofs.TestLaws.{apart_of}
 use Rattle.vyrd_memory.specs.declared.op.Op.{Op}
 use Rattle.vyrd_memory.specs.declared.op.Variant.TheVariants.{Correct}
@@ -56,9 +55,7 @@ unlock_one : (h : Header) (k : Locals) (shown : Memory) (called : Called) (bucke
     → DoesRight (multiset h) (at (lock_of h bucket ∷ []) true false called) k shown
     (unlock h bucket (returns 1))
 unlock_one h k shown called bucket none is mutator =
-    give_last h k shown bucket true called (returns 1)
-    (λ now keeps. returns_right (multiset h) k now true called 1 none
-    (mutates k called 1 is mutator))
+    search (shown, give_last, returns_right, mutates, arith)
 
 unlock_two : (h : Header) (k : Locals) (shown : Memory) (called : Called) (first second : ℕ)
     → (lock_of h first == lock_of h second) ≡ false
@@ -68,10 +65,8 @@ unlock_two : (h : Header) (k : Locals) (shown : Memory) (called : Called) (first
 unlock_two h k shown called first second apart none is mutator =
     give_right h (at (lock_of h second ∷ lock_of h first ∷ []) true false called) k shown second
     (unlock h first (returns 1)) refl
-    (λ now rely. subst (λ locks. DoesRight (multiset h) (at locks true false called) k now
-    (unlock h first (returns 1)))
-    (sym (gone (lock_of h second) (lock_of h first ∷ [])
-    ∙ ap (λ b. cond (not b) (lock_of h first ∷ []) []) apart))
+    (λ now rely. rw (gone (lock_of h second) (lock_of h first ∷ []) ∙ ap (λ b. cond (not b) (lock_of
+    h first ∷ []) []) apart)
     (unlock_one h k now called first none is mutator))
 
 -- both slots become valid under the locks of their buckets, of which the lower one is locked first
@@ -94,55 +89,25 @@ commit_both_right h k shown args first second slot_x slot_y r is order of_x of_y
 
     held_one : (slot : ℕ) → (first == second) ≡ true → (slot / 4 ≡ first) ⊎ (slot / 4 ≡ second)
         → slot / 4 ≡ first
-    held_one slot e (inl f) = f
-    held_one slot e (inr f) = f ∙ sym (same_of first second e)
+    held_one slot e e2 = search (same_of, arith)
 
     in_one : (slot : ℕ) → slot < 4 * h.size → slot / 4 ≡ first
         → Access (multiset h) (at (lock_of h first ∷ []) false true (pair_of args)) (2 * slot)
-    in_one slot low of =
-        state_access h (at (lock_of h first ∷ []) false true (pair_of args)) slot low
-        (subst (λ b. holds (at (lock_of h first ∷ []) false true (pair_of args)) (lock_of h b)
-        ≡ true) (sym of)
-        (holds_first (lock_of h first) [] false true (pair_of args)))
-
-    holds_either : (slot : ℕ) → (slot / 4 ≡ first) ⊎ (slot / 4 ≡ second)
-        → holds (at (lock_of h second ∷ lock_of h first ∷ []) false true (pair_of args))
-        (lock_of h (slot / 4)) ≡ true
-    holds_either slot (inl of) =
-        subst (λ b. holds (at (lock_of h second ∷ lock_of h first ∷ []) false true (pair_of args))
-        (lock_of h b) ≡ true) (sym of)
-        (ap (λ b. (lock_of h second == lock_of h first) || (b || false))
-        (same_number (lock_of h first)) ∙ or_true (lock_of h second == lock_of h first))
-      where
-        or_true : (b : Bool) → (b || true) ≡ true
-        or_true true = refl
-        or_true false = refl
-    holds_either slot (inr of) =
-        subst (λ b. holds (at (lock_of h second ∷ lock_of h first ∷ []) false true (pair_of args))
-        (lock_of h b) ≡ true) (sym of)
-        (holds_first (lock_of h second) (lock_of h first ∷ []) false true (pair_of args))
+    in_one slot low of = search (state_access, lock_of, holds_first, arith)
 
     in_two : (slot : ℕ) → slot < 4 * h.size → (slot / 4 ≡ first) ⊎ (slot / 4 ≡ second)
         → Access (multiset h)
         (at (lock_of h second ∷ lock_of h first ∷ []) false true (pair_of args)) (2 * slot)
-    in_two slot low of =
-        state_access h (at (lock_of h second ∷ lock_of h first ∷ []) false true (pair_of args)) slot
-        low (holds_either slot of)
+    in_two slot low of = search (state_access, lock_of, arith)
 
     returns_one : (b : Bool) → (first == second) ≡ b
         → WillReturn 1
         (cond b (unlock h first (returns 1)) (unlock h second (unlock h first (returns 1))))
-    returns_one true e = λ answer is'. refl
-    returns_one false e = λ answer is' answer' is''. refl
-
-    higher : (first == second) ≡ false → lock_of h first < lock_of h second
-    higher e = let apart = apart_of first second e in omega (arith, apart, order)
+    returns_one b e = search arith
 
     above_first : (first == second) ≡ false → (held : ℕ) → (b : Bool) → (lock_of h first == held)
         ≡ b → (b || false) ≡ true → held < lock_of h second
-    above_first e held true f g = subst (λ x. x < lock_of h second)
-        (same_of (lock_of h first) held f) (higher e)
-    above_first e held false f g = cc
+    above_first e held b f g = search (held, lock_of, same_of, arith)
 
     by_test : (now : Memory) → AreReserved h k now args slot_x slot_y → (b : Bool)
         → (first == second) ≡ b
@@ -236,30 +201,11 @@ pair_found_right h k shown args slot_x slot_y r is =
     lesser : (n p q : ℕ) → n ≡ p → p ≤ q → n ≡ min p q
     lesser n p q e f = omega (arith, e, f)
 
-    greater : (n p q : ℕ) → n ≡ p → q ≤ p → n ≡ max p q
-    greater n p q e f = omega (arith, e, f)
-
-    lesser_too : (n p q : ℕ) → n ≡ q → q ≤ p → n ≡ min p q
-    lesser_too n p q e f = omega (arith, e, f)
-
-    greater_too : (n p q : ℕ) → n ≡ q → p ≤ q → n ≡ max p q
-    greater_too n p q e f = omega (arith, e, f)
-
     either_x : (n p q : ℕ) → n ≡ p → (n ≡ min p q) ⊎ (n ≡ max p q)
-    either_x n p q e = by_order (nat_le p q) refl
-      where
-        by_order : (b : Bool) → nat_le p q ≡ b → (n ≡ min p q) ⊎ (n ≡ max p q)
-        by_order true f = inl (lesser n p q e (at_most_of p q f))
-        by_order false f = let low : q < p = above_of p q f in
-            inr (greater n p q e (omega (arith, low)))
+    either_x n p q e = search (lesser, at_most_of, above_of, arith)
 
     either_y : (n p q : ℕ) → n ≡ q → (n ≡ min p q) ⊎ (n ≡ max p q)
-    either_y n p q e = by_order (nat_le p q) refl
-      where
-        by_order : (b : Bool) → nat_le p q ≡ b → (n ≡ min p q) ⊎ (n ≡ max p q)
-        by_order true f = inr (greater_too n p q e (at_most_of p q f))
-        by_order false f = let low : q < p = above_of p q f in
-            inl (lesser_too n p q e (omega (arith, low)))
+    either_y n p q e = search (at_most_of, above_of, arith)
 
 insert_pair_right : (h : Header) → h.subject ≡ Multiset → (k : Locals) (shown : Memory)
     (args : Args) → ((i : ℕ) → k.owned i ≡ false) → k.called ≡ Some (pair_of args)
@@ -338,8 +284,7 @@ delete_right h ours k shown args none is =
     let some : 1 ≤ amount_of before args.a =
     is_there h last before j args.a m low (same_state ∙ valid) (same_value ∙ has) in (
       with_amount before args.a (amount_of before args.a - 1),
-      ap (λ b. then_some b (with_amount before args.a (amount_of before args.a - 1)))
-          (is_there_test (amount_of before args.a) some),
+      cc (is_there_test (amount_of before args.a) some),
       made_free h last (with_cell last (2 * j) 0) before j args.a m low
           (λ cell not_state not_value. other_cell last (2 * j) 0 cell not_state)
           (same_state ∙ valid) (same_value ∙ has)
@@ -367,9 +312,8 @@ delete_right h ours k shown args none is =
           reply = 0;
           returns = λ answer is'. refl;
           next = before;
-          allowed = ap (λ b. then_some (not b) before)
-              (isnt_there_test (amount_of before args.a)
-              (isnt_there h now before args.a m nowhere));
+          allowed = cc (isnt_there_test (amount_of before args.a) (isnt_there h now before args.a m
+              nowhere));
           means = m;
         })
         (λ then_ rely. give_last h k then_ (bucket_of h args.a) true called (returns 0)
@@ -386,11 +330,9 @@ lookup_right : (h : Header) → h.subject ≡ Multiset → (k : Locals) (shown :
 lookup_right h ours k shown args none is =
     search_right h ours k shown called args.a (looked_up h args.a)
     (λ j low of now valid has. sees now 1 (λ state m.
-    ap (λ b. if b then 1 else 0)
-    (is_there_test (amount_of state args.a) (is_there h now state j args.a m low valid has))))
+    cc (is_there_test (amount_of state args.a) (is_there h now state j args.a m low valid has))))
     (λ now nowhere. sees now 0 (λ state m.
-    ap (λ b. if b then 1 else 0)
-    (isnt_there_test (amount_of state args.a) (isnt_there h now state args.a m nowhere))))
+    cc (isnt_there_test (amount_of state args.a) (isnt_there h now state args.a m nowhere))))
   where
     called : Called
     called = record { method = OfMultiset Lookup; args = args }
@@ -400,8 +342,7 @@ lookup_right h ours k shown args none is =
         ≡ reply)
         → DoesRight (multiset h) (at (lock_of h (bucket_of h args.a) ∷ []) false false called) k now
         (unlock h (bucket_of h args.a) (returns reply))
-    sees now reply seen = answer_right (multiset h) k now (lock_of h (bucket_of h args.a)) called
-        reply none is seen
+    sees now reply seen = search (answer_right, lock_of, arith)
 
 -- the procedure of each operation
 procedure_right : (h : Header) → h.subject ≡ Multiset → (k : Locals) (shown : Memory)

@@ -92,14 +92,7 @@ ended_right h args k g m tree unseen is = (
 )
   where
     over : TreeLocals
-    over = record {
-      fresh = None;
-      hanging = None;
-      pending = k.pending;
-      out = k.out;
-      called = None;
-      answered = None;
-    }
+    over = record k { fresh = None; hanging = None; called = None; answered = None }
 
     c : Changeless h (holding [] (OfTree Insert) true false) k g m
     c = changeless h (holding [] (OfTree Insert) true false) k g m unseen
@@ -253,9 +246,6 @@ room_right h args k g m level key node n ab room = with_place place.0 place.1 pl
         (tree_rely_more h s k g b c m y z r
         (rely_with h (lock_of h n ∷ []) (OfTree Insert) true true false k [] b c y z r'))))))
       where
-        new : Entries
-        new = front ++ (key, node) ∷ back
-
         ws : List (ℕ × ℕ)
         ws = node_writes n front ((key, node) ∷ back)
 

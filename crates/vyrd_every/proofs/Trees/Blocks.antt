@@ -16,7 +16,7 @@ use Rattle.vyrd_memory.specs.Soundness.{Situation, holds}
 use Rattle.vyrd_tree.specs.Cells.{root_cell, lock_of}
 use Rattle.vyrd_tree.specs.Procedures.Split.{write_entries}
 use Rattle.vyrd_tree.specs.Laws.Sound.Acts.{holding}
-use Rattle.vyrd_tree.specs.Contents.{level_at, count_at, bound_at, key_at, value_at, last_in}
+use Rattle.vyrd_tree.specs.Contents.{level_at, count_at, bound_at, last_in}
 use Rattle.vyrd_tree.specs.Contents.{root_in, entries_at, entries_from, Entries}
 use Rattle.vyrd_tree.specs.Laws.Alone.EntriesStaySound.{length_join}
 use Rattle.vyrd_tree.specs.Laws.Alone.Changes.{entries_alike, Rewritten, apart_or}
@@ -24,7 +24,6 @@ use Rattle.vyrd_tree.specs.Laws.Alone.Played.{Written, front_stands}
 use Rattle.vyrd_every.proofs.Acts.{never}
 use Rattle.vyrd_every.specs.Locals.{written}
 use Rattle.vyrd_every.specs.Trees.Shapes.{Shape, HasEntries, IsLinked, Hangs}
-use Rattle.vyrd_every.specs.Trees.States.{ShowsState}
 use Rattle.vyrd_every.specs.Trees.Others.{Grows}
 use Rattle.vyrd_every.specs.Trees.Locals.{TreeLocals}
 use Rattle.vyrd_every.specs.Trees.Others.{TreeRely, TreeLeaves}
@@ -48,11 +47,7 @@ with_pending k ws = record {
 
 pub unseen_with : (h : Header) (k : TreeLocals) (ws : List (ℕ × ℕ)) (g : Shape) (m : Memory)
     → OwnsUnseen h k g m → OwnsUnseen h (with_pending k ws) g m
-unseen_with h k ws g m unseen = record {
-  fresh = unseen.fresh;
-  hanging = unseen.hanging;
-  quiet = refl;
-}
+unseen_with h k ws g m unseen = grind (arith, unseen.fresh, unseen.hanging)
 
 -- what is relied upon doesn't depend on the writes, nor on whether a block is open
 pub rely_with : (h : Header) (locks : List ℕ) (method : Method) (committed a b : Bool)
@@ -145,21 +140,20 @@ store_in_node h method committed k g m n place value ws later tree at high low s
             );
           }),
         );
-        grows = subst (λ x. Grows g' m' g' x) (sym same) c.grows;
-        leaves = subst (λ x. TreeLeaves h inside (with_pending k ws) g' m' g' x)
-            (sym same) c.leaves;
+        grows = rw same c.grows;
+        leaves = rw same c.leaves;
         tree = subst (IsLinked h.size g') (sym same) rely.tree;
-        top = λ quiet is quiet'. subst (λ x. g'.top ≡ level_at x (root_in h.size x)) (sym same) is;
+        top = λ quiet is quiet'. rw same is;
         closed = λ out quiet. cc;
         alone = λ out. cc;
         ahead = λ quiet out. cc;
         wrote = λ quiet out. cc;
         within = λ inside goes same. (refl, refl);
         taken = λ x mine. let t = c.taken x mine in
-            (t.0, subst (λ y. x ≤ last_in h.size y) (sym same) t.1, t.2);
+            (t.0, rw same t.1, t.2);
         hung = λ x mine. let t = c.hung x mine in
-            (t.0, subst (λ y. Hangs g' y x) (sym same) t.1, t.2);
-        leads = λ state shows. subst (λ x. ShowsState g' x state) (sym same) shows;
+            (t.0, rw same t.1, t.2);
+        leads = λ state shows. rw same shows;
         pending = refl;
         out = sym not_root;
         called = refl;
@@ -169,9 +163,7 @@ store_in_node h method committed k g m n place value ws later tree at high low s
           (rely_with h (lock_of h n ∷ []) method committed true false k
           ((12 * n + place, value) ∷ ws)
           g' g'' m' m''
-          (subst (λ x. TreeRely h inside (with_pending k ((12 * n + place, value) ∷ ws)) g' x g''
-          m'')
-          same rely'))),
+          (rw (← same) rely'))),
     )
   where
     s : Situation
@@ -184,12 +176,10 @@ store_in_node h method committed k g m n place value ws later tree at high low s
     linked' = rely.grows.linked n at.linked
 
     c : Changeless h inside (with_pending k ws) g' m'
-    c = changeless h inside (with_pending k ws) g' m'
-        (unseen_with h k ws g' m' (unseen_stays h s k g m g' m' at.unseen rely))
+    c = search (changeless, unseen_with, unseen_stays, arith)
 
     not_root : (12 * n + place == root_cell h) ≡ false
-    not_root = isnt_same (12 * n + place) (root_cell h)
-        (λ e. (let lt = linked_low h.size g m tree n at.linked in omega (arith, low, e)))
+    not_root = search (isnt_same, linked_low, arith)
 
     same : cond (12 * n + place == root_cell h) (written ((12 * n + place, value) ∷ ws) m') m' ≡ m'
     same = ap (λ b. cond b (written ((12 * n + place, value) ∷ ws) m') m') not_root
@@ -242,29 +232,8 @@ entries_stand m n place ((key, value) ∷ xs) ws fits =
         (entry_writes n (place + 1) xs ((12 * n + (8 + place), value) ∷ (12 * n + (4 + place), key)
         ∷ ws)) m
 
-    cons_same : (a b a' b' : ℕ) (xs ys : Entries) → a' ≡ a → b' ≡ b → xs ≡ ys → (a', b') ∷ xs
-        ≡ (a, b) ∷ ys
-    cons_same a b a' b' xs ys e f g = ap (λ x. (x, b') ∷ xs) e ∙ ap (λ y. (a, y) ∷ xs) f
-        ∙ ap (λ zs. (a, b) ∷ zs) g
-
     joined : Written m₂ end n (place + 1) xs → Written m₀ end n place ((key, value) ∷ xs)
-    joined w = record {
-      stand = cons_same key value (key_at end n place) (value_at end n place)
-          (entries_from end n (place + 1) (length xs)) xs
-          (w.others (12 * n + (4 + place))
-          (λ j from to. (omega (arith, from, to), omega (arith, from, to, fits)))
-          ∙ other_cell m₁ (12 * n + (8 + place)) value (12 * n + (4 + place)) (omega arith)
-          ∙ changed_cell m₀ (12 * n + (4 + place)) key)
-          (w.others (12 * n + (8 + place))
-          (λ j from to. (omega (arith, from, to, fits), omega (arith, from, to)))
-          ∙ changed_cell m₁ (12 * n + (8 + place)) value)
-          w.stand;
-      others = λ cell off. w.others cell
-          (λ j from to. off j (omega (arith, from)) (omega (arith, to)))
-          ∙ other_cell m₁ (12 * n + (8 + place)) value cell
-          (off place (omega arith) (omega arith)).1
-          ∙ other_cell m₀ (12 * n + (4 + place)) key cell (off place (omega arith) (omega arith)).0;
-    }
+    joined w = search (fits, other_cell, changed_cell, arith)
 
 -- all writes of a block that gives a node other entries
 abbrev pub node_writes : ℕ → Entries → Entries → List (ℕ × ℕ)
@@ -305,13 +274,11 @@ node_rewritten size m n many front back xs fits before few = record {
     w = entries_stand m n (length front) xs [] (omega (arith, few, parts))
 
     not_count : (cell : ℕ) → (cell < 12 * n + 1) ⊎ (12 * n + 12 ≤ cell) → cell ≢ 12 * n + 1
-    not_count cell (inl lt) = omega (arith, lt)
-    not_count cell (inr le) = omega (arith, le)
+    not_count cell e1 = search arith
 
     not_entry : (cell : ℕ) → (cell < 12 * n + 1) ⊎ (12 * n + 12 ≤ cell) → (j : ℕ) → j < 4
         → (cell ≢ 12 * n + (4 + j)) × (cell ≢ 12 * n + (8 + j))
-    not_entry cell (inl lt) j low = (omega (arith, lt), omega (arith, lt))
-    not_entry cell (inr le) j low = (omega (arith, le, low), omega (arith, le, low))
+    not_entry cell e1 j low = search arith
 
 -- the node's words are as they were when its lock was taken
 pub entries_kept : (h : Header) (s : Situation) (k : TreeLocals) (g : Shape) (m : Memory) (n : ℕ)
@@ -369,5 +336,4 @@ rewrites h s k g m m' n xs tree unseen linked held r es off = record {
 
     apart : (a : ℕ) → holds s (lock_of h a) ≡ false → (a ≡ n) ⊎ ((a < n) ⊎ (n < a)) → (a < n)
         ⊎ (n < a)
-    apart a free (inl at) = absurd (never free (ap (λ x. holds s (lock_of h x)) at ∙ held))
-    apart a free (inr off) = off
+    apart a free e2 = search (free, never, lock_of, held, arith)

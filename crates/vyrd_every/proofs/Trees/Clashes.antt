@@ -33,8 +33,7 @@ one_place a i b j e low_i low_j = omega (arith, e, low_i, low_j)
 
 fresh_low : (h : Header) (k : TreeLocals) (g : Shape) (m : Memory) (n : ℕ) → IsLinked h.size g m
     → Owns h k g m → k.fresh ≡ Some n → n < h.size
-fresh_low h k g m n tree own mine = (let le = (own.fresh n mine).1 in let fits = tree.last_low in
-    omega (arith, le, fits))
+fresh_low h k g m n tree own mine = grind (arith, (own.fresh n mine).1, tree.last_low)
 
 -- the node of a word that a block may have written
 in_node_low : (h : Header) (s : Situation) (k : TreeLocals) (g : Shape) (m : Memory) (cell : ℕ)
@@ -54,21 +53,13 @@ pub not_the_root : (h : Header) (s : Situation) (k : TreeLocals) (g : Shape) (m 
     → IsLinked h.size g m → Owns h k g m
     → InNode h s k g m cell → cell ≡ root_cell h → ⊥
 not_the_root h s k g m cell tree own i at =
-    let low : i.node < h.size = in_node_low h s k g m cell tree own i in
-    let is : cell ≡ 12 * i.node + i.place = i.is in
-    let small : i.place < 12 = i.low in
-    let e : cell ≡ 12 * h.size = at in
-    omega (arith, low, is, small, e)
+    grind (arith, in_node_low h s k g m cell tree own i, i.is, i.low)
 
 not_the_count : (h : Header) (s : Situation) (k : TreeLocals) (g : Shape) (m : Memory) (cell : ℕ)
     → IsLinked h.size g m → Owns h k g m
     → InNode h s k g m cell → cell ≡ used_cell h → ⊥
 not_the_count h s k g m cell tree own i at =
-    let low : i.node < h.size = in_node_low h s k g m cell tree own i in
-    let is : cell ≡ 12 * i.node + i.place = i.is in
-    let small : i.place < 12 = i.low in
-    let e : cell ≡ 12 * h.size + 1 = at in
-    omega (arith, low, is, small, e)
+    grind (arith, in_node_low h s k g m cell tree own i, i.is, i.low)
 
 -- two words of nodes, the second in another caller's block
 two_nodes : (h : Header) (s its : Situation) (k other : TreeLocals) (g : Shape) (m : Memory)
@@ -86,12 +77,9 @@ two_nodes h s its k other g m cell two i j = by_may i.may j.may
 
     by_may : Mine s k i.node i.place → Mine its other j.node j.place → ⊥
     by_may (inl mine) (inl theirs) = two.apart.fresh j.node theirs (mine ∙ ap Some same)
-    by_may (inl mine) (inr linked) = never (two.own.fresh i.node mine).0
-        (ap g.linked same ∙ linked.0)
-    by_may (inr linked) (inl theirs) = never (two.its_own.fresh j.node theirs).0
-        (sym (ap g.linked same) ∙ linked.0)
-    by_may (inr mine) (inr theirs) = never (two.locks (lock_of h j.node) theirs.1)
-        (sym (ap (λ n. holds s (lock_of h n)) same) ∙ mine.1)
+    by_may (inl mine) (inr linked) = search (never, arith)
+    by_may (inr linked) (inl theirs) = search (never, arith)
+    by_may (inr mine) (inr theirs) = search (never, lock_of, arith)
 
 -- a word of the new root isn't in another caller's node
 new_root : (h : Header) (s its : Situation) (k other : TreeLocals) (g : Shape) (m : Memory)
@@ -99,19 +87,11 @@ new_root : (h : Header) (s its : Situation) (k other : TreeLocals) (g : Shape) (
     → InNode h s k g m cell → IsWordOf (root_in h.size m) cell → ⊥
 new_root h s its k other g m cell two out i word = by_may i.may
   where
-    same : i.node ≡ root_in h.size m
-    same = one_node i.node i.place (root_in h.size m) word.place (sym i.is ∙ word.is) i.low word.low
-
     by_may : (k.fresh ≡ Some i.node)
         ⊎ ((g.linked i.node ≡ true) × (holds s (lock_of h i.node) ≡ true) × (i.place ≢ 0)
         × (level_at m i.node ≤ g.top)) → ⊥
-    by_may (inl mine) = never (two.own.fresh i.node mine).0
-        (ap g.linked same ∙ two.tree.root_linked)
-    by_may (inr linked) =
-        let high : level_at m i.node ≤ g.top = linked.3 in
-        let above : g.top < level_at m (root_in h.size m) = two.ahead out in
-        let at : level_at m i.node ≡ level_at m (root_in h.size m) = ap (level_at m) same in
-        omega (arith, high, above, at)
+    by_may (inl mine) = search (never, arith)
+    by_may (inr linked) = grind (arith, linked.3, two.ahead out)
 
 -- what a caller may store
 pub no_clash : (h : Header) (s its : Situation) (k other : TreeLocals) (g : Shape) (m : Memory)
@@ -125,27 +105,23 @@ no_clash h s its k other g m cell two (inl inside) hold = by_word inside.2 hold
     by_word (inl i) (inr out) = by_out out.1
       where
         by_out : (cell ≡ root_cell h) ⊎ IsWordOf (root_in h.size m) cell → ⊥
-        by_out (inl root) = not_the_root h s k g m cell two.tree two.own i root
-        by_out (inr word) = new_root h s its k other g m cell two out.0 i word
-    by_word (inr root) (inl quiet) = not_the_root h its other g m cell two.tree two.its_own quiet.1
-        root.0
+        by_out e0 = search (not_the_root, new_root, arith)
+    by_word (inr root) (inl quiet) = search (not_the_root, arith)
     by_word (inr root) (inr out) = never (two.locks (root_lock h) (two.its_root out.0)) root.1
-no_clash h s its k other g m cell two (inr outside) (inl quiet) = not_the_count h its other g m cell
-    two.tree two.its_own quiet.1 outside.1
+no_clash h s its k other g m cell two (inr outside) (inl quiet) = search (not_the_count, arith)
 no_clash h s its k other g m cell two (inr outside) (inr out) = by_out out.1
   where
     by_out : (cell ≡ root_cell h) ⊎ IsWordOf (root_in h.size m) cell → ⊥
-    by_out (inl root) =
-        let a : cell ≡ 12 * h.size + 1 = outside.1 in
-        let b : cell ≡ 12 * h.size = root in
-        omega (arith, a, b)
+    by_out (inl root) = grind (arith, outside.1)
     by_out (inr word) =
-        let a : cell ≡ 12 * h.size + 1 = outside.1 in
-        let b : cell ≡ 12 * root_in h.size m + word.place = word.is in
-        let small : word.place < 12 = word.low in
-        let low : root_in h.size m < h.size = linked_low h.size g m two.tree
-        (root_in h.size m) two.tree.root_linked in
-        omega (arith, a, b, small, low)
+        grind (
+          arith,
+          outside.1,
+          word.is,
+          word.low,
+          linked_low h.size g m two.tree (root_in h.size
+              m) two.tree.root_linked,
+        )
 
 -- what a caller may load, where the other's writes aren't seen yet
 pub no_clash_load : (h : Header) (s its : Situation) (k other : TreeLocals) (g : Shape) (m : Memory)
@@ -153,23 +129,12 @@ pub no_clash_load : (h : Header) (s its : Situation) (k other : TreeLocals) (g :
     → MayLoad h s g cell → InNode h its other g m cell → ⊥
 no_clash_load h s its k other g m cell two (inl of_node) j = by_may of_node.may j.may
   where
-    same : of_node.node ≡ j.node
-    same = one_node of_node.node of_node.place j.node j.place (sym of_node.is ∙ j.is) of_node.low
-        j.low
-
     by_may : (holds s (lock_of h of_node.node) ≡ true) ⊎ (of_node.place ≡ 0)
         → (other.fresh ≡ Some j.node)
         ⊎ ((g.linked j.node ≡ true) × (holds its (lock_of h j.node) ≡ true) × (j.place ≢ 0)
         × (level_at m j.node ≤ g.top)) → ⊥
-    by_may held (inl theirs) = never (two.its_own.fresh j.node theirs).0
-        (sym (ap g.linked same) ∙ of_node.linked)
-    by_may (inl held) (inr theirs) = never (two.locks (lock_of h j.node) theirs.1)
-        (sym (ap (λ n. holds s (lock_of h n)) same) ∙ held)
-    by_may (inr level) (inr theirs) =
-        theirs.2 (sym
-        (one_place of_node.node of_node.place j.node j.place (sym of_node.is ∙ j.is) of_node.low
-        j.low) ∙ level)
-no_clash_load h s its k other g m cell two (inr (inl root)) j = not_the_root h its other g m cell
-    two.tree two.its_own j root
-no_clash_load h s its k other g m cell two (inr (inr count)) j = not_the_count h its other g m cell
-    two.tree two.its_own j count.0
+    by_may held (inl theirs) = search (never, arith)
+    by_may (inl held) (inr theirs) = search (never, lock_of, held, arith)
+    by_may (inr level) (inr theirs) = search (one_place, arith)
+no_clash_load h s its k other g m cell two (inr (inl root)) j = search (not_the_root, arith)
+no_clash_load h s its k other g m cell two (inr (inr count)) j = search (not_the_count, arith)

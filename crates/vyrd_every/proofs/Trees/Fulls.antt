@@ -21,7 +21,6 @@ use Rattle.vyrd_memory.specs.Scripts.{Script, perform, returns}
 use Rattle.vyrd_memory.specs.Soundness.{Situation}
 use Rattle.vyrd_memory.proofs.AloneLaws.{isnt_there}
 use Rattle.vyrd_tree.specs.Cells.{lock_of, used_lock, unlock_node}
-use Rattle.vyrd_tree.specs.Procedures.Walk.{Arrived}
 use Rattle.vyrd_tree.specs.Procedures.Split.{with_entry, split, split_entry, split_key, lower_half}
 use Rattle.vyrd_tree.specs.Procedures.Split.{upper_half, first_key}
 use Rattle.vyrd_tree.specs.Procedures.Ascent.{ascend}
@@ -92,17 +91,14 @@ pub loaded_same : (h : Header) (s : Situation) (k : TreeLocals) (g : Shape) (m :
     (g' : Shape) (m' : Memory) → IsLinked h.size g m → AtNode h s k g m n
     → TreeRely h s k g m g' m' → loaded_at m' n ≡ loaded_at m n
 loaded_same h s k g m n g' m' tree at rely =
-    ap (λ l. put l (bound_at m' n) (right_at m' n) (entries_at m' n))
-    (rely.held n 0 at.linked at.held (omega arith))
-    ∙ ap (λ b. put (level_at m n) b (right_at m' n) (entries_at m' n))
-    (rely.held n 2 at.linked at.held (omega arith))
-    ∙ ap (λ r. put (level_at m n) (bound_at m n) r (entries_at m' n))
-    (rely.held n 3 at.linked at.held (omega arith))
-    ∙ ap (λ xs. put (level_at m n) (bound_at m n) (right_at m n) xs)
-    (entries_kept h s k g m n g' m' tree at rely)
-  where
-    put : ℕ → ℕ → ℕ → Entries → Arrived
-    put l b r xs = record { node = n; level = l; bound = b; right = r; entries = xs }
+    cc (
+      rely.held n 0 at.linked at.held (omega arith),
+      rely.held n 2 at.linked at.held (omega
+          arith),
+      rely.held n 3 at.linked at.held (omega arith),
+      entries_kept h s k g m n g' m' tree at
+          rely,
+    )
 
 pub full_right : (h : Header) (args : Args) (k : TreeLocals) (g : Shape) (m : Memory)
     → args.a < 2 ^ 32 → args.b < 2 ^ 32
@@ -220,8 +216,7 @@ full_right h args k g m small_key small bare ascent n a x begun at is full apart
             count_four = sym (length-entries y n 0 (count_at y n)) ∙ ap length same ∙ full
 
             five_long : length (front ++ (args.a, args.b) ∷ back) ≡ 5
-            five_long = (let p = length_join front ((args.a, args.b) ∷ back) in
-                omega (arith, p, four))
+            five_long = search (length_join, back, four, arith)
 
             lengths : (length (lower_half (front ++ (args.a, args.b) ∷ back)) ≡ 3)
                 × (length (upper_half (front ++ (args.a, args.b) ∷ back)) ≡ 2)
@@ -318,14 +313,15 @@ full_right h args k g m small_key small bare ascent n a x begun at is full apart
             )
               where
                 hung_locals : TreeLocals
-                hung_locals = record {
+                hung_locals = record k {
                   fresh = None;
                   hanging = Some u;
-                  pending = split_writes n u (level_at y n) (bound_at y n) (right_at y n)
-                      (length front) (front ++ (args.a, args.b) ∷ back);
+                  pending = split_writes n u
+                      (level_at y n) (bound_at y n) (right_at y n) (length front) (front ++ (
+                        args.a,
+                        args.b,
+                      ) ∷ back);
                   out = false;
-                  called = k.called;
-                  answered = k.answered;
                 }
 
                 end : Memory
@@ -391,8 +387,7 @@ full_right h args k g m small_key small bare ascent n a x begun at is full apart
                     (length front) (front ++ (args.a, args.b) ∷ back)) z)
                 unseen_after = record {
                   fresh = λ v mine. cc;
-                  hanging = λ v mine. subst (λ v. ((with_node c u key).linked v ≡ true)
-                      × Hangs (with_node c u key) end v) (some_same u v mine) w.hangs;
+                  hanging = λ v mine. rw (← some_same u v mine) w.hangs;
                   quiet = refl;
                 }
 

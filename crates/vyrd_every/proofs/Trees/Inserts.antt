@@ -129,8 +129,7 @@ insert_right h args k g m small_key small tree unseen bare full =
             ws = (12 * n + (8 + length front), args.b) ∷ []
 
             before : HasEntries a x (level_at x n) (a.low n) (bound_at x n) (front ++ entry ∷ back)
-            before = subst (HasEntries a x (level_at x n) (a.low n) (bound_at x n)) around.parts
-                (begun.tree.entries n at.linked)
+            before = grind (arith, around.parts, begun.tree.entries n at.linked)
 
             leaves : Each IsLeafEntry (entry ∷ back)
             leaves = each_back IsLeafEntry front (entry ∷ back) (before.leaf leaf)
@@ -147,10 +146,13 @@ insert_right h args k g m small_key small tree unseen bare full =
 
             place : length front < 4
             place =
-                let p = length_join front (entry ∷ back) in
-                let len : length (front ++ entry ∷ back) ≡ count_at x n =
-                sym (ap length around.parts) ∙ length-entries x n 0 (count_at x n) in
-                omega (arith, p, len, few)
+                grind (
+                  arith,
+                  length_join front (entry ∷ back),
+                  around.parts,
+                  length-entries x n 0
+                      (count_at x n),
+                )
 
             rewritten : (b : Shape) (y : Memory) → TreeRely h s k a x b y
                 → Rewritten h.size y (with_cell y (12 * n + (8 + length front)) args.b) n
@@ -181,8 +183,7 @@ insert_right h args k g m small_key small tree unseen bare full =
 
                 count_end : count_at (with_cell y (12 * n + (8 + length front)) args.b) n
                     ≡ count_at y n
-                count_end = other_cell y (12 * n + (8 + length front)) args.b (12 * n + 1)
-                    (omega arith)
+                count_end = grind (arith, other_cell)
 
             right : (b : Shape) (y : Memory) → TreeRely h s k a x b y
                 → HasEntries b y (level_at y n) (b.low n) (bound_at y n)
@@ -270,11 +271,7 @@ insert_right h args k g m small_key small tree unseen bare full =
                 (done 1 (node_writes n front ((args.a, args.b) ∷ back)))))
               where
                 one_more : length (front ++ (args.a, args.b) ∷ back) ≤ 4
-                one_more =
-                    let p = length_join front ((args.a, args.b) ∷ back) in
-                    let q = length_join front back in
-                    let e = ap length parts.parts in
-                    omega (arith, p, q, e, less)
+                one_more = grind (arith, length_join, back)
 
                 right : (b : Shape) (y : Memory) → TreeRely h s k a x b y
                     → HasEntries b y (level_at y n) (b.low n) (bound_at y n)
@@ -324,12 +321,14 @@ insert_right h args k g m small_key small tree unseen bare full =
 
                     gives_it : gives args.a (front ++ (args.a, args.b) ∷ back) ≡ 2 ^ 32 + args.b
                     gives_it =
-                        let around = gives_around args.a front back (args.a, args.b) in
-                        let it = entry_gives_it args.a (args.a, args.b) new_leaf refl in
-                        let nothing = gives_none args.a (entries_at x n)
-                        ((begun.tree.entries n at.linked).leaf leaf) apart in
-                        let p = ap (gives args.a) parts.parts in
-                        omega (arith, around, it, nothing, p)
+                        grind (
+                          arith,
+                          gives_around args.a front back (args.a, args.b),
+                          entry_gives_it args.a (args.a, args.b) new_leaf refl,
+                          gives_none args.a
+                              (entries_at x n) ((begun.tree.entries n at.linked).leaf leaf) apart,
+                          parts.parts,
+                        )
 
                     gives_others : (q : ℕ) → q ≢ args.a → gives q (front ++ (args.a, args.b) ∷ back)
                         ≡ gives q (entries_at y n)
@@ -356,10 +355,7 @@ insert_right h args k g m small_key small tree unseen bare full =
         by_place : (o : Option ℕ) → place_of args.a (entries_at x n) ≡ o
             → Onward h s k a x
             (insert_in h Correct args.a args.b (loaded_at x n) (place_of args.a (entries_at x n)))
-        by_place None e =
-            subst (λ o. Onward h s k a x (insert_in h Correct args.a args.b (loaded_at x n) o))
-            (sym e)
-            (added (not_found args.a (entries_at x n) e))
+        by_place None e = grind (arith, added (not_found args.a (entries_at x n) e))
         by_place (Some i) e =
             let found = found_around args.a (entries_at x n) i e in
             subst (λ o. Onward h s k a x (insert_in h Correct args.a args.b (loaded_at x n) o))

@@ -1,5 +1,5 @@
 -- The linked nodes after one of them has other entries.
-use Rattle.std.proofs.Common.{◌≡◌, ◌≢◌, ℕ, ◌+◌, ◌*◌, ◌<◌, ◌≤◌, ◌⊎◌, inl, inr, Bool, true, false}
+use Rattle.std.proofs.Common.{◌≡◌, ◌≢◌, ℕ, ◌+◌, ◌*◌, ◌<◌, ◌≤◌, ◌⊎◌, inl, inr, Bool, true}
 use Rattle.std.proofs.Common.{cond, refl, ap, ◌∙◌, sym, subst, arith}
 use Rattle.std.specs.List.{AllByRecursion}
 use Rattle.vyrd_base.specs.Amounts.{Amounts, IsAmounts, amount_of}
@@ -42,11 +42,7 @@ code size g m above from bound xs fits es = record {
 pub code_child : (size : ℕ) (g : Shape) (m : Memory) (above : ℕ) (entry : ℕ × ℕ)
     → ((n : ℕ) → g.linked n ≡ true → n < size)
     → LeadsDown g m above entry → IsChild size (coded g m above) g.low above entry
-code_child size g m above entry fits c = record {
-  in_use = (let lt = fits entry.1 c.linked in omega arith);
-  lower = ap (λ b. cond b (level_at m entry.1) above + 1) c.linked ∙ c.lower;
-  key_is = c.key_is;
-}
+code_child size g m above entry fits c = grind (arith, c.linked, c.lower, c.key_is)
 
 uncode_child : (size : ℕ) (g : Shape) (m : Memory) (above : ℕ) (entry : ℕ × ℕ)
     → IsChild size (coded g m above) g.low above entry → LeadsDown g m above entry
@@ -54,8 +50,7 @@ uncode_child size g m above entry c = by_linked (g.linked entry.1) refl c.lower
   where
     by_linked : (b : Bool) → g.linked entry.1 ≡ b → cond b (level_at m entry.1) above + 1 ≡ above
         → LeadsDown g m above entry
-    by_linked true e lower = record { linked = e; lower = lower; key_is = c.key_is }
-    by_linked false e lower = absurd (omega (arith, lower))
+    by_linked b e lower = search (lower, arith)
 
 pub uncode : (size : ℕ) (g : Shape) (m : Memory) (above from bound : ℕ) (xs : Entries)
     → AreEntries size (coded g m above) g.low above from bound xs
@@ -99,8 +94,7 @@ linked_low size g m t n linked = (let le = t.taken n linked in let lt = t.last_l
 pub other_word : (size : ℕ) (m m' : Memory) (n : ℕ) (xs : Entries) → Rewritten size m m' n xs
     → (a i : ℕ) → a < size → i < 12 → (a < n) ⊎ (n < a)
     → m' (12 * a + i) ≡ m (12 * a + i)
-other_word size m m' n xs r a i fits low apart = r.others (12 * a + i) (omega (arith, fits, low))
-    (off_node a n i apart low)
+other_word size m m' n xs r a i fits low apart = search (fits, off_node, apart, arith)
 
 -- levels, bounds and right links stay
 pub record StaysShaped (size : ℕ) (m m' : Memory) : Type 0 where
@@ -112,17 +106,7 @@ pub record StaysShaped (size : ℕ) (m m' : Memory) : Type 0 where
 
 pub stays_shaped : (size : ℕ) (m m' : Memory) (n : ℕ) (xs : Entries) → n < size
     → Rewritten size m m' n xs → StaysShaped size m m'
-stays_shaped size m m' n xs fits r = record {
-  last_is = r.others (12 * size + 1) (omega arith) (inr (omega (arith, fits)));
-  root_is = r.others (12 * size) (omega arith) (inr (omega (arith, fits)));
-  level_is = λ a low. by_place a low 0 (omega arith) (apart_or a n)
-      (λ at. subst (λ a. level_at m' a ≡ level_at m a) (sym at)
-      (r.others (12 * n + 0) (omega (arith, fits)) (inl (omega arith))));
-  bound_is = λ a low. by_place a low 2 (omega arith) (apart_or a n)
-      (λ at. subst (λ a. bound_at m' a ≡ bound_at m a) (sym at) r.bound_is);
-  right_is = λ a low. by_place a low 3 (omega arith) (apart_or a n)
-      (λ at. subst (λ a. right_at m' a ≡ right_at m a) (sym at) r.right_is);
-}
+stays_shaped size m m' n xs fits r = search (fits, by_place, apart_or, arith)
   where
     by_place : (a : ℕ) → a < size → (i : ℕ) → i < 12 → (a ≡ n) ⊎ ((a < n) ⊎ (n < a))
         → (a ≡ n → m' (12 * a + i) ≡ m (12 * a + i))
@@ -188,8 +172,7 @@ rewritten_linked size g m m' n xs t linked r es = record {
   entries = λ a l. subst
       (λ above. HasEntries g m' above (g.low a) (bound_at m' a) (entries_at m' a))
       (sym (shape.level_is a (low a l)))
-      (subst (λ bound. HasEntries g m' (level_at m a) (g.low a) bound (entries_at m' a))
-      (sym (shape.bound_is a (low a l)))
+      (rw (shape.bound_is a (low a l))
       (entries_grow g g m m' (level_at m a) (g.low a) (bound_at m a) (entries_at m' a) grows
       (entries a l (apart_or a n))));
 }
@@ -204,8 +187,7 @@ rewritten_linked size g m m' n xs t linked r es = record {
     grows = rewritten_grows size g m m' n xs t linked r
 
     root_level : level_at m' (root_in size m') ≡ level_at m (root_in size m)
-    root_level = ap (level_at m') shape.root_is ∙ shape.level_is (root_in size m)
-        (low (root_in size m) t.root_linked)
+    root_level = search arith
 
     link_is : (a : ℕ) → g.linked a ≡ true → right_at m' a ≢ 0 → LeadsRight g m' a
     link_is a l on =
@@ -216,23 +198,18 @@ rewritten_linked size g m m' n xs t linked r es = record {
           same_level = ap (level_at m') right ∙ shape.level_is (right_at m a)
               (low (right_at m a) was.linked) ∙ was.same_level ∙ sym (shape.level_is a (low a l));
           begins = ap g.low right ∙ was.begins ∙ sym (shape.bound_is a (low a l));
-          above = subst (λ b. g.low a < b) (sym (shape.bound_is a (low a l))) was.above;
+          above = rw (shape.bound_is a (low a l)) was.above;
         }
 
     few : (a : ℕ) → g.linked a ≡ true → (a ≡ n) ⊎ ((a < n) ⊎ (n < a)) → count_at m' a ≤ 4
-    few a l (inl at) = subst (λ a. count_at m' a ≤ 4) (sym at) r.few
-    few a l (inr apart) = let same = (other_entries size g m m' n xs t r a l apart).1 in let few =
-        t.few a l in omega arith
+    few a l (inl at) = rw at r.few
+    few a l (inr apart) = search (other_entries, apart, arith)
 
     entries : (a : ℕ) → g.linked a ≡ true → (a ≡ n) ⊎ ((a < n) ⊎ (n < a))
         → HasEntries g m (level_at m a) (g.low a) (bound_at m a) (entries_at m' a)
-    entries a l (inl at) =
-        subst (λ a. HasEntries g m (level_at m a) (g.low a) (bound_at m a) (entries_at m' a))
-        (sym at)
-        (subst (HasEntries g m (level_at m n) (g.low n) (bound_at m n)) (sym r.entries) es)
+    entries a l (inl at) = grind (arith, r.entries)
     entries a l (inr apart) =
-        subst (HasEntries g m (level_at m a) (g.low a) (bound_at m a))
-        (sym (other_entries size g m m' n xs t r a l apart).0) (t.entries a l)
+        grind (arith, (other_entries size g m m' n xs t r a l apart).0, t.entries a l)
 
 -- no entry leads to a node, if none did and none of the new entries does
 rewritten_unnamed : (size : ℕ) (g : Shape) (m m' : Memory) (n : ℕ) (xs : Entries) (x : ℕ)
@@ -241,23 +218,18 @@ rewritten_unnamed : (size : ℕ) (g : Shape) (m m' : Memory) (n : ℕ) (xs : Ent
 rewritten_unnamed size g m m' n xs x t linked r hangs off p l some = by_place (apart_or p n)
   where
     was : level_at m p ≢ 0
-    was none = some ((stays_shaped size m m' n xs (linked_low size g m t n linked) r).level_is p
-        (linked_low size g m t p l) ∙ none)
+    was none = search (stays_shaped, linked_low, arith)
 
     by_place : (p ≡ n) ⊎ ((p < n) ⊎ (n < p)) → AllByRecursion (λ entry. entry.1 ≢ x)
         (entries_at m' p)
-    by_place (inl at) =
-        subst (λ p. AllByRecursion (λ entry. entry.1 ≢ x) (entries_at m' p)) (sym at)
-        (subst (AllByRecursion (λ entry. entry.1 ≢ x)) (sym r.entries)
-        (off (λ none. was (ap (level_at m) at ∙ none))))
+    by_place (inl at) = search arith
     by_place (inr apart) = subst (AllByRecursion (λ entry. entry.1 ≢ x))
         (sym (other_entries size g m m' n xs t r p l apart).0) (hangs p l was)
 
 pub rewritten_hangs : (size : ℕ) (g : Shape) (m m' : Memory) (n : ℕ) (xs : Entries) (x : ℕ)
     → IsLinked size g m → g.linked n ≡ true → Rewritten size m m' n xs
     → Hangs g m x → (level_at m n ≢ 0 → AllByRecursion (λ entry. entry.1 ≢ x) xs) → Hangs g m' x
-rewritten_hangs size g m m' n xs x t linked r hangs off =
-    (hangs.0, rewritten_unnamed size g m m' n xs x t linked r hangs.1 off)
+rewritten_hangs size g m m' n xs x t linked r hangs off = search (rewritten_unnamed, arith)
 
 -- the state after a node has other entries
 pub rewritten_state : (size : ℕ) (g : Shape) (m m' : Memory) (s s' : Amounts) (n : ℕ) (xs : Entries)
@@ -271,7 +243,7 @@ rewritten_state size g m m' s s' n xs t st linked r formed inside outside = reco
   shows = λ q a l leaf over. by_place q a l (sym (shape.level_is a (low a l)) ∙ leaf)
       (record {
         from = over.from;
-        to = subst (λ b. b ≢ 0 → q < b) (shape.bound_is a (low a l))
+        to = rw (← shape.bound_is a (low a l))
             over.to;
       }) (apart_or a n);
   formed = formed;
@@ -285,10 +257,7 @@ rewritten_state size g m m' s s' n xs t st linked r formed inside outside = reco
 
     by_place : (q a : ℕ) → g.linked a ≡ true → level_at m a ≡ 0 → Covers m g.low a q → (a ≡ n)
         ⊎ ((a < n) ⊎ (n < a)) → amount_of s' q ≡ gives q (entries_at m' a)
-    by_place q a l leaf over (inl at) =
-        inside (subst (λ a. level_at m a ≡ 0) at leaf) q (subst (λ a. Covers m g.low a q) at over)
-        ∙ ap (gives q) (sym r.entries)
-        ∙ ap (λ a. gives q (entries_at m' a)) (sym at)
+    by_place q a l leaf over (inl at) = search (over, gives, arith)
     by_place q a l leaf over (inr apart) =
         outside q a l leaf apart over ∙ st.shows q a l leaf over
         ∙ ap (gives q) (sym (other_entries size g m m' n xs t r a l apart).0)

@@ -3,7 +3,6 @@
 use Rattle.std.proofs.Common.{◌≡◌, ◌≢◌, ℕ, suc, ◌+◌, ◌-◌, ◌<◌, ◌≤◌, ◌^◌, ◌⊎◌, inl, inr, Bool, true}
 use Rattle.std.proofs.Common.{false, cond, not, List, [], ◌∷◌, ◌++◌, Option, Some, None, length}
 use Rattle.std.proofs.Common.{refl, ap, ◌∙◌, sym, subst, arith}
-use Rattle.std.proofs.lemmas.Option.{same_Some}
 use Rattle.std.specs.Prelude.{◌||◌, drop, remove}
 use Rattle.std.specs.Bool.{then_some}
 use Rattle.std.specs.List.{AllByRecursion as Each}
@@ -12,7 +11,7 @@ use Rattle.vyrd_base.specs.declared.subject.Method.{Method}
 use Rattle.vyrd_base.specs.declared.subject.Method.TheVariants.{Tree as OfTree}
 use Rattle.vyrd_base.specs.declared.tree.TreeMethod.TheVariants.{Delete, Lookup}
 use Rattle.vyrd_base.specs.declared.subject.Args.{Args}
-use Rattle.vyrd_base.specs.declared.log.Kind.TheVariants.{BlockOpen, BlockCommit}
+use Rattle.vyrd_base.specs.declared.log.Kind.TheVariants.{BlockCommit}
 use Rattle.vyrd_base.specs.Callers.{Called}
 use Rattle.vyrd_base.specs.Subjects.{is_observer}
 use Rattle.vyrd_base.specs.Amounts.{Amounts, amount_of, with_amount}
@@ -29,7 +28,7 @@ use Rattle.vyrd_memory.proofs.AloneLaws.{is_there, isnt_there}
 use Rattle.vyrd_tree.specs.Cells.{count_cell, root_cell, lock_of, unlock_node}
 use Rattle.vyrd_tree.specs.Procedures.Walk.{Arrived, walk_from}
 use Rattle.vyrd_tree.specs.Procedures.Split.{write_entries, rewrite}
-use Rattle.vyrd_tree.specs.Procedures.{changes_nothing, walk_down, place_of, value_at as value_in}
+use Rattle.vyrd_tree.specs.Procedures.{changes_nothing, walk_down, place_of}
 use Rattle.vyrd_tree.specs.Procedures.{reply_of, look_in, lookup, delete_in, delete}
 use Rattle.vyrd_tree.specs.Laws.Sound.Acts.{holding}
 use Rattle.vyrd_tree.specs.Contents.{level_at, count_at, bound_at, root_in, Rising, IsLeafEntry}
@@ -68,15 +67,7 @@ pub record IsIn (g : Shape) (m : Memory) (level n key : ℕ) : Type 0 where
 pub still_in : (h : Header) (s : Situation) (k : TreeLocals) (g : Shape) (m : Memory) (g' : Shape)
     (m' : Memory) (level n key : ℕ) → IsIn g m level n key
     → holds s (lock_of h n) ≡ true → TreeRely h s k g m g' m' → IsIn g' m' level n key
-still_in h s k g m g' m' level n key is held rely = record {
-  linked = rely.grows.linked n is.linked;
-  level_is = rely.grows.level n is.linked ∙ is.level_is;
-  covers = record {
-    from = (let from = is.covers.from in let low = rely.grows.low n is.linked in omega arith);
-    to = subst (λ b. b ≢ 0 → key < b) (sym (rely.held n 2 is.linked held (omega arith)))
-        is.covers.to;
-  };
-}
+still_in h s k g m g' m' level n key is held rely = search (held, arith)
 
 -- the key of a leaf's entry has 2^32 and the entry's value as its amount
 pub present_in : (size : ℕ) (g : Shape) (m : Memory) (s : Amounts) (n key : ℕ)
@@ -121,8 +112,7 @@ changed_in size g m m' s n key amount new t st is r here there =
     (subst (Covers m g.low a) e over) is.covers))))
   where
     off : {a b : ℕ} → (a < b) ⊎ (b < a) → a ≢ b
-    off (inl lt) = omega (arith, lt)
-    off (inr lt) = omega (arith, lt)
+    off e0 = search arith
 
 -- the locals of an operation that has nothing but its call
 pub record IsBare (k : TreeLocals) (called : Called) : Type 0 where
@@ -168,29 +158,19 @@ tree_returns h k g m committed called reply tree unseen bare answer = (
 )
   where
     over : TreeLocals
-    over = record {
-      fresh = k.fresh;
-      hanging = k.hanging;
-      pending = k.pending;
-      out = k.out;
-      called = None;
-      answered = None;
-    }
+    over = record k { called = None; answered = None }
 
     c : Changeless h (holding [] called.method committed false) k g m
     c = changeless h (holding [] called.method committed false) k g m unseen
 
     or_false : (b : Bool) → b ≡ (b || false)
-    or_false true = refl
-    or_false false = refl
+    or_false b = search arith
 
 -- a mutator returns whatever it has answered
 pub tree_mutates : (k : TreeLocals) (called : Called) (reply : ℕ) → k.called ≡ Some called
     → is_observer called.method ≡ false
     → (c : Called) → k.called ≡ Some c → is_observer c.method ≡ true → k.answered ≡ Some reply
-tree_mutates k called reply is mutator c is' observes =
-    let same : called ≡ c = same_Some called c (sym is ∙ is') in
-    absurd (never mutator (subst (λ x. is_observer x.method ≡ true) (sym same) observes))
+tree_mutates k called reply is mutator c is' observes = grind (arith, never)
 
 -- with the leaf's lock held: commit, unlock it, and return 0
 pub nothing_right : (h : Header) (called : Called) (k : TreeLocals) (g : Shape) (m : Memory) (n : ℕ)
@@ -242,8 +222,7 @@ nothing_right h called k g m n tree unseen bare mutator stays = (
     c = changeless h (holding (lock_of h n ∷ []) called.method false false) k g m unseen
 
     or_false : (b : Bool) → b ≡ (b || false)
-    or_false true = refl
-    or_false false = refl
+    or_false b = search arith
 
 -- A block with these writes gives the leaf other entries and commits, and the leaf is unlocked.
 pub commit_block : (h : Header) (called : Called) (k : TreeLocals) (g : Shape) (m : Memory) (n : ℕ)
@@ -356,9 +335,7 @@ pub rewrite_right : (h : Header) (called : Called) (k : TreeLocals) (g : Shape) 
     (rewrite h n (length front) (front ++ xs) BlockCommit later)
 rewrite_right h called k g m n front back xs later tree at leaf before few right commits rest g' m'
     rely =
-    subst (λ ys. TreeRight h s k g' m'
-    (perform (Mark BlockOpen) (write_entries n (length front) ys counted)))
-    (sym (drop_front front xs))
+    rw (drop_front front xs)
     (tree_open h (lock_of h n ∷ []) called.method false k g' m'
     (write_entries n (length front) xs counted) rely.tree
     (unseen_stays h s k g m g' m' at.unseen rely)
@@ -464,13 +441,9 @@ lookup_right h args k g m tree unseen bare =
         reply = reply_of (entries_at x n) (place_of args.a (entries_at x n))
 
         answered : TreeLocals
-        answered = record {
-          fresh = k.fresh;
-          hanging = k.hanging;
-          pending = k.pending;
-          out = k.out;
-          called = k.called;
-          answered = Some (reply_of (entries_at x n) (place_of args.a (entries_at x n)));
+        answered = record k {
+          answered = Some (reply_of (entries_at x n) (place_of args.a
+              (entries_at x n)));
         }
 
         unseen' : OwnsUnseen h k b y
@@ -495,22 +468,22 @@ lookup_right h args k g m tree unseen bare =
             → answer_in state (OfTree Lookup) args ≡ reply_of (entries_at x n)
             (place_of args.a (entries_at x n))
         by_place state shows None e =
-            ap (λ b. cond b (amount_of state args.a - 2 ^ 32 + 1) 0) (isnt_there state args.a
-            (absent_in h.size b y state n args.a r.tree shows is
-            (subst (Each (λ x. x.0 ≢ args.a)) (sym same) (not_found args.a (entries_at x n) e))))
-            ∙ sym (ap (reply_of (entries_at x n)) e)
+            cc (isnt_there state args.a (absent_in h.size b y state n args.a r.tree shows is (subst
+            (Each (λ x. x.0 ≢ args.a)) (sym same) (not_found args.a (entries_at x n) e))))
         by_place state shows (Some i) e =
             let found = found_around args.a (entries_at x n) i e in
             let around = found.4 in
             let amount : amount_of state args.a ≡ 2 ^ 32 + found.1.1 = present_in h.size b y state n
             args.a found.0 found.2 found.1 r.tree shows is
             (record { parts = same ∙ around.parts; key_is = around.key_is }) in
-            ap (λ b. cond b (amount_of state args.a - 2 ^ 32 + 1) 0)
-            (is_there state args.a (omega (arith, amount)))
-            ∙ plus_one found.1.1 (amount_of state args.a) amount
-            ∙ sym (ap (reply_of (entries_at x n)) e ∙ ap (λ i. value_in (entries_at x n) i + 1)
-            (sym found.3)
-            ∙ ap (λ v. v + 1) (value_is (entries_at x n) found.0 found.2 found.1 around.parts))
+            cc (
+              is_there state args.a (omega (arith, amount)),
+              plus_one found.1.1 (amount_of state
+                  args.a) amount,
+              found.3,
+              value_is (entries_at x n) found.0 found.2 found.1
+                  around.parts,
+            )
           where
             plus_one : (value amount : ℕ) → amount ≡ 2 ^ 32 + value → amount - 2 ^ 32 + 1 ≡ value
                 + 1
@@ -555,10 +528,8 @@ delete_right h args k g m tree unseen bare =
             → IsAround args.a (entries_at x n) front entry back
             → Onward h s k a x (rewrite h n i (remove (entries_at x n) i) BlockCommit (returns 1))
         removed i front entry back len around =
-            subst (λ i. Onward h s k a x
-            (rewrite h n i (remove (entries_at x n) i) BlockCommit (returns 1))) len
-            (subst (λ xs. Onward h s k a x (rewrite h n (length front) xs BlockCommit (returns 1)))
-            (sym remains)
+            rw (← len)
+            (rw remains
             (rewrite_right h called k a x n front (entry ∷ back) back (returns 1) begun.tree at leaf
             around.parts few right
             (λ b y r state shows rw. record {
@@ -567,8 +538,10 @@ delete_right h args k g m tree unseen bare =
               reply = 1;
               returns = λ answer is. refl;
               next = with_amount state args.a 0;
-              allowed = ap (λ b. then_some b (with_amount state args.a 0))
-                  (is_there state args.a (let e = amount b y r state shows in omega (arith, e)));
+              allowed = cc (is_there state args.a (let e = amount b y r state shows in omega (
+                arith,
+                e,
+              )));
               means = changed_in h.size b y (written (node_writes n front back) y) state n args.a 0
                   (front ++ back) r.tree shows
                   (still_in h s k a x b y 0 n args.a is at.held r) rw
@@ -583,8 +556,7 @@ delete_right h args k g m tree unseen bare =
             refl))))
           where
             before : HasEntries a x (level_at x n) (a.low n) (bound_at x n) (front ++ entry ∷ back)
-            before = subst (HasEntries a x (level_at x n) (a.low n) (bound_at x n)) around.parts
-                (begun.tree.entries n at.linked)
+            before = grind (arith, around.parts, begun.tree.entries n at.linked)
 
             one : (gives args.a front ≡ 0) × (gives args.a back ≡ 0)
                 × (gives args.a (entry ∷ back) ≡ 2 ^ 32 + entry.1)
@@ -614,11 +586,7 @@ delete_right h args k g m tree unseen bare =
                 })
 
             remains : remove (entries_at x n) (length front) ≡ front ++ back
-            remains =
-                ap (λ xs. remove xs (length front)) around.parts
-                ∙ ap (λ xs. xs ++ drop (suc (length front)) (front ++ entry ∷ back))
-                (take_front front (entry ∷ back))
-                ∙ ap (λ xs. front ++ xs) (drop_next front)
+            remains = cc (around.parts, take_front front (entry ∷ back), drop_next front)
               where
                 drop_next : (front : Entries) → drop (suc (length front)) (front ++ entry ∷ back)
                     ≡ back
@@ -650,7 +618,7 @@ delete_right h args k g m tree unseen bare =
         by_place : (o : Option ℕ) → place_of args.a (entries_at x n) ≡ o
             → Onward h s k a x (delete_in h (loaded_at x n) (place_of args.a (entries_at x n)))
         by_place None e =
-            subst (λ o. Onward h s k a x (delete_in h (loaded_at x n) o)) (sym e)
+            rw e
             (λ b y r. nothing_right h called k b y n r.tree (unseen_stays h s k a x b y at.unseen r)
             bare refl
             (λ state shows. ap (λ b. then_some (not b) state) (isnt_there state args.a
@@ -660,5 +628,5 @@ delete_right h args k g m tree unseen bare =
             (not_found args.a (entries_at x n) e))))))
         by_place (Some i) e =
             let found = found_around args.a (entries_at x n) i e in
-            subst (λ o. Onward h s k a x (delete_in h (loaded_at x n) o)) (sym e)
+            rw e
             (removed i found.0 found.1 found.2 found.3 found.4)

@@ -2,11 +2,10 @@
 -- own, or another caller's.
 use Rattle.std.proofs.Common.{◌≡◌, ◌≢◌, ℕ, ◌<◌, ◌≤◌, ◌⊎◌, inl, inr, Bool, true, false, cond, not}
 use Rattle.std.proofs.Common.{List, ◌∷◌, Some, None, refl, ap, ◌∙◌, sym, subst, arith}
-use Rattle.std.specs.Prelude.{◌==◌, ◌&&◌, ◌||◌, is_some, is_none, unwrap_or}
+use Rattle.std.specs.Prelude.{◌==◌, ◌&&◌, is_some, unwrap_or}
 use Rattle.std.specs.Option.{option_or}
 use Rattle.std.specs.List.{cons_option}
-use Rattle.std.proofs.lemmas.Bool.{not-true, or_right}
-use Rattle.std.proofs.Math.Bool.{or-true}
+use Rattle.std.proofs.lemmas.Bool.{or_right}
 use Rattle.vyrd_base.specs.declared.header.Header.{Header}
 use Rattle.vyrd_base.specs.declared.log.Kind.TheVariants.{Call, Return, Write, Commit, BlockOpen}
 use Rattle.vyrd_base.specs.declared.log.Kind.TheVariants.{BlockClose, BlockCommit}
@@ -14,7 +13,6 @@ use Rattle.vyrd_base.specs.declared.log.Entry.{Entry}
 use Rattle.vyrd_base.specs.declared.history.Did.{Did}
 use Rattle.vyrd_base.specs.declared.history.Did.TheVariants.{Read, Wrote, Took, Gave, Marked}
 use Rattle.vyrd_base.specs.Places.{first_answer}
-use Rattle.vyrd_base.specs.Subjects.{same_subject, subject_of, are_args}
 use Rattle.vyrd_base.specs.Callers.{by_caller, write_or_open, has_block, holds_word}
 use Rattle.vyrd_base.specs.Words.{block_writes}
 use Rattle.vyrd_base.specs.Histories.{logged}
@@ -22,10 +20,10 @@ use Rattle.vyrd_base.proofs.BlockLaws.{entry, wrote, wrote_is, own_block, own_wr
 use Rattle.vyrd_base.proofs.TestLaws.{second_true, same_of, same_number, both_of}
 use Rattle.vyrd_memory.specs.declared.act.Act.{Act}
 use Rattle.vyrd_memory.specs.declared.act.Act.TheVariants.{Load, Store, Take, Give, Mark, Done}
-use Rattle.vyrd_memory.specs.Alone.{Memory, with_cell}
+use Rattle.vyrd_memory.specs.Alone.{Memory}
 use Rattle.vyrd_memory.specs.Scripts.{Script, stop, step, next_act, after_answer, event_of}
 use Rattle.vyrd_memory.specs.Scripts.{answer_of, left_after}
-use Rattle.vyrd_memory.specs.Soundness.{Situation, holds, holds_none, observes, is_at_rest, may_act}
+use Rattle.vyrd_memory.specs.Soundness.{Situation, holds, may_act}
 use Rattle.vyrd_memory.specs.Soundness.{after_act}
 use Rattle.vyrd_memory.proofs.Situations.{act_of_event, situation_after, event_act}
 use Rattle.vyrd_memory.proofs.Agreements.{Agrees, four_true}
@@ -50,17 +48,7 @@ pub rely_none : (h : Header) (s : Situation) (k : TreeLocals) (g : Shape) (m : M
     → IsLinked h.size g m
     → (holds s (root_lock h) ≡ true → k.out ≡ false → g.top ≡ level_at m (root_in h.size m))
     → TreeRely h s k g m g m
-rely_none h s k g m tree calm = record {
-  grows = grows_same g m;
-  held = λ n place linked held low. refl;
-  fresh = λ n mine. refl;
-  used = λ n mine le. le;
-  hanging = λ n mine hangs. hangs;
-  root = λ held. (refl, refl);
-  count = λ held. refl;
-  tree = tree;
-  calm = calm;
-}
+rely_none h s k g m tree calm = grind (arith, grows_same g m)
 
 -- what an event of a script that does right does
 pub record TreeStepped (h : Header) (s : Situation) (k : TreeLocals) (g : Shape) (m : Memory)
@@ -92,30 +80,10 @@ holds_on : (h : Header) (s s' : Situation) (k next : TreeLocals) (g g' : Shape) 
     → ((lock : ℕ) → holds s lock ≡ true → holds s' lock ≡ true) → g' ≡ g → next.fresh ≡ k.fresh
     → next.out ≡ k.out
     → MayHold h s k g m w → MayHold h s' next g' m w
-holds_on h s s' k next g g' m w more same fresh out hold = subst (λ g. MayHold h s' next g m w)
-    (sym same) (by_out hold)
+holds_on h s s' k next g g' m w more same fresh out hold = grind (arith, by_out hold)
   where
     by_out : MayHold h s k g m w → MayHold h s' next g m w
-    by_out (inl quiet) = inl (
-      out ∙ quiet.0,
-      record {
-        node = quiet.1.node;
-        place = quiet.1.place;
-        is = quiet.1.is;
-        low = quiet.1.low;
-        may = by_may quiet.1.node quiet.1.place quiet.1.may;
-      },
-    )
-      where
-        by_may : (node place : ℕ)
-            → (k.fresh ≡ Some node) ⊎ ((g.linked node ≡ true) × (holds s (lock_of h node) ≡ true)
-            × (place ≢ 0) × (level_at m node ≤ g.top))
-            → (next.fresh ≡ Some node)
-            ⊎ ((g.linked node ≡ true) × (holds s' (lock_of h node) ≡ true) × (place ≢ 0)
-            × (level_at m node ≤ g.top))
-        by_may node place (inl mine) = inl (fresh ∙ mine)
-        by_may node place (inr linked) =
-            inr (linked.0, more (lock_of h node) linked.1, linked.2, linked.3)
+    by_out (inl quiet) = search arith
     by_out (inr seen) = inr (out ∙ seen.0, seen.1)
 
 -- where a block's writes are seen and it goes on, its caller changes nothing
@@ -133,10 +101,8 @@ still_out h s k g m (Mark (Return reply)) out inside reaches = refl
 still_out h s k g m (Mark (Write word value)) out inside reaches = refl
 still_out h s k g m (Mark Commit) out inside reaches = refl
 still_out h s k g m (Mark BlockOpen) out inside reaches = refl
-still_out h s k g m (Mark BlockClose) out inside reaches = ap (λ b. cond b m (written k.pending m))
-    out
-still_out h s k g m (Mark BlockCommit) out inside reaches = ap (λ b. cond b m (written k.pending m))
-    out
+still_out h s k g m (Mark BlockClose) out inside reaches = cc
+still_out h s k g m (Mark BlockCommit) out inside reaches = cc
 
 -- where its writes are seen after the act, the caller is in the block still, with the root's lock
 pub alone_after : (h : Header) (s : Situation) (k : TreeLocals) (g : Shape) (m : Memory) (act : Act)
@@ -148,22 +114,12 @@ alone_after h s k g m (Store cell value) rest next g' does may out = does.alone 
 alone_after h s k g m (Take lock) rest next g' does may out =
     let both = does.alone out in
     (or_right (lock == root_lock h) (holds s (root_lock h)) both.0, both.1)
-alone_after h s k g m (Give lock) rest next g' does may out = absurd
-    (never does.reaches (does.alone out).1)
+alone_after h s k g m (Give lock) rest next g' does may out = search (never, arith)
 alone_after h s k g m Done rest next g' does may out = absurd does.reaches
 alone_after h s k g m (Mark (Call method args)) rest next g' does may out =
-    absurd (never
-    (at_rest_out
-    (second_true (same_subject (subject_of method) h.subject && are_args h.size method args)
-    (is_at_rest s) may)) (does.alone out).1)
-  where
-    at_rest_out : is_at_rest s ≡ true → s.in_block ≡ false
-    at_rest_out e = not-true s.in_block
-        (four_true (holds_none s) (is_none s.called) (not s.committed) (not s.in_block) e).3
+    search (never, second_true, arith)
 alone_after h s k g m (Mark (Return reply)) rest next g' does may out =
-    absurd (never
-    (not-true s.in_block (four_true (is_some s.called) (not s.in_block) (observes s || s.committed)
-    (holds_none s) may).1) (does.alone out).1)
+    search (never, four_true, is_some, arith)
 alone_after h s k g m (Mark (Write word value)) rest next g' does may out = absurd does.reaches
 alone_after h s k g m (Mark Commit) rest next g' does may out = does.alone out
 alone_after h s k g m (Mark BlockOpen) rest next g' does may out = absurd (never does.out out)
@@ -224,28 +180,18 @@ store_holds h s k g m cell value rest next g' does tree inside = by_out next.out
             now = does.within inside inside (e ∙ sym within.1)
 
             not_root : (r : Bool) → (cell == root_cell h) ≡ r → r ≡ false
-            not_root false f = refl
-            not_root true f = absurd
-                (never e (does.out ∙ ap (λ b. k.out || (b && cell == root_cell h)) inside
-                ∙ ap (λ r. k.out || r) f ∙ or-true k.out))
+            not_root r f = search (never, arith)
 
             same : seen_after h s k m (Store cell value) ≡ m
-            same =
-                ap (λ b. cond b
-                (cond (cell == root_cell h) (written ((cell, value) ∷ k.pending) m) m)
-                (with_cell m cell value)) inside
-                ∙ ap (λ r. cond r (written ((cell, value) ∷ k.pending) m) m)
-                (not_root (cell == root_cell h) refl)
+            same = cc (not_root (cell == root_cell h) refl)
 
             by_word : InNode h s k g m cell
                 ⊎ ((cell ≡ root_cell h) × (holds s (root_lock h) ≡ true))
                 → MayHold h s next g' (seen_after h s k m (Store cell value)) cell
-            by_word (inl i) = subst (λ x. MayHold h s next g' x cell) (sym same)
+            by_word (inl i) = rw same
                 (holds_on h s s k next g g' m cell (λ lock held. held) now.0 now.1
                 (e ∙ sym within.1) (inl (within.1, i)))
-            by_word (inr root) = absurd
-                (never (not_root (cell == root_cell h) refl) (ap (λ x. x == root_cell h) root.0
-                ∙ same_number (root_cell h)))
+            by_word (inr root) = search (never, same_number, arith)
 
 -- a word that the caller's block has written before its own act
 earlier_holds : (h : Header) (c : ℕ) (s : Situation) (k : TreeLocals) (g : Shape) (m : Memory)
@@ -302,7 +248,7 @@ tree_covers h c (Took lock) s k g m rest next g' log a b may does tree pending c
     earlier_holds h c s k g m (Take lock) rest next g' log w does may pending a.in_block inside
     inside
     (λ other held. or_right (lock == other) (holds s other) held) (λ o e f. refl)
-    (λ out. does.out ∙ ap (λ b. b || false) out) e (covers w e)
+    (λ out. cc (does.out)) e (covers w e)
 tree_covers h c (Gave lock) s k g m rest next g' log a b may does tree pending covers w e =
     absurd (never (a.in_block ∙ does.reaches) (both_of (has_block c log) (wrote c w log) e).0)
 tree_covers h c (Wrote cell value) s k g m rest next g' log a b may does tree pending covers w e =
@@ -317,26 +263,13 @@ tree_covers h c (Wrote cell value) s k g m rest next g' log a b may does tree pe
 
     same : s.in_block ≡ true → (o : Bool) → k.out ≡ o → next.out ≡ o
         → seen_after h s k m (Store cell value) ≡ m
-    same inside true f g = absurd (never (quiet_of inside does.reaches) f)
-    same inside false f g =
-        ap (λ b. cond b (cond (cell == root_cell h) (written ((cell, value) ∷ k.pending) m) m)
-        (with_cell m cell value)) inside
-        ∙ by_root (cell == root_cell h) refl
-      where
-        by_root : (r : Bool) → (cell == root_cell h) ≡ r → cond (cell == root_cell h)
-            (written ((cell, value) ∷ k.pending) m) m ≡ m
-        by_root false e = ap (λ r. cond r (written ((cell, value) ∷ k.pending) m) m) e
-        by_root true e = absurd
-            (never g (does.out ∙ ap (λ b. k.out || (b && cell == root_cell h)) inside
-            ∙ ap (λ r. k.out || r) e ∙ or-true k.out))
+    same inside o f g = search (never, written, arith)
 
     by_place : has_block c log ≡ true → (t : Bool) → (cell == w) ≡ t
         → unwrap_or (option_or (cond t (Some true) None)
         (first_answer (by_caller c (write_or_open w)) log)) false ≡ true
         → MayHold h s next g' (seen_after h s k m (Store cell value)) w
-    by_place inside true f last =
-        subst (MayHold h s next g' (seen_after h s k m (Store cell value))) (same_of cell w f)
-        (store_holds h s k g m cell value rest next g' does tree (sym a.in_block ∙ inside))
+    by_place inside true f last = search (same_of, store_holds, does, arith)
     by_place inside false f last =
         let within = sym a.in_block ∙ inside in
         let before : holds_word c w log ≡ true = (λ i. inside i && wrote c w log) ∙ last in
@@ -344,31 +277,19 @@ tree_covers h c (Wrote cell value) s k g m rest next g' log a b may does tree pe
         within within (λ lock held. held) (same within)
         (λ out. absurd (never (quiet_of within does.reaches) out)) before (covers w before)
 tree_covers h c (Marked (Call method args)) s k g m rest next g' log a b may does tree pending
-    covers w e =
-    absurd (never b.in_block
-    (both_of (has_block c (entry c (Call method args) ∷ log))
-    (wrote c w (entry c (Call method args) ∷ log)) e).0)
+    covers w e = search (never, both_of, arith)
 tree_covers h c (Marked (Return reply)) s k g m rest next g' log a b may does tree pending covers w
-    e =
-    absurd (never b.in_block
-    (both_of (has_block c (entry c (Return reply) ∷ log)) (wrote c w (entry c (Return reply) ∷ log))
-    e).0)
+    e = search (never, both_of, arith)
 tree_covers h c (Marked (Write word value)) s k g m rest next g' log a b may does tree pending
     covers w e = absurd does.reaches
 tree_covers h c (Marked Commit) s k g m rest next g' log a b may does tree pending covers w e =
-    absurd (never
-    (b.in_block ∙ not-true s.in_block
-    (four_true (is_some s.called) (not (observes s)) (not s.committed) (not s.in_block) may).3)
-    (both_of (has_block c (entry c Commit ∷ log)) (wrote c w (entry c Commit ∷ log)) e).0)
+    search (never, four_true, is_some, both_of, arith)
 tree_covers h c (Marked BlockOpen) s k g m rest next g' log a b may does tree pending covers w e =
-    absurd (never (own_wrote c w BlockOpen log)
-    (both_of (has_block c (entry c BlockOpen ∷ log)) (wrote c w (entry c BlockOpen ∷ log)) e).1)
+    search (never, own_wrote, both_of, arith)
 tree_covers h c (Marked BlockClose) s k g m rest next g' log a b may does tree pending covers w e =
-    absurd (never b.in_block
-    (both_of (has_block c (entry c BlockClose ∷ log)) (wrote c w (entry c BlockClose ∷ log)) e).0)
+    search (never, both_of, arith)
 tree_covers h c (Marked BlockCommit) s k g m rest next g' log a b may does tree pending covers w e =
-    absurd (never b.in_block
-    (both_of (has_block c (entry c BlockCommit ∷ log)) (wrote c w (entry c BlockCommit ∷ log)) e).0)
+    search (never, both_of, arith)
 
 -- the caller's own event
 pub record TreeOwnStep (h : Header) (script : Script) (part : List Did) (log : List Entry) (c : ℕ)
@@ -422,8 +343,7 @@ tree_own_step h script part log c did k g m one tree calm agrees agrees' may pla
     s = situation_after part
 
     end : TreeStepped h s k g m did (left_after script part)
-    end = tree_stepped h s k g m did (left_after script part)
-        (one.right g m (rely_none h s k g m tree calm)) plays
+    end = search (tree_stepped, rely_none, arith)
 
 -- another caller's event
 pub tree_other_step : (h : Header) (script : Script) (part : List Did) (log : List Entry) (c d : ℕ)
@@ -449,8 +369,7 @@ tree_other_step h script part log c d did k g m g' m' one tree apart rely = reco
 
     same_level : holds s (root_lock h) ≡ true → level_at m' (root_in h.size m')
         ≡ level_at m (root_in h.size m)
-    same_level held = ap (level_at m') (rely.root held).0
-        ∙ rely.grows.level (root_in h.size m) tree.root_linked
+    same_level held = search (held, arith)
 
     still_held : (w : ℕ) → MayHold h s k g m w → MayHold h s k g' m' w
     still_held w (inl quiet) = inl (
@@ -469,22 +388,9 @@ tree_other_step h script part log c d did k g m g' m' one tree apart rely = reco
             × (place ≢ 0) × (level_at m node ≤ g.top))
             → (k.fresh ≡ Some node) ⊎ ((g'.linked node ≡ true) × (holds s (lock_of h node) ≡ true)
             × (place ≢ 0) × (level_at m' node ≤ g'.top))
-        by_may node place (inl mine) = inl mine
-        by_may node place (inr linked) =
-            let level = rely.grows.level node linked.0 in
-            let top = rely.grows.top in
-            let low = linked.3 in
-            inr (
-              rely.grows.linked node linked.0,
-              linked.1,
-              linked.2,
-              omega
-                  (arith, level, top, low),
-            )
+        by_may node place e2 = search arith
     still_held w (inr seen) = inr (seen.0, by_word seen.1)
       where
         by_word : (w ≡ root_cell h) ⊎ IsWordOf (root_in h.size m) w → (w ≡ root_cell h)
             ⊎ IsWordOf (root_in h.size m') w
-        by_word (inl root) = inl root
-        by_word (inr word) =
-            inr (subst (λ n. IsWordOf n w) (sym (rely.root (one.alone seen.0).0).0) word)
+        by_word e0 = search arith

@@ -40,20 +40,10 @@ unseen_stays h s k g m g' m' unseen rely = record {
 }
 
 pub grows_same : (g : Shape) (m : Memory) → Grows g m g m
-grows_same g m = record {
-  linked = λ n l. l;
-  low = λ n l. refl;
-  level = λ n l. refl;
-  top = omega arith;
-}
+grows_same g m = grind arith
 
 pub grows_more : (a b c : Shape) (x y z : Memory) → Grows a x b y → Grows b y c z → Grows a x c z
-grows_more a b c x y z one two = record {
-  linked = λ n l. two.linked n (one.linked n l);
-  low = λ n l. two.low n (one.linked n l) ∙ one.low n l;
-  level = λ n l. two.level n (one.linked n l) ∙ one.level n l;
-  top = (let first = one.top in let second = two.top in omega arith);
-}
+grows_more a b c x y z one two = grind arith
 
 -- the others do one thing after the other
 pub tree_rely_more : (h : Header) (s : Situation) (k : TreeLocals) (a b c : Shape) (x y z : Memory)
@@ -90,14 +80,7 @@ tree_rely_less h s s' k a b x y fewer r = record {
 
 leaves_same : (h : Header) (s : Situation) (k : TreeLocals) (g : Shape) (m : Memory)
     → TreeLeaves h s k g m g m
-leaves_same h s k g m = record {
-  others = λ n place linked free low. refl;
-  unlinked = λ n un other. un;
-  used = omega arith;
-  hanging = λ n linked other hangs. hangs;
-  root = λ free. (refl, refl);
-  count = λ free. refl;
-}
+leaves_same h s k g m = grind arith
 
 -- what an act does that changes nothing
 pub record Changeless (h : Header) (s : Situation) (k : TreeLocals) (g : Shape)
@@ -158,8 +141,7 @@ tree_load h s k g m cell rest tree unseen may out later =
     )
   where
     or_false : (b : Bool) → b ≡ (b || false)
-    or_false true = refl
-    or_false false = refl
+    or_false b = search arith
 
 pub tree_take : (h : Header) (s : Situation) (k : TreeLocals) (g : Shape) (m : Memory) (lock : ℕ)
     (rest : Script) → IsLinked h.size g m → OwnsUnseen h k g m
@@ -194,8 +176,7 @@ tree_take h s k g m lock rest tree unseen above later =
     )
   where
     or_false : (b : Bool) → b ≡ (b || false)
-    or_false true = refl
-    or_false false = refl
+    or_false b = search arith
 
 pub tree_give : (h : Header) (s : Situation) (k : TreeLocals) (g : Shape) (m : Memory) (lock : ℕ)
     (rest : Script) → IsLinked h.size g m → OwnsUnseen h k g m
@@ -230,8 +211,7 @@ tree_give h s k g m lock rest tree unseen out later =
     )
   where
     or_false : (b : Bool) → b ≡ (b || false)
-    or_false true = refl
-    or_false false = refl
+    or_false b = search arith
 
 -- the only lock is given back
 pub tree_give_last : (h : Header) (method : Method) (committed : Bool) (k : TreeLocals) (g : Shape)

@@ -2,7 +2,7 @@
 -- when its block is closed.
 use Rattle.std.proofs.Common.{◌≡◌, ◌≢◌, ℕ, ◌+◌, ◌*◌, ◌<◌, ◌≤◌, ◌⊎◌, inl, inr, Bool, true, false}
 use Rattle.std.proofs.Common.{cond, List, [], ◌∷◌, Some, None, refl, ap, ◌∙◌, sym, subst, arith}
-use Rattle.std.specs.Prelude.{◌==◌, ◌||◌}
+use Rattle.std.specs.Prelude.{◌==◌}
 use Rattle.std.specs.List.{AllByRecursion as Each}
 use Rattle.vyrd_base.specs.declared.header.Header.{Header}
 use Rattle.vyrd_base.specs.declared.subject.Method.TheVariants.{Tree as OfTree}
@@ -292,12 +292,7 @@ abbrev pub with_top : Shape → ℕ → Shape
 with_top g top = record { linked = g.linked; low = g.low; top = top }
 
 pub top_grows : (g : Shape) (m : Memory) (t : ℕ) → g.top ≤ t → Grows g m (with_top g t) m
-top_grows g m t more = record {
-  linked = λ n l. l;
-  low = λ n l. refl;
-  level = λ n l. refl;
-  top = more;
-}
+top_grows g m t more = grind (arith, more)
 
 pub top_linked : (size : ℕ) (g : Shape) (m : Memory) → IsLinked size g m
     → IsLinked size (with_top g (level_at m (root_in size m))) m
@@ -349,19 +344,19 @@ store_word h k g m lock u place value ws later unseen mine fits low rest g' m' r
       inl
           (record { node = u; place = place; is = refl; low = low; may = inl mine }),
     );
-    grows = subst (λ x. Grows g' m' g' x) (sym same) c.grows;
-    leaves = subst (λ x. TreeLeaves h inside (with_pending k ws) g' m' g' x) (sym same) c.leaves;
+    grows = rw same c.grows;
+    leaves = rw same c.leaves;
     tree = subst (IsLinked h.size g') (sym same) rely.tree;
-    top = λ quiet is quiet'. subst (λ x. g'.top ≡ level_at x (root_in h.size x)) (sym same) is;
+    top = λ quiet is quiet'. rw same is;
     closed = λ out quiet. cc;
     alone = λ out. cc;
     ahead = λ quiet out. cc;
     wrote = λ quiet out. cc;
     within = λ inside goes same. (refl, refl);
     taken = λ x mine. let t = c.taken x mine in
-        (t.0, subst (λ y. x ≤ last_in h.size y) (sym same) t.1, t.2);
-    hung = λ x mine. let t = c.hung x mine in (t.0, subst (λ y. Hangs g' y x) (sym same) t.1, t.2);
-    leads = λ state shows. subst (λ x. ShowsState g' x state) (sym same) shows;
+        (t.0, rw same t.1, t.2);
+    hung = λ x mine. let t = c.hung x mine in (t.0, rw same t.1, t.2);
+    leads = λ state shows. rw same shows;
     pending = refl;
     out = sym not_root;
     called = refl;
@@ -370,8 +365,7 @@ store_word h k g m lock u place value ws later unseen mine fits low rest g' m' r
   λ g'' m'' rely'. rest g'' m'' (tree_rely_more h s k g g' g'' m m' m'' rely
       (rely_with h (lock ∷ []) (OfTree Insert) true true false k ((12 * u + place, value) ∷ ws) g'
       g'' m' m''
-      (subst (λ x. TreeRely h inside (with_pending k ((12 * u + place, value) ∷ ws)) g' x g'' m'')
-      same rely'))),
+      (rw (← same) rely'))),
 )
   where
     s : Situation
@@ -438,7 +432,7 @@ growth_right h args = record { right = grow }
     inside = holding (root_lock h ∷ []) (OfTree Insert) true true
 
     root_held : holds (holding (root_lock h ∷ []) (OfTree Insert) true true) (root_lock h) ≡ true
-    root_held = ap (λ b. b || false) (same_number (root_lock h))
+    root_held = cc (same_number (root_lock h))
 
     grow : (k : TreeLocals) (g : Shape) (m : Memory) (level key node root : ℕ) → IsLinked h.size g m
         → OwnsUnseen h k g m
@@ -504,7 +498,7 @@ growth_right h args = record { right = grow }
               with_node c u 0,
               record {
                 reaches = inl (refl, refl, inr (refl, root_held));
-                grows = subst (λ x. Grows c z (with_node c u 0) x) (sym seen)
+                grows = rw seen
                     (grown_grows h.size c z end u key node r'.tree gr un fit linked same_level
                     low_is some);
                 leaves = subst
@@ -513,8 +507,7 @@ growth_right h args = record { right = grow }
                       others = λ a place of_a free low. gr.others (12 * a + place)
                           (let fits = linked_low h.size c z r'.tree a of_a in omega (arith, low))
                           (off_words a u place (λ e. never un (sym (ap c.linked e) ∙ of_a)) low);
-                      unlinked = λ x was other. ap (λ b. cond b true (c.linked x))
-                          (isnt_same x u (λ e. other (sym (ap Some e)))) ∙ was;
+                      unlinked = λ x was other. cc (isnt_same x u (λ e. other (sym (ap Some e))));
                       used = (let e = gr.last_is in omega arith);
                       hanging = λ x of_x other hangs. grown_hangs h.size c z end u key node r'.tree
                           gr
@@ -529,19 +522,18 @@ growth_right h args = record { right = grow }
                 top = λ quiet is quiet'. cc;
                 closed = λ out quiet. cc;
                 alone = λ out. (root_held, refl);
-                ahead = λ quiet out. subst (λ x. (Some u ≡ Some (root_in h.size x))
-                    × (c.top < level_at x (root_in h.size x))) (sym seen) (
-                      ap Some (sym gr.root_is),
-                      (let shown = r'.tree.shown_top in let new =
-                          ap (level_at end) gr.root_is ∙ gr.new_level in omega arith),
-                    );
+                ahead = λ quiet out. rw seen (
+                  ap Some (sym gr.root_is),
+                  (let shown = r'.tree.shown_top in let new =
+                      ap (level_at end) gr.root_is ∙ gr.new_level in omega arith),
+                );
                 wrote = λ quiet out. subst
                     (λ x. Each (λ write. IsWordOf (root_in h.size x) write.0) writes)
                     (sym seen) written_new;
                 within = λ inside goes same. cc;
                 taken = λ v mine. cc;
                 hung = λ v mine. cc;
-                leads = λ state shows. subst (λ x. ShowsState (with_node c u 0) x state) (sym seen)
+                leads = λ state shows. rw seen
                     (grown_state h.size c z end u key node r'.tree gr un fit linked same_level
                     low_is some state shows);
                 pending = refl;
@@ -553,14 +545,12 @@ growth_right h args = record { right = grow }
             )
               where
                 out_locals : TreeLocals
-                out_locals = record {
+                out_locals = record k {
                   fresh = None;
                   hanging = None;
-                  pending = (root_cell h, u) ∷ new_writes u (level + 1) 0 0
-                      ((0, root) ∷ (key, node) ∷ []);
+                  pending = (root_cell h, u) ∷
+                      new_writes u (level + 1) 0 0 ((0, root) ∷ (key, node) ∷ []);
                   out = true;
-                  called = k.called;
-                  answered = k.answered;
                 }
 
                 end : Memory
@@ -573,9 +563,7 @@ growth_right h args = record { right = grow }
                     ((0, root) ∷ (key, node) ∷ [])) z) z
                     ≡ with_cell (written
                     (new_writes u (level + 1) 0 0 ((0, root) ∷ (key, node) ∷ [])) z) (12 * h.size) u
-                seen = ap (λ b. cond b
-                    (written ((root_cell h, u) ∷ new_writes u (level + 1) 0 0
-                    ((0, root) ∷ (key, node) ∷ [])) z) z) (same_number (root_cell h))
+                seen = cc (same_number (root_cell h))
 
                 unseen_c : OwnsUnseen h k' c z
                 unseen_c = unseen_stays h s k' b y c z unseen' r'
@@ -592,12 +580,8 @@ growth_right h args = record { right = grow }
                 root_is : root_in h.size z ≡ root
                 root_is = (r'.root root_held).0 ∙ (r.root root_held).0 ∙ is
 
-                root_linked : g.linked root ≡ true
-                root_linked = ap g.linked (sym is) ∙ tree.root_linked
-
                 root_level : level_at z root ≡ level
-                root_level = r'.grows.level root (r.grows.linked root root_linked)
-                    ∙ r.grows.level root root_linked ∙ level_is
+                root_level = search arith
 
                 same_level : level_at z node ≡ level_at z (root_in h.size z)
                 same_level = r'.grows.level node (unseen'.hanging node up.hanging).0 ∙ up'.level_is
@@ -616,26 +600,15 @@ growth_right h args = record { right = grow }
                 gr = grown_stands h.size z u level key node root u_low root_is root_level
 
                 written_new : Each (λ write. IsWordOf (root_in h.size end) write.0) writes
-                written_new = subst (λ n. Each (λ write. IsWordOf n write.0) writes)
-                    (sym gr.root_is) (
+                written_new =
+                    grind (
+                      arith,
+                      gr.root_is,
                       word_of 9 (omega arith),
-                      (
-                        word_of 5 (omega arith),
-                        (
-                          word_of 8 (omega arith),
-                          (
-                            word_of 4 (omega arith),
-                            (
-                              word_of 3 (omega arith),
-                              (
-                                word_of 2
-                                    (omega arith),
-                                (word_of 1 (omega arith), (word_of 0 (omega arith), tt)),
-                              ),
-                            ),
-                          ),
-                        ),
-                      ),
+                      word_of 5 (omega arith),
+                      word_of 8 (omega arith),
+                      word_of 4 (omega arith),
+                      word_of 3 (omega arith),
                     )
                   where
                     word_of : (place : ℕ) → place < 12 → IsWordOf u (12 * u + place)
@@ -680,14 +653,15 @@ growth_right h args = record { right = grow }
                 )
                   where
                     done_locals : TreeLocals
-                    done_locals = record {
+                    done_locals = record k {
                       fresh = None;
                       hanging = None;
-                      pending = (root_cell h, u) ∷ new_writes u (level + 1) 0 0
-                          ((0, root) ∷ (key, node) ∷ []);
-                      out = false;
-                      called = k.called;
-                      answered = k.answered;
+                      pending = (
+                        root_cell h,
+                        u,
+                      ) ∷ new_writes u (level + 1) 0 0 ((0, root) ∷ (key, node) ∷ []);
+                      out =
+                          false;
                     }
 
             block : Inside h k' b y (root_lock h) []

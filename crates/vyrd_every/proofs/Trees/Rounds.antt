@@ -1,7 +1,7 @@
 -- The rounds of an ascent, where a new root does right.
 use Rattle.std.proofs.Common.{◌≡◌, ℕ, zero, suc, ◌+◌, ◌<◌, ◌≤◌, ◌⊎◌, inl, inr, Bool, true, false}
 use Rattle.std.proofs.Common.{cond, [], ◌∷◌, length, refl, ap, ◌∙◌, sym, subst, arith}
-use Rattle.std.specs.Prelude.{◌||◌, nat_lt, nat_le}
+use Rattle.std.specs.Prelude.{nat_lt, nat_le}
 use Rattle.vyrd_base.specs.declared.header.Header.{Header}
 use Rattle.vyrd_base.specs.declared.subject.Method.TheVariants.{Tree as OfTree}
 use Rattle.vyrd_base.specs.declared.tree.TreeMethod.TheVariants.{Insert}
@@ -73,10 +73,9 @@ arrived_right h args k g m level key node n next ab rounds =
 
     by_room : (4 ≤ length (entries_at m n)) ⊎ (length (entries_at m n) < 4)
         → Goal (nat_lt (length (entries_at m n)) 4) false
-    by_room (inl more) = subst (λ b. Goal b false)
-        (sym (isnt_below (length (entries_at m n)) 4 more))
+    by_room (inl more) = rw (isnt_below (length (entries_at m n)) 4 more)
         (full_above h args k g m level key node n next ab (omega (arith, more, few)) rounds)
-    by_room (inr less) = subst (λ b. Goal b false) (sym (is_below (length (entries_at m n)) 4 less))
+    by_room (inr less) = rw (is_below (length (entries_at m n)) 4 less)
         (room_right h args k g m level key node n ab less)
 
 -- one round
@@ -107,7 +106,7 @@ round_right h args next growth rounds = record { right = begin }
         s = holding (root_lock h ∷ []) (OfTree Insert) true false
 
         root_held : holds s (root_lock h) ≡ true
-        root_held = ap (λ b. b || false) (same_number (root_lock h))
+        root_held = cc (same_number (root_lock h))
 
         walk : ℕ → Script
         walk root = walk_from h Correct key (level + 1) h.size root (returns 1)
@@ -128,9 +127,7 @@ round_right h args next growth rounds = record { right = begin }
             → Ascending k b y (insert_of args) level key node
             → y (root_cell h) ≡ root → TreeRight h s k b y (by_root root)
         rooted b y root tree unseen up is =
-            subst (λ t. TreeRight h s k b y
-            (cond t (step (Load (level_cell root)) (by_top root)) (unlock_root h (returns 1))))
-            (sym (is_below root h.size (linked_low h.size b y tree root linked)))
+            rw (is_below root h.size (linked_low h.size b y tree root linked))
             (tree_load h s k b y (level_cell root) (by_top root) tree unseen
             (inl (record {
               node = root;

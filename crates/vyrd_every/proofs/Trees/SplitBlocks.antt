@@ -30,10 +30,9 @@ use Rattle.vyrd_tree.specs.Laws.Alone.WalkArrives.{loaded_at}
 use Rattle.vyrd_every.proofs.Acts.{never}
 use Rattle.vyrd_every.specs.Locals.{written}
 use Rattle.vyrd_every.specs.Trees.Shapes.{Shape, IsLinked, Hangs}
-use Rattle.vyrd_every.specs.Trees.States.{ShowsState}
 use Rattle.vyrd_every.specs.Trees.Others.{Grows}
 use Rattle.vyrd_every.specs.Trees.Locals.{TreeLocals}
-use Rattle.vyrd_every.specs.Trees.Others.{TreeRely, TreeLeaves}
+use Rattle.vyrd_every.specs.Trees.Others.{TreeLeaves}
 use Rattle.vyrd_every.proofs.Trees.Parts.{OwnsUnseen, unseen_stays, tree_rely_more, Changeless}
 use Rattle.vyrd_every.proofs.Trees.Parts.{changeless}
 use Rattle.vyrd_every.proofs.Trees.Walks.{AtNode}
@@ -97,16 +96,11 @@ new_stands m u level bound right xs two = record {
 
     not_at : (cell : ℕ) → (cell < 12 * u) ⊎ (12 * u + 12 ≤ cell) → (i : ℕ) → i < 12 → cell ≢ 12 * u
         + i
-    not_at cell (inl lt) i low = omega (arith, lt)
-    not_at cell (inr le) i low = omega (arith, le, low)
+    not_at cell e1 i low = search arith
 
     apart : (cell : ℕ) → (cell < 12 * u) ⊎ (12 * u + 12 ≤ cell) → (j : ℕ) → j < 4
         → (cell ≢ 12 * u + (4 + j)) × (cell ≢ 12 * u + (8 + j))
-    apart cell off j low = (
-      not_at cell off (4 + j) (omega (arith, low)),
-      not_at cell off (8 + j)
-          (omega (arith, low)),
-    )
+    apart cell off j low = search arith
 
 -- the writes of a split, the newest first
 abbrev pub split_writes : ℕ → ℕ → ℕ → ℕ → ℕ → ℕ → Entries → List (ℕ × ℕ)
@@ -178,8 +172,7 @@ split_stands size m n u level bound right front back entry n_low u_low other lev
     key = first_key (upper_half (front ++ entry ∷ back))
 
     four : length front + length back ≡ 4
-    four = sym (length_join front back) ∙ sym (ap length before)
-        ∙ length-entries m n 0 (count_at m n) ∙ full
+    four = cc (length_join front back, length-entries m n 0 (count_at m n))
 
     stood : (pre : Entries) × (rest : Entries) × IsLower front back entry pre rest
     stood = lower_stood front back entry four
@@ -205,8 +198,7 @@ split_stands size m n u level bound right front back entry n_low u_low other lev
         (new_writes u level bound right (upper_half (front ++ entry ∷ back)))) m
 
     w' : Written m₂ m₃ n (length front) kept
-    w' = entries_stand m n (length front) kept
-        (new_writes u level bound right (upper_half (front ++ entry ∷ back))) fits
+    w' = search (entries_stand, kept, back, fits, arith)
 
     e₁ : Memory
     e₁ = with_cell m₃ (12 * n + 1) 3
@@ -218,13 +210,10 @@ split_stands size m n u level bound right front back entry n_low u_low other lev
     end = with_cell e₂ (12 * n + 3) u
 
     end_same : (cell : ℕ) → ((i : ℕ) → i < 4 → cell ≢ 12 * n + i) → end cell ≡ m₃ cell
-    end_same cell off = other_cell e₂ (12 * n + 3) u cell (off 3 (omega arith))
-        ∙ other_cell e₁ (12 * n + 2) key cell (off 2 (omega arith))
-        ∙ other_cell m₃ (12 * n + 1) 3 cell (off 1 (omega arith))
+    end_same cell off = search (other_cell, arith)
 
     count_n : count_at end n ≡ 3
-    count_n = other_cell e₂ (12 * n + 3) u (12 * n + 1) (omega arith)
-        ∙ other_cell e₁ (12 * n + 2) key (12 * n + 1) (omega arith) ∙ changed_cell m₃ (12 * n + 1) 3
+    count_n = search (other_cell, changed_cell, arith)
 
     -- cells that are none of the node's
     off_n : (cell : ℕ) → (cell < 12 * n + 1) ⊎ (12 * n + 12 ≤ cell) → end cell ≡ m₂ cell
@@ -242,8 +231,7 @@ split_stands size m n u level bound right front back entry n_low u_low other lev
       where
         one_more : (12 * u + i < 12 * n) ⊎ (12 * n + 12 ≤ 12 * u + i) → (12 * u + i < 12 * n + 1)
             ⊎ (12 * n + 12 ≤ 12 * u + i)
-        one_more (inl lt) = inl (omega arith)
-        one_more (inr le) = inr le
+        one_more e0 = search arith
 
     -- the node's words before its own writes
     at_n : (i : ℕ) → i < 12 → m₂ (12 * n + i) ≡ m (12 * n + i)
@@ -279,19 +267,19 @@ store_in_fresh h method committed k g m n u place value ws later at mine fits lo
       inl
           (record { node = u; place = place; is = refl; low = low; may = inl mine }),
     );
-    grows = subst (λ x. Grows g' m' g' x) (sym same) c.grows;
-    leaves = subst (λ x. TreeLeaves h inside (with_pending k ws) g' m' g' x) (sym same) c.leaves;
+    grows = rw same c.grows;
+    leaves = rw same c.leaves;
     tree = subst (IsLinked h.size g') (sym same) rely.tree;
-    top = λ quiet is quiet'. subst (λ x. g'.top ≡ level_at x (root_in h.size x)) (sym same) is;
+    top = λ quiet is quiet'. rw same is;
     closed = λ out quiet. cc;
     alone = λ out. cc;
     ahead = λ quiet out. cc;
     wrote = λ quiet out. cc;
     within = λ inside goes same. (refl, refl);
     taken = λ x mine. let t = c.taken x mine in
-        (t.0, subst (λ y. x ≤ last_in h.size y) (sym same) t.1, t.2);
-    hung = λ x mine. let t = c.hung x mine in (t.0, subst (λ y. Hangs g' y x) (sym same) t.1, t.2);
-    leads = λ state shows. subst (λ x. ShowsState g' x state) (sym same) shows;
+        (t.0, rw same t.1, t.2);
+    hung = λ x mine. let t = c.hung x mine in (t.0, rw same t.1, t.2);
+    leads = λ state shows. rw same shows;
     pending = refl;
     out = sym not_root;
     called = refl;
@@ -300,8 +288,7 @@ store_in_fresh h method committed k g m n u place value ws later at mine fits lo
   λ g'' m'' rely'. rest g'' m'' (tree_rely_more h s k g g' g'' m m' m'' rely
       (rely_with h (lock_of h n ∷ []) method committed true false k ((12 * u + place, value) ∷ ws)
       g' g'' m' m''
-      (subst (λ x. TreeRely h inside (with_pending k ((12 * u + place, value) ∷ ws)) g' x g'' m'')
-      same rely'))),
+      (rw (← same) rely'))),
 )
   where
     s : Situation
@@ -311,8 +298,7 @@ store_in_fresh h method committed k g m n u place value ws later at mine fits lo
     inside = holding (lock_of h n ∷ []) method committed true
 
     c : Changeless h inside (with_pending k ws) g' m'
-    c = changeless h inside (with_pending k ws) g' m'
-        (unseen_with h k ws g' m' (unseen_stays h s k g m g' m' at.unseen rely))
+    c = search (changeless, unseen_with, unseen_stays, arith)
 
     not_root : (12 * u + place == root_cell h) ≡ false
     not_root = isnt_same (12 * u + place) (root_cell h) (λ e. omega (arith, low, e, fits))
@@ -400,8 +386,7 @@ splits h s k g m m' n u five tree unseen linked held mine sp ha off = record {
         (let fits = linked_low h.size g m tree a of_a in omega (arith, low))
         (one_more a place (off_words a n place (apart a free) low))
         (off_words a u place (not_new a of_a) low);
-    unlinked = λ x was other. ap (λ b. cond b true (g.linked x))
-        (isnt_same x u (λ e. other (mine ∙ sym (ap Some e)))) ∙ was;
+    unlinked = λ x was other. cc (isnt_same x u (λ e. other (mine ∙ sym (ap Some e))));
     used = (let e = last_same in omega arith);
     hanging = λ x of_x other hangs. (
       (λ e. hangs.0 (sym (old_low g.low u (first_key (upper_half five)) x (not_new x of_x)) ∙ e)),
@@ -421,7 +406,7 @@ splits h s k g m m' n u five tree unseen linked held mine sp ha off = record {
   tree = split_linked h.size g m m' n u five tree linked un fit sp ha;
   top = split_top h.size g m m' n u five tree linked un fit sp ha;
   hangs = (
-    ap (λ b. cond b true (g.linked u)) (is_same u u refl),
+    cc (is_same u u refl),
     split_hangs_new h.size g m m' n u
         five tree linked un fit sp ha,
   );
@@ -444,12 +429,11 @@ splits h s k g m m' n u five tree unseen linked held mine sp ha off = record {
         (inr (omega (arith, u_low)))
 
     apart : (a : ℕ) → holds s (lock_of h a) ≡ false → a ≢ n
-    apart a free e = never free (ap (λ x. holds s (lock_of h x)) e ∙ held)
+    apart a free e = never free (cc)
 
     not_new : (a : ℕ) → g.linked a ≡ true → a ≢ u
     not_new a of_a e = never un (sym (ap g.linked e) ∙ of_a)
 
     one_more : (a place : ℕ) → (12 * a + place < 12 * n) ⊎ (12 * n + 12 ≤ 12 * a + place)
         → (12 * a + place < 12 * n + 1) ⊎ (12 * n + 12 ≤ 12 * a + place)
-    one_more a place (inl lt) = inl (omega arith)
-    one_more a place (inr le) = inr le
+    one_more a place e2 = search arith

@@ -1,7 +1,7 @@
 -- Callers see what the log shows, or one block's writes besides: how one more event keeps that.
 use Rattle.std.proofs.Common.{◌≡◌, ℕ, ◌<◌, ◌⊎◌, inl, inr, Bool, true, false, cond, not, List, []}
 use Rattle.std.proofs.Common.{◌∷◌, Some, None, refl, ap, ◌∙◌, sym, subst}
-use Rattle.std.specs.Prelude.{◌==◌, ◌&&◌, ◌||◌, is_some}
+use Rattle.std.specs.Prelude.{◌==◌, is_some}
 use Rattle.std.specs.Option.{option_or}
 use Rattle.std.proofs.lemmas.Bool.{not-true}
 use Rattle.vyrd_base.specs.declared.header.Header.{Header}
@@ -15,7 +15,7 @@ use Rattle.vyrd_memory.specs.Alone.{Memory}
 use Rattle.vyrd_memory.specs.Scripts.{Script}
 use Rattle.vyrd_memory.specs.Soundness.{Situation, holds, observes, may_act, after_act}
 use Rattle.vyrd_memory.proofs.Agreements.{four_true}
-use Rattle.vyrd_tree.specs.Cells.{root_cell, root_lock}
+use Rattle.vyrd_tree.specs.Cells.{root_lock}
 use Rattle.vyrd_every.specs.Locals.{written, pending_after}
 use Rattle.vyrd_every.specs.Trees.Shapes.{Shape}
 use Rattle.vyrd_every.specs.Trees.Locals.{TreeLocals, MayStore}
@@ -69,19 +69,15 @@ same_pending h s k g m (Mark BlockCommit) out inside reaches still = refl
 ends : (h : Header) (s : Situation) (k : TreeLocals) (act : Act) → k.out ≡ true → s.in_block ≡ true
     → may_act h s act ≡ true
     → out_after h s act k.out ≡ false → takes_effect s.in_block k.pending act ≡ k.pending
-ends h s k (Load cell) out inside may over = absurd (never over (ap (λ b. b || false) out))
-ends h s k (Store cell value) out inside may over = absurd
-    (never over (ap (λ b. b || (s.in_block && cell == root_cell h)) out))
-ends h s k (Take lock) out inside may over = absurd (never over (ap (λ b. b || false) out))
-ends h s k (Give lock) out inside may over = absurd (never over (ap (λ b. b || false) out))
-ends h s k Done out inside may over = absurd (never over (ap (λ b. b || false) out))
-ends h s k (Mark (Call method args)) out inside may over = absurd
-    (never over (ap (λ b. b || false) out))
-ends h s k (Mark (Return reply)) out inside may over = absurd
-    (never over (ap (λ b. b || false) out))
-ends h s k (Mark (Write word value)) out inside may over = absurd
-    (never over (ap (λ b. b || false) out))
-ends h s k (Mark Commit) out inside may over = absurd (never over (ap (λ b. b || false) out))
+ends h s k (Load cell) out inside may over = absurd (never over (cc))
+ends h s k (Store cell value) out inside may over = cc
+ends h s k (Take lock) out inside may over = absurd (never over (cc))
+ends h s k (Give lock) out inside may over = absurd (never over (cc))
+ends h s k Done out inside may over = absurd (never over (cc))
+ends h s k (Mark (Call method args)) out inside may over = cc
+ends h s k (Mark (Return reply)) out inside may over = cc
+ends h s k (Mark (Write word value)) out inside may over = cc
+ends h s k (Mark Commit) out inside may over = absurd (never over (cc))
 ends h s k (Mark BlockOpen) out inside may over = absurd
     (never (not-true s.in_block (second_true (is_some s.called) (not s.in_block) may)) inside)
 ends h s k (Mark BlockClose) out inside may over = refl
@@ -163,10 +159,9 @@ ties_step h c s locals g m act rest next g' shown shown' low does may shows with
         → d < h.callers
         → (with_locals locals c next d).out ≡ false
     quiet_now f others d low_d = by_same c d
-        (λ same. subst (λ x. (with_locals locals c next x).out ≡ false) same
-        (ap (λ (k : TreeLocals). k.out) (unseen_own locals c next) ∙ f))
-        (λ other. ap (λ (k : TreeLocals). k.out) (unseen_other locals c d next other)
-        ∙ others d low_d other)
+        (λ same. rw (← same)
+        (cc (unseen_own locals c next)))
+        (λ other. cc (unseen_other locals c d next other, others d low_d other))
 
     none_before : NoneOut h locals g m shown → (b : Bool) → next.out ≡ b → After
     none_before n false f = inl (record {
@@ -181,13 +176,9 @@ ties_step h c s locals g m act rest next g' shown shown' low does may shows with
         inr (record {
           who = c;
           low = low;
-          out = ap (λ (k : TreeLocals). k.out) (unseen_own locals c next) ∙ f;
-          others = λ d low_d other. ap (λ (k : TreeLocals). k.out)
-              (unseen_other locals c d next other) ∙ n.quiet d low_d;
-          same = o.seen ∙ ap (written (pending_after act (locals c).pending))
-              (n.same ∙ sym (shows ∙ ap (λ ws. written ws shown) o.none))
-              ∙ ap (λ ws. written ws shown')
-              (sym (ap (λ (k : TreeLocals). k.pending) (unseen_own locals c next) ∙ does.pending));
+          out = cc (unseen_own locals c next);
+          others = λ d low_d other. cc (unseen_other locals c d next other, n.quiet d low_d);
+          same = cc (o.seen, n.same, o.none, unseen_own locals c next, does.pending);
         })
 
     -- the caller's own block was seen
@@ -201,24 +192,24 @@ ties_step h c s locals g m act rest next g' shown shown' low does may shows with
         inr (record {
           who = c;
           low = low;
-          out = ap (λ (k : TreeLocals). k.out) (unseen_own locals c next) ∙ f;
-          others = λ d low_d other. ap (λ (k : TreeLocals). k.out)
-              (unseen_other locals c d next other) ∙ others d low_d other;
-          same = still_out h s (locals c) g m act out inside does.reaches ∙ same
-              ∙ ap (written (locals c).pending)
-              (sym (shows ∙ ap (λ ws. written ws shown)
-              (no_effect s (locals c).pending act inside goes)))
-              ∙ ap (λ ws. written ws shown')
-              (sym (ap (λ (k : TreeLocals). k.pending) (unseen_own locals c next) ∙ does.pending
-              ∙ same_pending h s (locals c) g m act out inside does.reaches (sym does.out ∙ f)));
+          out = cc (unseen_own locals c next);
+          others = λ d low_d other. cc (unseen_other locals c d next other, others d low_d other);
+          same = cc (
+            still_out h s (locals c) g m act out inside does.reaches,
+            no_effect s (locals
+                c).pending act inside goes,
+            unseen_own locals c next,
+            does.pending,
+            same_pending h s
+                (locals c) g m act out inside does.reaches (sym does.out ∙ f),
+          );
         })
     own_before o out same others false f =
         let inside = within out in
         inl (record {
           quiet = quiet_now f others;
           same = still_out h s (locals c) g m act out inside does.reaches ∙ same
-              ∙ sym (shows ∙ ap (λ ws. written ws shown)
-              (ends h s (locals c) act out inside may (sym does.out ∙ f)));
+              ∙ sym (cc (ends h s (locals c) act out inside may (sym does.out ∙ f)));
           calm = does.closed out f;
         })
 
@@ -251,14 +242,14 @@ ties_step h c s locals g m act rest next g' shown shown' low does may shows with
             by_test : (t : Bool) → (b == a) ≡ t → t ≡ false
             by_test false f = refl
             by_test true f = absurd
-                (never e (ap (λ x. x == b) (sym (same_of b a f)) ∙ same_number b))
+                (never e (cc (same_of b a f, same_number b)))
 
     by_who : (o : OneOut h locals m shown) → (b : Bool) → (o.who == c) ≡ b → After
     by_who o true e =
         let is : o.who ≡ c = same_of o.who c e in
-        own_before o (subst (λ x. (locals x).out ≡ true) is o.out)
-        (subst (λ x. m ≡ written (locals x).pending shown) is o.same)
-        (λ d low_d other. o.others d low_d (ap (λ x. x == d) is ∙ other)) next.out refl
+        own_before o (rw (← is) o.out)
+        (rw (← is) o.same)
+        (λ d low_d other. o.others d low_d (cc)) next.out refl
     by_who o false e = other_before o e next.out refl
 
     by_ties : NoneOut h locals g m shown ⊎ OneOut h locals m shown → After

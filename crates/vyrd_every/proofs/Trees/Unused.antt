@@ -203,22 +203,13 @@ unused_right h method committed lock k g m none found below tree unseen bare at_
     under = step (Load (used_cell h)) by_used
 
     first_held : holds both (used_lock h) ≡ true
-    first_held = ap (λ b. b || ((lock == used_lock h) || false)) (same_number (used_lock h))
+    first_held = cc (same_number (used_lock h))
 
     more : (l : ℕ) → holds s l ≡ true → holds both l ≡ true
-    more l e = or_true (used_lock h == l) ((lock == l) || false) e
-      where
-        or_true : (p q : Bool) → q ≡ true → (p || q) ≡ true
-        or_true true q e = refl
-        or_true false q e = e
+    more l e = search arith
 
     lower : (held : ℕ) → holds s held ≡ true → held < used_lock h
-    lower held e = let same = same_of lock held (or_false (lock == held) e) in
-        omega (arith, same, below)
-      where
-        or_false : (b : Bool) → (b || false) ≡ true → b ≡ true
-        or_false true e = refl
-        or_false false e = e
+    lower held e = search (held, same_of, below, arith)
 
     not_used : (lock == used_lock h) ≡ false
     not_used = isnt_same lock (used_lock h) (λ e. omega (arith, e, below))
@@ -238,9 +229,6 @@ unused_right h method committed lock k g m none found below tree unseen bare at_
         Later locks = (d : Shape) (w : Memory) → TreeRely h (holding locks method committed false) k
             c z d w
             → TreeRight h (holding locks method committed false) k d w later
-
-    some_isnt : (n : ℕ) → ◌≡◌ {A = Option ℕ} None (Some n) → ⊥
-    some_isnt n e = cc
 
     some_same : (p q : ℕ) → ◌≡◌ {A = Option ℕ} (Some p) (Some q) → p ≡ q
     some_same p q e = cc
@@ -282,14 +270,17 @@ unused_right h method committed lock k g m none found below tree unseen bare at_
             ahead = λ quiet out. cc;
             wrote = λ quiet out. cc;
             within = λ inside goes same. cc;
-            taken = λ n mine. subst (λ n. (c.linked n ≡ false) × (n ≤ last_in h.size after)
-                × ((k.fresh ≡ Some n) ⊎ (last_in h.size z < n)))
-                (some_same (used + 1) n mine) (fresh_now, in_use, inr (omega (arith, is)));
+            taken = λ n mine. rw (← some_same (used + 1) n mine) (
+              fresh_now,
+              in_use,
+              inr (omega
+                  (arith, is)),
+            );
             hung = λ n mine. let was = unseen'.hanging n mine in
                 (was.0, nodes_hang h.size c z after r.tree same n was.1, inl mine);
             leads = λ state shows. nodes_state h.size c z after r.tree same state shows;
             pending = refl;
-            out = sym (ap (λ b. b || false) unseen'.quiet);
+            out = sym (cc (unseen'.quiet));
             called = refl;
             answers = refl;
           },
@@ -318,33 +309,22 @@ unused_right h method committed lock k g m none found below tree unseen bare at_
             last_after = changed_cell z (used_cell h) (used + 1)
 
             same : SameNodes h.size z (with_cell z (used_cell h) (used + 1))
-            same = record {
-              words = λ cell low. other_cell z (used_cell h) (used + 1) cell (omega (arith, low));
-              more = omega (arith, is, last_after);
-              fits = omega (arith, last_after, room);
-            }
+            same = grind arith
 
             in_use : used + 1 ≤ last_in h.size (with_cell z (used_cell h) (used + 1))
             in_use = omega (arith, last_after)
 
             fresh_now : c.linked (used + 1) ≡ false
-            fresh_now = by_linked (c.linked (used + 1)) refl
-              where
-                by_linked : (b : Bool) → c.linked (used + 1) ≡ b → b ≡ false
-                by_linked true e = absurd
-                    (let le = r.tree.taken (used + 1) e in omega (arith, is, le))
-                by_linked false e = refl
+            fresh_now = search arith
 
             not_cell : (n place : ℕ) → c.linked n ≡ true → place < 12 → 12 * n + place ≢ used_cell h
-            not_cell n place linked low e =
-                (let fits = linked_low h.size c z r.tree n linked in omega (arith, low, e))
+            not_cell n place linked low e = grind arith
 
             unseen_now : OwnsUnseen h
                 (with_fresh k (used + 1) ((used_cell h, used + 1) ∷ k.pending)) c
                 (with_cell z (used_cell h) (used + 1))
             unseen_now = record {
-              fresh = λ n mine. subst (λ n. (c.linked n ≡ false) × (n ≤ last_in h.size after))
-                  (some_same (used + 1) n mine) (fresh_now, in_use);
+              fresh = λ n mine. rw (← some_same (used + 1) n mine) (fresh_now, in_use);
               hanging = λ n mine. let was = unseen'.hanging n mine in
                   (was.0, nodes_hang h.size c z after r.tree same n was.1);
               quiet = refl;

@@ -3,25 +3,25 @@
 -- gives.
 use Rattle.std.proofs.Common.{◌≡◌, ◌≢◌, ℕ, zero, suc, ◌+◌, ◌*◌, ◌<◌, ◌≤◌, ◌⊎◌, inl, inr, true}
 use Rattle.std.proofs.Common.{false, List, [], ◌∷◌, map, min, refl, ap, ◌∙◌, sym, subst, arith}
-use Rattle.std.specs.Prelude.{◌==◌, ◌||◌, nat_le, flat_map}
+use Rattle.std.specs.Prelude.{◌==◌, ◌||◌, nat_le}
 use Rattle.std.specs.Prelude.{slice_index}
 use Rattle.std.specs.List.{list_any}
 use Rattle.vyrd_base.specs.declared.header.Header.{Header}
 use Rattle.vyrd_base.specs.declared.subject.Subject.TheVariants.{Tree}
 use Rattle.vyrd_base.specs.declared.log.Entry.{Entry}
-use Rattle.vyrd_base.specs.Places.{numbers_from, numbers_below}
+use Rattle.vyrd_base.specs.Places.{numbers_below}
 use Rattle.vyrd_base.specs.Layout.{plain_words, plain_words_of}
 use Rattle.vyrd_base.specs.Amounts.{Amounts, amount_of, collected, given}
 use Rattle.vyrd_base.specs.FirstVersion.{old_effects, old_value_after, old_words_after}
 use Rattle.vyrd_base.specs.Views.{view_of_words, parts_of}
-use Rattle.vyrd_base.specs.Tree.{right_of, entry_parts, node_parts, chain_parts_from, chain_parts}
+use Rattle.vyrd_base.specs.Tree.{right_of, node_parts, chain_parts_from, chain_parts}
 use Rattle.vyrd_base.proofs.TestLaws.{isnt_same, isnt_at_most}
 use Rattle.vyrd_memory.specs.Alone.{Memory}
 use Rattle.vyrd_memory.proofs.NumberLists.{element_below}
 use Rattle.vyrd_memory.proofs.PartSums.{collected-is}
 use Rattle.vyrd_tree.specs.Laws.Alone.Counts.{zero_or, le_or}
-use Rattle.vyrd_tree.specs.Contents.{level_at, count_at, bound_at, Below, right_at, key_at}
-use Rattle.vyrd_tree.specs.Contents.{value_at, last_in, InRange, entries_at, Covers, gives}
+use Rattle.vyrd_tree.specs.Contents.{level_at, count_at, bound_at, Below, right_at}
+use Rattle.vyrd_tree.specs.Contents.{last_in, InRange, entries_at, Covers, gives}
 use Rattle.vyrd_tree.specs.Laws.Alone.Order.{after_of, after_falls, after_few}
 use Rattle.vyrd_tree.specs.Laws.Alone.Entries.{gives_none, each_more}
 use Rattle.vyrd_tree.specs.Laws.Alone.View.{step_ends, step_on}
@@ -98,11 +98,7 @@ pub parts_at : (size : ℕ) (g : Shape) (words : List ℕ) → IsLinked size g (
     → (q n : ℕ) → g.linked n ≡ true
     → given q (node_parts words n) ≡ gives q (entries_at (slice_index words) n)
 parts_at size g words t q n used =
-    ap (λ many. given q
-    (flat_map entry_parts
-    (map (λ j. (key_at (slice_index words) n j, value_at (slice_index words) n j))
-    (numbers_from 0 many))))
-    (least (count_at (slice_index words) n) (t.few n used))
+    cc (least (count_at (slice_index words) n) (t.few n used))
   where
     least : (a : ℕ) → a ≤ 4 → min a 4 ≡ a
     least a le = omega arith

@@ -2,7 +2,7 @@
 -- that it comes to is after
 -- all that it has visited, and levels and lows of linked nodes never change.
 use Rattle.std.proofs.Common.{◌≡◌, ◌≢◌, ℕ, zero, suc, ◌+◌, ◌*◌, ◌<◌, ◌≤◌, ◌⊎◌, inl, inr, Bool, true}
-use Rattle.std.proofs.Common.{false, cond, min, List, [], ◌∷◌, map, refl, ap, ◌∙◌, sym, subst}
+use Rattle.std.proofs.Common.{false, cond, min, List, [], ◌∷◌, map, refl, ap, sym, subst}
 use Rattle.std.proofs.Common.{arith}
 use Rattle.std.specs.Prelude.{◌==◌, ◌||◌, nat_lt}
 use Rattle.vyrd_base.specs.declared.header.Header.{Header}
@@ -17,7 +17,7 @@ use Rattle.vyrd_memory.specs.Soundness.{Situation, holds}
 use Rattle.vyrd_tree.specs.Cells.{level_cell, count_cell, bound_cell, right_cell, value_cell}
 use Rattle.vyrd_tree.specs.Cells.{lock_of, unlock_node}
 use Rattle.vyrd_tree.specs.Procedures.Walk.{Arrived, load_keys, load_values, is_past, child_place}
-use Rattle.vyrd_tree.specs.Procedures.Walk.{pass_on, visit_node, walk_from}
+use Rattle.vyrd_tree.specs.Procedures.Walk.{pass_on, walk_from}
 use Rattle.vyrd_tree.specs.Laws.Sound.Acts.{holding}
 use Rattle.vyrd_tree.specs.Laws.Alone.Counts.{passing, passing_less, passing_most, zero_or, le_or}
 use Rattle.vyrd_tree.specs.Contents.{level_at, count_at, bound_at, right_at, key_at, value_at}
@@ -45,36 +45,15 @@ pub record Walking (size : ℕ) (g : Shape) (m : Memory) (key toward left n : �
   pub behind : (x : ℕ) → visited x ≡ true → (g.linked x ≡ true) × IsAfter m g.low x n
   pub enough : size ≤ left + passing visited (numbers_from 0 size)
 
--- a node after another that others' acts keep so
-after_stays : (g g' : Shape) (m m' : Memory) (x n : ℕ) → Grows g m g' m' → g.linked x ≡ true
-    → g.linked n ≡ true → IsAfter m g.low x n
-    → IsAfter m' g'.low x n
-after_stays g g' m m' x n grows of_x of_n (inl lt) =
-    inl (omega (arith, lt, grows.level x of_x, grows.level n of_n))
-after_stays g g' m m' x n grows of_x of_n (inr both) = inr (
-  grows.level n of_n ∙ both.0 ∙ sym (grows.level x of_x),
-  (let lt = both.1 in let at_x = grows.low x of_x in let at_n = grows.low n of_n in omega arith),
-)
-
 walking_stays : (size : ℕ) (g g' : Shape) (m m' : Memory) (key toward left n : ℕ)
     (visited : ℕ → Bool) → Grows g m g' m'
     → Walking size g m key toward left n visited → Walking size g' m' key toward left n visited
-walking_stays size g g' m m' key toward left n visited grows w = record {
-  linked = grows.linked n w.linked;
-  from = (let from = w.from in let low = grows.low n w.linked in omega arith);
-  high = (let high = w.high in let level = grows.level n w.linked in omega arith);
-  behind = λ x seen. let was = w.behind x seen in
-      (grows.linked x was.0, after_stays g g' m m' x n grows was.0 w.linked was.1);
-  enough = w.enough;
-}
+walking_stays size g g' m m' key toward left n visited grows w =
+    grind (arith, grows.linked n w.linked, w.enough)
 
 after_more : (m : Memory) (low : ℕ → ℕ) (x n next : ℕ) → IsAfter m low x n → IsAfter m low n next
     → IsAfter m low x next
-after_more m low x n next (inl one) (inl two) = inl (omega (arith, one, two))
-after_more m low x n next (inl one) (inr two) = inl (let same = two.0 in omega (arith, one))
-after_more m low x n next (inr one) (inl two) = inl (let same = one.0 in omega (arith, two))
-after_more m low x n next (inr one) (inr two) =
-    inr (two.0 ∙ one.0, let first = one.1 in let second = two.1 in omega arith)
+after_more m low x n next e5 e6 = grind arith
 
 not_after_itself : (m : Memory) (low : ℕ → ℕ) (n : ℕ) → IsAfter m low n n → ⊥
 not_after_itself m low n (inl lt) = omega (arith, lt)
@@ -83,11 +62,7 @@ not_after_itself m low n (inr both) = let lt = both.1 in omega arith
 not_visited : (size : ℕ) (g : Shape) (m : Memory) (key toward left n : ℕ) (visited : ℕ → Bool)
     → Walking size g m key toward left n visited
     → visited n ≡ false
-not_visited size g m key toward left n visited w = by_test (visited n) refl
-  where
-    by_test : (b : Bool) → visited n ≡ b → b ≡ false
-    by_test true e = absurd (not_after_itself m g.low n (w.behind n e).1)
-    by_test false e = refl
+not_visited size g m key toward left n visited w = grind (arith, left, not_after_itself)
 
 -- what the walk has visited, with this node
 abbrev pub and_node : ℕ → (ℕ → Bool) → ℕ → Bool
@@ -105,23 +80,18 @@ walking_on size g m key toward left n next visited fits w linked from high after
   high = high;
   behind = λ x seen. by_test x (x == n) refl seen;
   enough = (let more = passing_less visited (and_node n visited) 0 size n
-      (λ i lo hi e. ap (λ b. i == n || b) e ∙ or_true (i == n)) (omega arith) (omega (arith, fits))
+      (λ i lo hi e. cc (or_true (i == n))) (omega arith) (omega (arith, fits))
       (not_visited size g m key toward (suc left) n visited w)
-      (ap (λ b. b || visited n) (same_number n)) in
+      (cc (same_number n)) in
       let enough = w.enough in omega arith);
 }
   where
     or_true : (b : Bool) → (b || true) ≡ true
-    or_true true = refl
-    or_true false = refl
+    or_true b = search arith
 
     by_test : (x : ℕ) → (b : Bool) → (x == n) ≡ b → (b || visited x) ≡ true → (g.linked x ≡ true)
         × IsAfter m g.low x next
-    by_test x true e seen =
-        let at : x ≡ n = same_of x n e in
-        subst (λ y. (g.linked y ≡ true) × IsAfter m g.low y next) (sym at) (w.linked, after)
-    by_test x false e seen = let was = w.behind x seen in
-        (was.0, after_more m g.low x n next was.1 after)
+    by_test x b e seen = search (same_of, after, after_more, arith)
 
 -- while a walk is somewhere, it has a visit left
 some_left : (size : ℕ) (g : Shape) (m : Memory) (key toward n : ℕ) (visited : ℕ → Bool) → n < size
@@ -204,9 +174,7 @@ pub record IsBelow (g : Shape) (m : Memory) (n key child : ℕ) : Type 0 where
 
 inner_of : (size : ℕ) (g : Shape) (m : Memory) (n : ℕ) → IsLinked size g m → g.linked n ≡ true
     → level_at m n ≢ 0 → 2 ≤ count_at m n
-inner_of size g m n tree linked some =
-    subst (λ c. 2 ≤ c) (length-entries m n 0 (count_at m n))
-    ((tree.entries n linked).inner some).two
+inner_of size g m n tree linked some = grind (arith, length-entries)
 
 below_of_node : (size : ℕ) (g : Shape) (m : Memory) (n key : ℕ) → IsLinked size g m → g.linked n
     ≡ true → level_at m n ≢ 0 → g.low n ≤ key
@@ -252,12 +220,15 @@ visit_right : (h : Header) (method : Method) (committed : Bool) (key toward : �
     (right_at m n) lost visit arrived)
 visit_right h method committed key toward k g m n lost visit arrived tree at from high goes_on
     there =
-    subst (λ many. Onward h s k g m
-    (passed h key n (level_at m n) many (bound_at m n) (right_at m n) lost visit arrived
-    (is_past (bound_at m n) key)
-    (nat_lt toward (level_at m n))))
-    (sym (least (count_at m n) (tree.few n at.linked)))
-    (by_bound (zero_or (bound_at m n)) (le_or (bound_at m n) key))
+    grind (
+      arith,
+      least (count_at m n) (tree.few n at.linked),
+      by_bound (zero_or (bound_at m n))
+          (le_or (bound_at m n) key),
+      passed,
+      zero_or,
+      le_or,
+    )
   where
     s : Situation
     s = holding (lock_of h n ∷ []) method committed false
@@ -282,8 +253,7 @@ visit_right h method committed key toward k g m n lost visit arrived tree at fro
     down : toward < level_at m n → Goal false true
     down above =
         keys_right h s k g m n at (count_at m n) 0 after (few (count_at m n) (tree.few n at.linked))
-        (subst (λ b. Onward h s k g m (cond b (unlock_node h n lost) onward))
-        (sym (isnt_same (count_at m n) 0 (omega (arith, two))))
+        (rw (isnt_same (count_at m n) 0 (omega (arith, two)))
         (load_node h s k g m n (8 + place) (λ child. unlock_node h n (visit child)) at
         (place_low place (count_at m n) placed (tree.few n at.linked))
         (leave (value_at m n place) (goes_on (value_at m n place) child.linked child.from
@@ -352,8 +322,7 @@ visit_right h method committed key toward k g m n lost visit arrived tree at fro
 
     by_level : Below key (bound_at m n) → (level_at m n ≤ toward) ⊎ (toward < level_at m n)
         → Goal false (nat_lt toward (level_at m n))
-    by_level below (inl le) = subst (Goal false) (sym (isnt_below toward (level_at m n) le))
-        (here (omega (arith, high, le)) below)
+    by_level below (inl le) = grind (arith, isnt_below, here, below)
     by_level below (inr above) = subst (Goal false) (sym (is_below toward (level_at m n) above))
         (down above)
 
@@ -369,16 +338,14 @@ visit_right h method committed key toward k g m n lost visit arrived tree at fro
 
     inside : Below key (bound_at m n) → Goal (is_past (bound_at m n) key)
         (nat_lt toward (level_at m n))
-    inside below = subst (λ a. Goal a (nat_lt toward (level_at m n)))
-        (sym (not_past (bound_at m n) key below))
+    inside below = rw (not_past (bound_at m n) key below)
         (by_level below (le_or (level_at m n) toward))
 
     by_bound : (bound_at m n ≡ 0) ⊎ (bound_at m n ≢ 0) → (bound_at m n ≤ key) ⊎ (key < bound_at m n)
         → Goal (is_past (bound_at m n) key) (nat_lt toward (level_at m n))
     by_bound (inl none) place = inside (λ some. absurd (some none))
     by_bound (inr some) (inr lt) = inside (λ some. lt)
-    by_bound (inr some) (inl le) = subst (λ a. Goal a (nat_lt toward (level_at m n)))
-        (sym (past (bound_at m n) key some le)) (right some le)
+    by_bound (inr some) (inl le) = rw (past (bound_at m n) key some le) (right some le)
 
 -- Where a walk arrives: at the node of its level that has the key in its range, with the lock held
 -- and the node loaded as it
@@ -474,37 +441,22 @@ walk_right h method committed key toward k g m lost arrived unseen there (suc le
         here = walking_stays h.size g' a m' x key toward (suc left) n visited taken.grows w
 
         at : AtNode h s k a x n
-        at = record {
-          linked = here.linked;
-          held = ap (λ b. b || false) (same_number (lock_of h n));
-          out = refl;
-          unseen = unseen_stays h free k g m a x unseen begun;
-        }
+        at =
+            grind (
+              arith,
+              here.linked,
+              same_number (lock_of h n),
+              unseen_stays h free k g m a x
+                  unseen begun,
+            )
 
         same : TreeRely h s k g' m' a x → TreeRely h s k a x a x
-        same r = record {
-          grows = record {
-            linked = λ n l. l;
-            low = λ n l. refl;
-            level = λ n l. refl;
-            top = omega arith;
-          };
-          held = λ n place linked held low. refl;
-          fresh = λ n mine. refl;
-          used = λ n mine le. le;
-          hanging = λ n mine hangs. hangs;
-          root = λ held. (refl, refl);
-          count = λ held. refl;
-          tree = r.tree;
-          calm = r.calm;
-        }
+        same r = grind (arith, r.tree, r.calm)
 
     visits : Later → TreeRight h free k g' m'
         (walk_from h Correct key toward (suc left) n lost arrived)
     visits later =
-        subst (λ b. TreeRight h free k g' m'
-        (cond b (visit_node h Correct key toward n lost visit arrived) lost))
-        (sym (is_below n h.size fits))
+        rw (is_below n h.size fits)
         (tree_take h free k g' m' (lock_of h n)
         (step (Load (level_cell n))
         (λ level. step (Load (count_cell n)) (λ count. step (Load (bound_cell n)) (λ bound.

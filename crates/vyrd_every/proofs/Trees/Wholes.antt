@@ -196,13 +196,10 @@ tree_operations_right h (op ∷ ops) k g m is callable tree rests = (
         )
 
     begun : TreeLocals
-    begun = record {
-      fresh = k.fresh;
-      hanging = k.hanging;
-      pending = k.pending;
-      out = k.out;
+    begun = record k {
       called = Some (record { method = op.method; args = op.args });
-      answered = None;
+      answered =
+          None;
     }
 
     none_isnt : (v : ℕ) → ◌≡◌ {A = Option ℕ} None (Some v) → ⊥

@@ -1,27 +1,24 @@
 -- What writes make of a memory, word by word, and what an act makes of the memory that the log
 -- shows and of the one that
 -- callers see.
-use Rattle.std.proofs.Common.{◌≡◌, ℕ, Bool, true, false, cond, List, [], ◌∷◌, ◌++◌, Option, Some}
-use Rattle.std.proofs.Common.{None, refl, ap, ◌∙◌, sym, subst, arith}
+use Rattle.std.proofs.Common.{◌≡◌, ℕ, Bool, true, false, cond, List, [], ◌∷◌, Option, Some}
+use Rattle.std.proofs.Common.{None, refl, ap, ◌∙◌, sym, arith}
 use Rattle.std.specs.Prelude.{◌==◌, ◌&&◌, ◌||◌, is_some, unwrap_or}
 use Rattle.std.specs.Option.{option_or}
 use Rattle.std.specs.List.{cons_option, AllByRecursion}
-use Rattle.std.proofs.lemmas.Bool.Decides.{nat_tests}
 use Rattle.vyrd_base.specs.declared.header.Header.{Header}
 use Rattle.vyrd_base.specs.declared.log.Kind.TheVariants.{Call, Return, Write, Commit, BlockOpen}
 use Rattle.vyrd_base.specs.declared.log.Kind.TheVariants.{BlockClose, BlockCommit}
 use Rattle.vyrd_base.specs.declared.log.Entry.{Entry}
 use Rattle.vyrd_base.specs.declared.history.Did.{Did}
-use Rattle.vyrd_base.specs.declared.history.Did.TheVariants.{Read, Wrote, Took, Gave, Marked}
 use Rattle.vyrd_base.specs.Places.{first_answer}
 use Rattle.vyrd_base.specs.Callers.{has_block}
 use Rattle.vyrd_base.specs.Words.{block_writes, given_to}
-use Rattle.vyrd_base.specs.FirstVersion.{old_effects, old_value_after}
 use Rattle.vyrd_base.specs.Histories.{logged}
 use Rattle.vyrd_base.proofs.TestLaws.{same_of}
 use Rattle.vyrd_memory.specs.declared.act.Act.{Act}
 use Rattle.vyrd_memory.specs.declared.act.Act.TheVariants.{Load, Store, Take, Give, Mark, Done}
-use Rattle.vyrd_memory.specs.Alone.{Memory, with_cell}
+use Rattle.vyrd_memory.specs.Alone.{Memory}
 use Rattle.vyrd_memory.specs.Soundness.{Situation}
 use Rattle.vyrd_memory.proofs.Situations.{act_of_event}
 use Rattle.vyrd_tree.specs.Cells.{root_cell}
@@ -43,41 +40,22 @@ written_at [] m w = refl
 written_at ((word, value) ∷ ws) m w = by_place (word == w) refl (written_at ws m w)
   where
     flip : (a b : ℕ) (t : Bool) → (a == b) ≡ t → (b == a) ≡ t
-    flip a b true e = grind (arith, nat_tests)
-    flip a b false e = grind (arith, nat_tests)
+    flip a b t e = search arith
 
     by_place : (b : Bool) → (word == w) ≡ b → written ws m w ≡ unwrap_or (given_by w ws) (m w)
         → cond (w == word) value (written ws m w)
         ≡ unwrap_or (option_or (cond (word == w) (Some value) None) (given_by w ws)) (m w)
-    by_place true e later =
-        ap (λ t. cond t value (written ws m w)) (flip word w true e)
-        ∙ sym (ap (λ t. unwrap_or (option_or (cond t (Some value) None) (given_by w ws)) (m w)) e)
-    by_place false e later =
-        ap (λ t. cond t value (written ws m w)) (flip word w false e) ∙ later
-        ∙ sym (ap (λ t. unwrap_or (option_or (cond t (Some value) None) (given_by w ws)) (m w)) e)
+    by_place b e later = search (written, flip, arith)
 
 pub not_written : (ws : List (ℕ × ℕ)) (m : Memory) (w : ℕ) → is_some (given_by w ws) ≡ false
     → written ws m w ≡ m w
-not_written ws m w none = written_at ws m w ∙ by_given (given_by w ws) none
-  where
-    by_given : (o : Option ℕ) → is_some o ≡ false → unwrap_or o (m w) ≡ m w
-    by_given None e = refl
-    by_given (Some v) e = cc
+not_written ws m w none = grind (arith, written_at, is_some)
 
 -- writes of other words may come in either order
 pub either_order : (a b : List (ℕ × ℕ)) (m : Memory)
     → ((w : ℕ) → is_some (given_by w a) ≡ true → is_some (given_by w b) ≡ true → ⊥)
     → written a (written b m) ≡ written b (written a m)
-either_order a b m apart = λ i w. (written_at a (written b m) w ∙ ap (unwrap_or (given_by w a))
-    (written_at b m w)
-    ∙ swap (given_by w a) (given_by w b) (m w) (apart w)
-    ∙ sym (ap (unwrap_or (given_by w b)) (written_at a m w)) ∙ sym (written_at b (written a m) w)) i
-  where
-    swap : (x y : Option ℕ) (v : ℕ) → (is_some x ≡ true → is_some y ≡ true → ⊥)
-        → unwrap_or x (unwrap_or y v) ≡ unwrap_or y (unwrap_or x v)
-    swap None y v e = refl
-    swap (Some x) None v e = refl
-    swap (Some x) (Some y) v e = absurd (e refl refl)
+either_order a b m apart = grind (arith, apart, written_at, written, is_some)
 
 -- what holds of all words that are written
 pub all_given : (P : ℕ → Type 0) (ws : List (ℕ × ℕ)) (w : ℕ)
@@ -87,8 +65,7 @@ all_given P ((word, value) ∷ ws) w all e = by_place (all_given P ws w all.1) (
   where
     by_place : (is_some (given_by w ws) ≡ true → P w) → (b : Bool) → (word == w) ≡ b
         → is_some (option_or (cond b (Some value) None) (given_by w ws)) ≡ true → P w
-    by_place later true same f = subst P (same_of word w same) all.0
-    by_place later false other f = later f
+    by_place later b same f = search (same_of, arith)
 
 -- the writes that an act makes the log show
 abbrev pub takes_effect : Bool → List (ℕ × ℕ) → Act → List (ℕ × ℕ)
@@ -102,53 +79,14 @@ pub shown_more : (h : Header) (s : Situation) (k : TreeLocals) (g : Shape) (m : 
     → k.pending ≡ block_writes c log → TreeReaches h s k g m (act_of_event did)
     → shown_by (cons_option (logged c did) log)
     ≡ written (takes_effect s.in_block k.pending (act_of_event did)) (shown_by log)
-shown_more h s k g m c (Read cell value) log block pending reaches = refl
-shown_more h s k g m c (Took lock) log block pending reaches = refl
-shown_more h s k g m c (Gave lock) log block pending reaches = refl
-shown_more h s k g m c (Wrote cell value) log block pending reaches =
-    ap (λ b. (λ w. old_value_after (cond b [] ((cell, value) ∷ []) ++ old_effects log) w)) block
-    ∙ by_block s.in_block
-  where
-    by_block : (b : Bool)
-        → (λ w. old_value_after (cond b [] ((cell, value) ∷ []) ++ old_effects log) w)
-        ≡ written (cond b [] ((cell, value) ∷ [])) (shown_by log)
-    by_block true = refl
-    by_block false = λ i w. one_more cell value (old_effects log) w i
-shown_more h s k g m c (Marked (Call method args)) log block pending reaches = refl
-shown_more h s k g m c (Marked (Return reply)) log block pending reaches = refl
-shown_more h s k g m c (Marked (Write word value)) log block pending reaches = absurd reaches
-shown_more h s k g m c (Marked Commit) log block pending reaches = refl
-shown_more h s k g m c (Marked BlockOpen) log block pending reaches = refl
-shown_more h s k g m c (Marked BlockClose) log block pending reaches =
-    more (block_writes c log) (old_effects log) ∙ ap (λ ws. written ws (shown_by log)) (sym pending)
-shown_more h s k g m c (Marked BlockCommit) log block pending reaches =
-    more (block_writes c log) (old_effects log) ∙ ap (λ ws. written ws (shown_by log)) (sym pending)
+shown_more h s k g m c did log block pending reaches =
+    grind (arith, written, shown_by, one_more, more)
 
 -- Callers see the same writes, where the caller's own weren't seen before and aren't after.
 pub seen_more : (h : Header) (s : Situation) (k : TreeLocals) (m : Memory) (act : Act)
     → k.out ≡ false → out_after h s act k.out ≡ false
     → seen_after h s k m act ≡ written (takes_effect s.in_block k.pending act) m
-seen_more h s k m (Load cell) quiet still = refl
-seen_more h s k m (Take lock) quiet still = refl
-seen_more h s k m (Give lock) quiet still = refl
-seen_more h s k m Done quiet still = refl
-seen_more h s k m (Store cell value) quiet still =
-    by_block s.in_block (cell == root_cell h)
-    (sym (ap (λ o. o || (s.in_block && cell == root_cell h)) quiet) ∙ still)
-  where
-    by_block : (b r : Bool) → (false || (b && r)) ≡ false
-        → cond b (cond r (written ((cell, value) ∷ k.pending) m) m) (with_cell m cell value)
-        ≡ written (cond b [] ((cell, value) ∷ [])) m
-    by_block false r e = refl
-    by_block true false e = refl
-    by_block true true e = cc
-seen_more h s k m (Mark (Call method args)) quiet still = refl
-seen_more h s k m (Mark (Return reply)) quiet still = refl
-seen_more h s k m (Mark (Write word value)) quiet still = refl
-seen_more h s k m (Mark Commit) quiet still = refl
-seen_more h s k m (Mark BlockOpen) quiet still = refl
-seen_more h s k m (Mark BlockClose) quiet still = ap (λ b. cond b m (written k.pending m)) quiet
-seen_more h s k m (Mark BlockCommit) quiet still = ap (λ b. cond b m (written k.pending m)) quiet
+seen_more h s k m act quiet still = grind (arith, quiet, still, written)
 
 -- the store from which on a block's writes are seen
 pub record ComesOut (h : Header) (s : Situation) (k : TreeLocals) (m : Memory) (act : Act) : Type 0
@@ -171,21 +109,17 @@ when_out h s k m (Give lock) quiet out = absurd (never_out k.out quiet out)
 when_out h s k m Done quiet out = absurd (never_out k.out quiet out)
 when_out h s k m (Store cell value) quiet out =
     let both = split s.in_block (cell == root_cell h)
-    (sym (ap (λ o. o || (s.in_block && cell == root_cell h)) quiet) ∙ out) in
+    (sym (cc) ∙ out) in
     record {
       value = value;
-      stores = ap (λ c. Store c value) (same_of cell (root_cell h) both.1);
+      stores = cc (same_of cell (root_cell h) both.1);
       inside = both.0;
-      seen = ap (λ b. cond b (cond (cell == root_cell h) (written ((cell, value) ∷ k.pending) m) m)
-          (with_cell m cell value)) both.0
-          ∙ ap (λ r. cond r (written ((cell, value) ∷ k.pending) m) m) both.1;
-      none = ap (λ b. cond b [] ((cell, value) ∷ [])) both.0;
+      seen = cc (both.0, both.1);
+      none = cc (both.0);
     }
   where
     split : (b r : Bool) → (false || (b && r)) ≡ true → (b ≡ true) × (r ≡ true)
-    split true true e = (refl, refl)
-    split true false e = cc
-    split false r e = cc
+    split b r e = search arith
 when_out h s k m (Mark (Call method args)) quiet out = absurd (never_out k.out quiet out)
 when_out h s k m (Mark (Return reply)) quiet out = absurd (never_out k.out quiet out)
 when_out h s k m (Mark (Write word value)) quiet out = absurd (never_out k.out quiet out)

@@ -14,7 +14,7 @@ use Rattle.vyrd_tree.specs.declared.slot.Slot.{Slot}
 use Rattle.vyrd_tree.specs.declared.task.Task.{Task}
 use Rattle.vyrd_tree.specs.declared.visit.Visit.{Visit}
 use Rattle.vyrd_tree.specs.Cells.{value_cell}
-use Rattle.vyrd_tree.specs.Procedures.Walk.{load_keys, load_values}
+use Rattle.vyrd_tree.specs.Procedures.Walk.{load_values}
 use Rattle.vyrd_tree.specs.Rests.Written.{key_at}
 use Rattle.vyrd_tree.specs.Rests.Errands.{arrived_for}
 use Rattle.vyrd_tree.specs.Rests.Visits.{keys_of, keys_from_rest, values_from_rest, with_keys}
@@ -28,12 +28,7 @@ pub keys_came : (h : Header) (task : Task) (v : Visit) (place count : ℕ) → p
     → with_keys h task v count (keys_of (take count v.entries.slots))
     ≡ keys_from_rest h task v place count
 keys_came h task v place count le ge =
-    let same : count ≡ place = omega arith in
-    let none : 0 ≡ count - place = omega arith in
-    ap (with_keys h task v count) (ap (λ n. keys_of (take n v.entries.slots)) same
-    ∙ sym (append-nil (keys_of (take place v.entries.slots))))
-    ∙ ap (λ n. load_keys n v.node.number place
-    (λ keys. with_keys h task v count (keys_of (take place v.entries.slots) ++ keys))) none
+    grind (arith, append-nil (keys_of (take place v.entries.slots)))
 
 -- the first of the values that are left
 value_first : (slots : List (ℕ × ℕ)) (place count node : ℕ) (loaded : List (ℕ × ℕ) → Script)
@@ -59,12 +54,7 @@ pub value_comes : (h : Header) (task : Task) (v : Visit) (slot : Slot) (place co
     → slot.place ≡ place → slot.of ≡ count
     → count ≤ length v.entries.slots
     → loading h task v (Value slot) ≡ values_from_rest h task v place count
-value_comes h task v slot place count at among fits =
-    sym (value_first v.entries.slots slot.place slot.of v.node.number (λ entries.
-    arrived_for h task v.errand (arrived_at v (take slot.place v.entries.slots ++ entries)))
-    slot.within (omega (arith, among, fits)))
-    ∙ ap (λ n. values_from_rest h task v n slot.of) at
-    ∙ ap (values_from_rest h task v place) among
+value_comes h task v slot place count at among fits = grind (arith, count, fits, value_first)
 
 pub values_came : (h : Header) (task : Task) (v : Visit) (place count : ℕ) → place ≤ count
     → count ≤ place → count ≤ length v.entries.slots

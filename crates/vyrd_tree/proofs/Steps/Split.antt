@@ -37,16 +37,7 @@ pub parted : (h : Header) (task : Task) (full : Full) (new : ℕ) (upper lower :
     → parting h full new (take 2 upper) (take 3 lower) key word close later ≡ found_for h task
     (need.Split full) new
 parted h task full new upper lower key word close later is_upper is_lower is_key is_word closes
-    follows =
-    ap (λ es. parting h full new es (take 3 lower) key word close later) is_upper
-    ∙ ap (λ es. parting h full new (drop 3 full.five) es key word close later)
-    (ap (take 3) is_lower ∙ take_4 3 full.five (omega arith))
-    ∙ ap (λ n. parting h full new (drop 3 full.five) (take 3 full.five) key n close later) is_word
-    ∙ ap (λ k. parting h full new (drop 3 full.five) (take 3 full.five) key new k later) closes
-    ∙ ap (λ s. parting h full new (drop 3 full.five) (take 3 full.five) key new
-    (close_for full.errand) s) follows
-    ∙ ap (λ k. parting h full new (drop 3 full.five) (take 3 full.five) k new
-    (close_for full.errand) (after_split h task full.errand k new)) is_key
+    follows = cc (take_4 3 full.five (omega arith))
 
 pub next_up : (h : Header) (task : Task) (e : Errand) (a : Ascent) (key : ℕ) (new : Node)
     → e ≡ errand.Ascent a → a.level < 15

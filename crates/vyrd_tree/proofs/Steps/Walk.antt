@@ -33,6 +33,4 @@ comes_in h task e (suc l) number v is_errand is_left is_number low some =
 -- there is no such node, or no visit is left
 pub is_lost : (h : Header) (task : Task) (e : Errand) (left number : ℕ) → h.size ≤ number
     → walk_on h task e left number ≡ lost_for task e
-is_lost h task e zero number high = refl
-is_lost h task e (suc l) number high =
-    ap (λ b. cond b (visit_of h task e l number) (lost_for task e)) (isnt_below number h.size high)
+is_lost h task e left number high = grind (arith, isnt_below)

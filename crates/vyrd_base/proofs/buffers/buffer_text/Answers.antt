@@ -5,9 +5,7 @@ use Rattle.vyrd_base.proofs.BufferLaws.{digit_below, power_below, bad_text}
 use Rattle.vyrd_base.proofs.buffers.buffer_text.Goals as goal
 
 pub returns-then-character-ge-CHARACTER_END : goal.returns-then-character-ge-CHARACTER_END
-returns-then-character-ge-CHARACTER_END c =
-    bad_text (buffer_at c.args.words.now c.args.number) c.loop-i.i c.loop-i-test.true
-    c.if-character-ge-CHARACTER_END.true
+returns-then-character-ge-CHARACTER_END c = search (bad_text, arith)
 
 pub overflow_mul-text : goal.overflow_mul-text
 overflow_mul-text c =

@@ -5,7 +5,7 @@ use Rattle.vyrd_base.specs.Front.{front}
 use Rattle.vyrd_base.specs.Rules.{own}
 use Rattle.vyrd_item_text.specs.ItemText.{items_text}
 use Rattle.vyrd_follow.specs.Following.{followed_items}
-use Rattle.vyrd_explain.specs.Explained.{own_read_as, own_line_of, items_about, own_items_said}
+use Rattle.vyrd_explain.specs.Explained.{own_read_as, own_line_of, own_items_said}
 use Rattle.vyrd_explain.specs.Explaining.{own_limit}
 use Rattle.vyrd_explain.specs.Verdicts.{verdict_items}
 use Rattle.vyrd_explain.proofs.own_text.own_said_text.Goals as goal

@@ -15,13 +15,11 @@ use Rattle.vyrd_follow.proofs.built_in_words.put_items.Goals.{else-is_empty}
 is_none : (left : List (ℕ × ℕ)) (n : ℕ) (b : Bool) → length left ≡ n → b ≡ (n == 0) → b ≡ true
     → left ≡ []
 is_none [] n b count is none = refl
-is_none (x ∷ left) n b count is none =
-    absurd (omega (arith, count, same_of n 0 (sym is ∙ none)))
+is_none (x ∷ left) n b count is none = cc (same_of n 0 (sym is ∙ none))
 
 is_some : (left : List (ℕ × ℕ)) (n : ℕ) (b : Bool) → length left ≡ n → b ≡ (n == 0) → b ≡ false
     → left ≢ []
-is_some left n b count is some = λ none.
-    apart_of n 0 (sym is ∙ some) (sym count ∙ ap length none)
+is_some left n b count is some = search (apart_of, count, arith)
 
 pub loop-key-init : goal.loop-key-init
 loop-key-init c =

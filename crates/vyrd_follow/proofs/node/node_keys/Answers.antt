@@ -6,21 +6,13 @@ use Rattle.vyrd_follow.proofs.NodeKeyLaws.{entries_there, there_then, first_ther
 use Rattle.vyrd_follow.proofs.node.node_keys.Goals as goal
 
 pub loop-j-preserved : goal.loop-j-preserved
-loop-j-preserved c =
-    entries_there c.args.words.now c.args.node c.loop-j.j c.loop-j.keys c.set.new.self
-    c.in_ok-set.ensures.ok c.loop-j.invariant
+loop-j-preserved = grind (arith, entries_there)
 
 pub returns-clause-was : goal.returns-clause-was
-returns-clause-was c =
-    IfOk-weaker c.view.result _ _ (λ keys is. subst (λ s. amount_of s c.args.was ≢ 0) (sym is)
-    (first_there c.loop-j.keys c.set-2.new.self c.set-3.new.self c.args.was 8589934592
-    c.in_ok-set-2.ensures.ok c.in_ok-set-3.ensures.ok)) c.view.ensures
+returns-clause-was = grind (arith, first_there)
 
 pub returns-clause-damage : goal.returns-clause-damage
-returns-clause-damage c =
-    IfOk-weaker c.view.result _ _ (λ keys is. subst (λ s. amount_of s 8589934592 ≢ 0) (sym is)
-    (second_there c.set-2.new.self c.set-3.new.self 8589934592 c.in_ok-set-3.ensures.ok))
-    c.view.ensures
+returns-clause-damage = grind (arith, second_there)
 
 pub returns-clause-entries : goal.returns-clause-entries
 returns-clause-entries c =

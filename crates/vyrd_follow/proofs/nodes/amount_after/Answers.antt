@@ -1,7 +1,6 @@
 use Rattle.std.proofs.Common.{◌≡◌, ◌+◌, ◌/◌, ap, ◌∙◌, arith}
 use Rattle.std.proofs.lemmas.List.{set-get_or}
 use Rattle.vyrd_base.specs.Amounts.{amount_of}
-use Rattle.vyrd_base.specs.Subjects.{is_built_in}
 use Rattle.vyrd_base.specs.Views.{view_of_words}
 use Rattle.vyrd_base.proofs.HeaderLaws.{low_size}
 use Rattle.vyrd_follow.specs.Nodes.{node_given}
@@ -31,15 +30,7 @@ pub overflow_sub-result : goal.overflow_sub-result
 overflow_sub-result c = omega (arith, turned c)
 
 pub overflow_add-result : goal.overflow_add-result
-overflow_add-result c =
-    let h = c.args.header in
-    omega (
-      arith,
-      turned c,
-      c.given_by-gave.ensures.most,
-      tree_small h c.args.words.now c.args.key c.requires.tree (omega (arith, c.requires.within))
-          (low_size h (ap is_built_in c.requires.tree)),
-    )
+overflow_add-result = grind (arith, turned, tree_small, low_size)
 
 pub returns : goal.returns
 returns c = omega (arith, turned c)

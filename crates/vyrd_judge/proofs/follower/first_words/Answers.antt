@@ -1,8 +1,7 @@
-use Rattle.std.proofs.Common.{◌<◌, ◌^◌, length, map, ap, sym, subst, ◌∙◌}
+use Rattle.std.proofs.Common.{◌<◌, ◌^◌, length, ap, sym, subst, ◌∙◌}
 use Rattle.std.specs.Prelude.{All, replicate}
 use Rattle.vyrd_base.specs.Layout.{plain_words}
 use Rattle.vyrd_view.specs.Comparing.{AgreeElsewhere}
-use Rattle.vyrd_view.specs.Known.{IsNew}
 use Rattle.vyrd_words.proofs.StartWords.{start_within, length-words_at_start, small_at_start}
 use Rattle.vyrd_words.proofs.StartWords.{zero_elsewhere}
 use Rattle.vyrd_judge.proofs.follower.first_words.Goals as goal
@@ -25,11 +24,9 @@ pub new-requires-clause-elsewhere : goal.new-requires-clause-elsewhere
 new-requires-clause-elsewhere g c =
     subst (AgreeElsewhere (replicate (plain_words c.args.header) 0) c.args.words.now)
     (sym c.in_ok-changed.ensures)
-    (subst (λ ws. AgreeElsewhere (replicate (plain_words c.args.header) 0) ws
-    (map (λ s. s.word) c.args.start.now)) (sym c.requires.words)
+    (rw c.requires.words
     (zero_elsewhere c.args.header c.args.start.now))
 
 pub new-requires-clause-compared : goal.new-requires-clause-compared
 new-requires-clause-compared g c =
-    subst (λ h. IsNew (plain_words h) (g.S.Compared.Compare.known c.in_ok-compared.compared))
-    c.requires.spec_header c.in_ok-compared.ensures.new
+    rw (← c.requires.spec_header) c.in_ok-compared.ensures.new

@@ -10,8 +10,4 @@ abbrev past : Op
 past = record { method = OfMultiset Insert; args = record { a = 0; b = 0; c = 0 } }
 
 pub loop-op-preserved : goal.loop-op-preserved
-loop-op-preserved c = (
-  sum_more c.args.header.now c.args.ops.now c.loop-op.op-index c.loop-op.sum c.bound-sum.result past
-      c.loop-op.invariant.0 c.bound-sum.ensures.bound c.loop-op-test.true,
-  omega (arith, c.loop-op.invariant.1, c.bound-sum.ensures.small),
-)
+loop-op-preserved c = search (sum_more, past, arith)

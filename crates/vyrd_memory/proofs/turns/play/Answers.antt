@@ -1,4 +1,4 @@
-use Rattle.std.proofs.Common.{◌≡◌, ℕ, ◌+◌, ◌≤◌, ◌^◌, List, ◌∙◌, [], refl, sym, arith, rules}
+use Rattle.std.proofs.Common.{◌≡◌, ℕ, ◌+◌, ◌≤◌, ◌^◌, List, ◌∙◌, [], refl, sym, arith}
 use Rattle.std.specs.Prelude.{length}
 use Rattle.vyrd_base.specs.declared.header.Header.{Header}
 use Rattle.vyrd_base.proofs.HeaderLaws.{few_callers}
@@ -26,27 +26,13 @@ few_machines : {M : Type 0} (h : Header) (machines : List M) → length machines
 few_machines h machines count = omega (arith, count, few_callers h)
 
 pub repeat_all-requires-clause-few : goal.repeat_all-requires-clause-few
-repeat_all-requires-clause-few g c =
-    let low : length c.args.machines.now ≤ 1024 = few_machines c.args.header.now c.args.machines.now
-    c.requires.count in
-    few g.M.Machine.ahead c.args.machines.now (g.S.EventSink.count c.args.sink.now)
-    g.met.M.Machine.few low
-    (g.met.S.EventSink.counted c.args.sink.now [] c.requires.none)
+repeat_all-requires-clause-few = grind (arith, few_machines, few)
 
 pub play_rounds-requires-clause-few : goal.play_rounds-requires-clause-few
-play_rounds-requires-clause-few g c =
-    let low : length c.args.machines.now ≤ 1024 = few_machines c.args.header.now c.args.machines.now
-    c.requires.count in
-    let before = few g.M.Machine.ahead c.args.machines.now (g.S.EventSink.count c.args.sink.now)
-    g.met.M.Machine.few low
-    (g.met.S.EventSink.counted c.args.sink.now [] c.requires.none) in
-    omega (arith, before, c.in_ok-repeat_all.ensures.few)
+play_rounds-requires-clause-few = grind (arith, few_machines, few)
 
 pub play_rounds-requires-clause-callers : goal.play_rounds-requires-clause-callers
-play_rounds-requires-clause-callers g c =
-    let low = few_machines c.args.header.now c.args.machines.now c.requires.count in
-    let same : length c.repeat_all.new.machines ≡ length c.args.machines.now = search rules in
-    omega (arith, low, same)
+play_rounds-requires-clause-callers = grind (arith, few_machines)
 
 pub returns-then-are_done : goal.returns-then-are_done
 returns-then-are_done g c = record {

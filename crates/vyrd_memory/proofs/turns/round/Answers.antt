@@ -1,4 +1,4 @@
-use Rattle.std.proofs.Common.{◌≡◌, ◌≢◌, ℕ, ◌<◌, length, get_or, slice_get, sym, subst}
+use Rattle.std.proofs.Common.{sym, subst}
 use Rattle.vyrd_memory.specs.Unfinished.{LeavesOut}
 use Rattle.vyrd_memory.specs.Showing.{stage}
 use Rattle.vyrd_memory.proofs.UnfinishedLaws.{round_shown, callers_below, still_left_out}
@@ -35,6 +35,4 @@ returns-else-idle-len-clause-left_out g c =
     still_left_out g.M.Machine.script c.args.machines.now c.turn_each.new.machines
     c.args.callers.now.items c.requires.left_out
     c.in_ok-turned.ensures.shown.count
-    (subst (λ cs. (x : ℕ) → ((i : ℕ) → i < length cs → get_or cs i 0 ≢ x)
-    → slice_get c.turn_each.new.machines x ≡ slice_get c.args.machines.now x)
-    c.deref.ensures.value c.in_ok-turned.ensures.others)
+    (rw (← c.deref.ensures.value) c.in_ok-turned.ensures.others)

@@ -4,7 +4,7 @@ use Rattle.std.specs.Prelude.{slice_get, get_or, length, set}
 use Rattle.std.proofs.lemmas.List.{set-get_or, length-set}
 use Rattle.vyrd_base.specs.declared.history.Stamped.{Stamped}
 use Rattle.vyrd_base.proofs.ListLaws.{slice_get-is, slice_get-set_other}
-use Rattle.vyrd_memory.specs.Scripts.{next_act, after_answer}
+use Rattle.vyrd_memory.specs.Scripts.{next_act}
 use Rattle.vyrd_memory.specs.Playing.{HasPlayed, scene, event_in, words_with, words_after_event}
 use Rattle.vyrd_memory.specs.Playing.{IsWithin, IsReady, total}
 use Rattle.vyrd_memory.proofs.PlayLaws.{IsTurn, machine_within, turn_played, no_turn_played}
@@ -44,11 +44,7 @@ unmoved g c history =
     ∙ c.in_default.is in
     let words = c.perform.ensures.words
     ∙ ap (words_after_event c.args.words.now.items c.args.caller) c.in_default.is in
-    subst (λ machines. HasPlayed c.args.header.now g.M.Machine.header_of g.M.Machine.script
-    (c.args.caller ∷ [])
-    (scene c.args.machines.now c.args.words.now.items history)
-    (scene machines c.perform.new.words.items history))
-    (sym (set-get_or c.args.machines.now c.args.caller m))
+    rw (set-get_or c.args.machines.now c.args.caller m)
     (no_turn_played c.args.header.now g.M.Machine.header_of g.M.Machine.script c.args.machines.now
     c.args.caller m c.args.words.now.items c.perform.new.words.items history
     c.requires.ready here (g.met.M.Machine.is_sound m) none words)
@@ -79,31 +75,21 @@ turn_of g c = record {
   sound = g.met.M.Machine.is_sound c.index-machines-caller.result;
   event =
       ap (event_in c.args.words.now.items)
-      (sym (c.wants.ensures ∙ ap (λ m. next_act (g.M.Machine.script m))
-      (sym c.index-machines-caller.is)))
+      (sym (cc (c.wants.ensures, c.index-machines-caller.is)))
       ∙ sym c.perform.ensures.event ∙ c.in-Some.is;
   header = c.took.ensures.header ∙ ap g.M.Machine.header_of (sym c.index-machines-caller.is);
-  script_is = c.took.ensures.script ∙ ap (λ m. after_answer (g.M.Machine.script m) c.answer.result)
-      (sym c.index-machines-caller.is)
-      ∙ ap (after_answer (g.M.Machine.script c.index-machines-caller.result)) c.answer.ensures;
+  script_is = cc (c.took.ensures.script, c.index-machines-caller.is, c.answer.ensures);
 }
 
 words_are : (g : given.Over) (c : In_ok-take g) → c.perform.new.words.items
     ≡ words_with c.args.words.now.items c.args.caller c.in-Some.did
-words_are g c = c.perform.ensures.words
-    ∙ ap (words_after_event c.args.words.now.items c.args.caller) c.in-Some.is
+words_are g c = grind (arith, c.perform.ensures.words, c.in-Some.is)
 
 -- the machine has less ahead now
 ahead_falls : (g : given.Over) (c : In_ok-take g)
     → total g.M.Machine.ahead (set c.args.machines.now c.args.caller c.took.new.self) < total
     g.M.Machine.ahead c.args.machines.now
-ahead_falls g c =
-    total_falls g.M.Machine.ahead c.args.machines.now c.args.caller c.index-machines-caller.result
-    c.took.new.self
-    (slice_get-is c.args.machines.now c.args.caller c.index-machines-caller.result c.requires.caller
-    c.index-machines-caller.is)
-    (subst (λ m. g.M.Machine.ahead c.took.new.self < g.M.Machine.ahead m)
-    (sym c.index-machines-caller.is) c.took.ensures.falls)
+ahead_falls g c = grind (arith, total_falls, slice_get-is)
 
 -- the event that the sink takes
 abbrev event_of : (g : given.Over) (c : In_ok-take g) → Stamped
@@ -120,8 +106,7 @@ played g c history counted =
     c.args.caller c.index-machines-caller.result c.took.new.self c.args.words.now.items
     c.perform.new.words.items
     c.in-Some.did history (history ++ event_of g c ∷ []) (turn_of g c) (words_are g c)
-    (ap (λ k. history ++ record { number = k; caller = c.args.caller; did = c.in-Some.did } ∷ [])
-    (c.taken.ensures ∙ counted))
+    (cc (c.taken.ensures))
 
 pub returns-clause-shown : goal.returns-clause-shown
 returns-clause-shown g c =
@@ -147,8 +132,7 @@ take-requires-clause-few g c =
     c.index-machines-caller.result c.took.new.self
     (slice_get-is c.args.machines.now c.args.caller c.index-machines-caller.result c.requires.caller
     c.index-machines-caller.is)
-    (subst (λ m. g.M.Machine.ahead c.took.new.self < g.M.Machine.ahead m)
-    (sym c.index-machines-caller.is) c.took.ensures.falls) in
+    (rw c.index-machines-caller.is c.took.ensures.falls) in
     omega (arith, c.requires.few, falls)
 
 pub returns-clause-falls : goal.returns-clause-falls

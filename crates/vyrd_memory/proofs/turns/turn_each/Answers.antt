@@ -1,4 +1,4 @@
-use Rattle.std.proofs.Common.{◌+◌, [], ◌∷◌, take, get_or, refl, ap, ◌∙◌, sym, arith, Ok}
+use Rattle.std.proofs.Common.{◌+◌, [], ◌∷◌, take, get_or, ap, ◌∙◌, sym, arith, Ok}
 use Rattle.std.proofs.lemmas.List.{take_more}
 use Rattle.vyrd_memory.specs.Showing.{stage}
 use Rattle.vyrd_memory.proofs.ShownLaws.{shown_more}
@@ -6,32 +6,10 @@ use Rattle.vyrd_memory.proofs.turns.turn_each.Goals.{then-branch, else-branch}
 use Rattle.vyrd_memory.proofs.turns.turn_each.Goals as goal
 
 pub turn-requires-clause-caller : goal.turn-requires-clause-caller
-turn-requires-clause-caller g c =
-    omega (arith, c.requires.callers c.loop-caller.caller-index c.loop-caller-test.true)
+turn-requires-clause-caller g c = search arith
 
 pub loop-caller-init : goal.loop-caller-init
-loop-caller-init g c = record {
-  shown = record {
-    ready = c.requires.ready;
-    count = refl;
-    shown = λ history taken. record {
-      later = history;
-      taken = taken;
-      played = record {
-        ready = c.requires.ready;
-        count = refl;
-        plays = λ scripts is. is;
-        history = λ scripts is. refl;
-      };
-    };
-  };
-  still = λ e. refl;
-  few = omega arith;
-  fixed = refl;
-  rests = omega arith;
-  falls = λ e. absurd (cc);
-  others = λ other apart. refl;
-}
+loop-caller-init g c = grind (arith, c.requires.ready)
 
 pub loop-caller-preserved : goal.loop-caller-preserved
 loop-caller-preserved g c = record {

@@ -1,5 +1,5 @@
-use Rattle.std.proofs.Common.{◌≡◌, ◌∙◌, ℕ, not, Some, [], ◌∷◌, ◌++◌, length, slice_get, arith, ap}
-use Rattle.std.proofs.Common.{sym, subst}
+use Rattle.std.proofs.Common.{◌≡◌, ◌∙◌, ℕ, not, Some, [], ◌∷◌, ◌++◌, slice_get, arith, ap}
+use Rattle.std.proofs.Common.{sym}
 use Rattle.std.specs.List.{filter}
 use Rattle.vyrd_base.specs.Places.{numbers_below}
 use Rattle.vyrd_base.proofs.ListLaws.{slice_get-is}
@@ -31,10 +31,4 @@ loop-caller-preserved g c =
     ]
 
 pub returns : goal.returns
-returns g c =
-    let all : c.loop-caller.caller ≡ length c.args.machines.now = omega arith in
-    unfinished_are g.M.Machine.script c.args.machines.now c.loop-caller.callers.items
-    (subst (λ n. c.loop-caller.callers.items
-    ≡ filter (λ m. is_unfinished g.M.Machine.script (slice_get c.args.machines.now m))
-    (numbers_below n)) all
-    c.loop-caller.invariant)
+returns = search (unfinished_are, arith)

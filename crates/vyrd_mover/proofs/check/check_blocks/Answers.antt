@@ -13,17 +13,14 @@ some_event = record { number = 0; caller = 0; did = Read 0 0 }
 
 pub take-requires : goal.take-requires
 take-requires c =
-    let history = c.args.history.now in
-    let i = c.loop-event.event-index in
-    let next = next_in c.args.header history i some_event c.requires c.loop-event-test.true in
-    record {
-      legal = record {
-        history = take i history;
-        taken = c.loop-event.invariant.taken;
-        next = subst (λ h. IsNext h (take i history) (get_or history i some_event))
-            (sym c.loop-event.invariant.header) next;
-      };
-    }
+    grind (
+      arith,
+      take c.loop-event.event-index c.args.history.now,
+      c.loop-event.invariant.taken,
+      c.loop-event.invariant.header,
+      next_in c.args.header c.args.history.now c.loop-event.event-index
+          some_event c.requires c.loop-event-test.true,
+    )
 
 pub loop-event-preserved : goal.loop-event-preserved
 loop-event-preserved c =

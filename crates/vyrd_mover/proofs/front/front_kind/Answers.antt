@@ -3,8 +3,7 @@ use Rattle.vyrd_mover.proofs.FrontLaws.{mark_read}
 use Rattle.vyrd_mover.proofs.front.front_kind.Goals as goal
 
 pub returns-in-108-clause-mark : goal.returns-in-108-clause-mark
-returns-in-108-clause-mark c = mark_read c.args.subject c.args.text.now c.front_call.result
-    (λ e. omega (arith, c.in-108.is, e)) c.front_call.ensures
+returns-in-108-clause-mark c = search (mark_read, arith)
 
 pub returns-in-117-clause-mark : goal.returns-in-117-clause-mark
 returns-in-117-clause-mark c = mark_read c.args.subject c.args.text.now c.read_return.result

@@ -3,8 +3,7 @@ use Rattle.vyrd_mover.proofs.HeadLaws.{no_first, out_of_bounds, first_found}
 use Rattle.vyrd_mover.proofs.line.read_first.Goals as goal
 
 pub returns-in_err-subject : goal.returns-in_err-subject
-returns-in_err-subject c = rw c.from_residual.ensures
-    (no_first c.args.line.now c.in_err-subject.ensures)
+returns-in_err-subject c = search (no_first, arith)
 
 pub returns-in_err-header : goal.returns-in_err-header
 returns-in_err-header c = rw c.from_residual-in_err-header.ensures

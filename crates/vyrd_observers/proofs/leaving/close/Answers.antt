@@ -1,10 +1,10 @@
 use Rattle.std.proofs.Common.{◌<◌, List, Some, None, length, set, drop, refl, subst, ap, sym, ◌∙◌}
 use Rattle.std.proofs.Common.{arith}
 use Rattle.std.proofs.lemmas.List.{map-set, length-set}
-use Rattle.std.proofs.lemmas.Option.{slice_get_within, none-some}
+use Rattle.std.proofs.lemmas.Option.{slice_get_within}
 use Rattle.vyrd_base.proofs.ChangedLists.{written_back}
 use Rattle.vyrd_base.proofs.ListLaws.{slice_get-is, slice_get-set_same, is_none}
-use Rattle.vyrd_observers.specs.Trails.{Asked, AreOn, OthersAreUsed, seen_by, kept_count}
+use Rattle.vyrd_observers.specs.Trails.{Asked, OthersAreUsed, seen_by, kept_count}
 use Rattle.vyrd_observers.specs.Order.{AreCountedBefore, AreFreeFrom, Closes}
 use Rattle.vyrd_observers.proofs.TrailLaws.{on_set, used_without, stay_all}
 use Rattle.vyrd_observers.proofs.CallersSee.{closed_stays}
@@ -20,11 +20,7 @@ let_go-requires-clause-trail g c =
     (slice_get_within c.args.trails.now.items c.in-Some.watch.trail was.asked was.there)
 
 pub let_go-requires-clause-on : goal.let_go-requires-clause-on
-let_go-requires-clause-on g c =
-    subst (λ (ts : List Asked). AreOn ts (set c.args.watches.now.items c.args.caller None))
-    (sym c.deref_mut.ensures.value)
-    (on_set c.args.trails.now.items c.args.watches.now.items c.args.caller None c.requires.caller
-    (λ w is. absurd (none-some _ is)) c.requires.on)
+let_go-requires-clause-on = grind (arith, on_set)
 
 pub let_go-requires-clause-used : goal.let_go-requires-clause-used
 let_go-requires-clause-used g c =

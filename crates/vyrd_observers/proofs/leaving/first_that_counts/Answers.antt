@@ -1,21 +1,13 @@
-use Rattle.std.proofs.Common.{◌≡◌, ◌+◌, ◌<◌, ℕ, false, Option, None, Some, slice_get, ⊎_elim, refl}
+use Rattle.std.proofs.Common.{◌≡◌, ◌+◌, ◌<◌, ℕ, false, None, Some, slice_get, ⊎_elim}
 use Rattle.std.proofs.Common.{ap, sym, ◌∙◌, arith}
-use Rattle.std.specs.Prelude.{◌==◌, unwrap_or, IfSome}
+use Rattle.std.specs.Prelude.{◌==◌, unwrap_or}
 use Rattle.std.proofs.lemmas.Option.{slice_get_within, slice_get-get_or, unwrap_or-slice_get}
 use Rattle.vyrd_base.proofs.BlockLaws.{by_same}
 use Rattle.vyrd_base.proofs.TestLaws.{apart_of}
 use Rattle.vyrd_observers.proofs.leaving.first_that_counts.Goals as goal
 
 pub loop-watch-init : goal.loop-watch-init
-loop-watch-init g c = record {
-  asks = λ n is. absurd (none_some is);
-  counts = λ d w low here same.
-      absurd (omega (arith, low));
-  steps = omega arith;
-}
-  where
-    none_some : {n : ℕ} → None ≡ Some n → ⊥
-    none_some e = cc
+loop-watch-init g c = grind arith
 
 pub loop-watch-preserved : goal.loop-watch-preserved
 loop-watch-preserved g c = record {
@@ -43,11 +35,7 @@ loop-watch-preserved g c = record {
     lower i d low other = omega (arith, low, apart_of i d other)
 
 pub returns-clause-asks : goal.returns-clause-asks
-returns-clause-asks g c = if_some c.loop-watch.first c.loop-watch.invariant.asks
-  where
-    if_some : {P : ℕ → Type 0} (o : Option ℕ) → ((n : ℕ) → o ≡ Some n → P n) → IfSome o P
-    if_some None all = tt
-    if_some (Some n) all = all n refl
+returns-clause-asks = grind arith
 
 pub returns-clause-counts : goal.returns-clause-counts
 returns-clause-counts g c = λ d w here same.

@@ -1,8 +1,8 @@
-use Rattle.std.proofs.Common.{◌≡◌, length, drop, get_or, set, map, subst, ap, sym, ◌∙◌, arith}
+use Rattle.std.proofs.Common.{drop, get_or, set, map, subst, ap, sym, ◌∙◌, arith}
 use Rattle.std.proofs.lemmas.Option.{slice_get-get_or}
 use Rattle.vyrd_base.specs.Subjects.{must_commit}
 use Rattle.vyrd_base.specs.Entries.{has_method}
-use Rattle.vyrd_observers.specs.Trails.{Asked, AreOn, seen_by}
+use Rattle.vyrd_observers.specs.Trails.{AreOn, seen_by}
 use Rattle.vyrd_observers.specs.Order.{AreCounted}
 use Rattle.vyrd_observers.proofs.AskerLaws.{counted_moved}
 use Rattle.vyrd_observers.proofs.CostLaws.{kept_dropped}
@@ -83,14 +83,12 @@ returns-clause-kept g c =
     (c.requires.within t (slice_get-get_or trails c.args.trail d c.requires.trail))
 
 pub returns-clause-steps : goal.returns-clause-steps
-returns-clause-steps g c = λ t there.
-    let read = c.index-trails-trail in
-    let it : t ≡ get_or c.args.trails.now c.args.trail read.result
-    = read_is c.args.trails.now c.args.trail t read.result there read.is ∙ read.is in
-    omega (
+returns-clause-steps g c =
+    λ t there. grind (
       arith,
       c.forget.ensures.steps,
       c.move_all.ensures.steps,
-      ap
-          (λ (u : Asked). length u.others) it,
+      read_is
+          c.args.trails.now c.args.trail t c.index-trails-trail.result there c.index-trails-trail.is,
+      c.index-trails-trail.is,
     )

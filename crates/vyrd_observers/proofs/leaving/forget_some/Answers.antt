@@ -8,10 +8,7 @@ use Rattle.vyrd_observers.proofs.CallersSee.{read_is}
 use Rattle.vyrd_observers.proofs.leaving.forget_some.Goals as goal
 
 pub forget-requires-clause-within : goal.forget-requires-clause-within
-forget-requires-clause-within g c = let one = c.in-Some.ensures.asks in
-    counted_within c.args.trails.now c.args.watches.now.items c.args.trail c.in-Some.n one.0
-    (ap (λ (ws : List (Option Watch)). slice_get ws one.0) (sym c.deref.ensures.value) ∙ one.1)
-    c.requires.on
+forget-requires-clause-within = grind (arith, counted_within)
 
 pub returns-then-len-n-clause-used : goal.returns-then-len-n-clause-used
 returns-then-len-n-clause-used g c = let one = c.in-Some.ensures.asks in
@@ -44,8 +41,4 @@ returns-else-len-n-clause-stay g c = stay_all c.args.trails.now
 
 -- some observer asks the trail, so the place isn't missing
 pub returns-in_default : goal.returns-in_default
-returns-in_default g c =
-    let one = c.requires.some in
-    let first = c.first_that_counts.ensures.counts one.0 one.1
-    (ap (λ (ws : List (Option Watch)). slice_get ws one.0) c.deref.ensures.value ∙ one.2) one.3 in
-    absurd (c.in_default.not-Some first.0 first.1)
+returns-in_default = grind arith

@@ -8,9 +8,7 @@ use Rattle.vyrd_observers.proofs.AskerLaws.{leaves_at, counts_some, used_left, s
 use Rattle.vyrd_observers.proofs.leaving.let_go.Goals as goal
 
 pub leave-requires : goal.leave-requires
-leave-requires g c =
-    counts_some c.args.trails.now c.args.watches.now.items c.args.trail c.index-trails-trail.result
-    c.requires.trail c.requires.counted
+leave-requires g c = search (counts_some, arith)
 
 pub forget_some-requires : goal.forget_some-requires
 forget_some-requires g c =

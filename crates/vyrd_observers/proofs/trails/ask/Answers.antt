@@ -22,17 +22,15 @@ index_mut-requires g c = let there = c.in_ok-i.ensures.free in
     )
 
 pub returns-clause-asked : goal.returns-clause-asked
-returns-clause-asked g c = let there = c.in_ok-i.ensures.free in (
-  c.begin.new.self,
-  slice_get-set_same c.free.new.trails.items c.in_ok-i.i c.begin.new.self
-      (slice_get_within c.free.new.trails.items c.in_ok-i.i there.0 there.1),
-  (
-    ap (λ t. t.is_asked) c.begin.ensures.question,
-    ap (λ t. t.method) c.begin.ensures.question,
-    ap (λ t. t.args) c.begin.ensures.question,
-    ap (λ t. t.latest) c.begin.ensures.question,
-  ),
-)
+returns-clause-asked g c =
+    grind (
+      arith,
+      c.begin.new.self,
+      slice_get-set_same c.free.new.trails.items c.in_ok-i.i
+          c.begin.new.self (slice_get_within c.free.new.trails.items c.in_ok-i.i c.in_ok-i.ensures.free.0
+          c.in_ok-i.ensures.free.1),
+      c.begin.ensures.question,
+    )
 
 pub returns-clause-kept : goal.returns-clause-kept
 returns-clause-kept g c = λ i t here is_asked. let there = c.in_ok-i.ensures.free in

@@ -135,13 +135,7 @@ returns-clause-kept g c =
     (sym c.loop-i.invariant.changed) (kept_changed affects told c.loop-i.i c.args.trails.now.items)
 
 pub returns-clause-steps : goal.returns-clause-steps
-returns-clause-steps g c =
-    omega (
-      arith,
-      c.loop-i.invariant.within,
-      c.loop-i.invariant.steps,
-      c.first_affected-i.ensures.steps,
-    )
+returns-clause-steps = grind arith
 
 pub returns-in_err-see-clause-answers : goal.returns-in_err-see-clause-answers
 returns-in_err-see-clause-answers g c = λ watches.
@@ -170,12 +164,4 @@ returns-in_err-see-clause-kept g c =
     (sym unchanged) (kept_changed affects told c.loop-i.i c.args.trails.now.items)
 
 pub returns-in_err-see-clause-steps : goal.returns-in_err-see-clause-steps
-returns-in_err-see-clause-steps g c =
-    omega (
-      arith,
-      c.loop-i.invariant.steps,
-      c.tick.ensures,
-      c.see.ensures.steps,
-      c.loop-i-test.true,
-      c.first_affected-i.ensures.steps,
-    )
+returns-in_err-see-clause-steps = grind arith

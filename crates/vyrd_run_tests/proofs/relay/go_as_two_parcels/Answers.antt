@@ -1,4 +1,4 @@
-use Rattle.std.proofs.Common.{◌≡◌, ◌∙◌, sym}
+use Rattle.std.proofs.Common.{◌∙◌, sym}
 use Rattle.vyrd_run_tests.proofs.relay.go_as_two_parcels.Goals as goal
 
 -- the rest is of the sender's caller, which is still 0

@@ -1,9 +1,8 @@
-use Rattle.std.proofs.Common.{◌≡◌, arith, ap, sym, ◌∙◌, ◌+◌, ◌*◌, min}
+use Rattle.std.proofs.Common.{arith, ap, ◌∙◌, ◌+◌, ◌*◌}
 use Rattle.std.specs.Prelude.{flat_map, slice_index}
 use Rattle.vyrd_base.specs.Added.{added}
 use Rattle.vyrd_base.specs.Places.{numbers_below}
 use Rattle.vyrd_base.specs.Amounts.{amount_of}
-use Rattle.vyrd_base.specs.Tree.{count_of}
 use Rattle.vyrd_base.proofs.AddedLaws.{added-push, amount_of-added}
 use Rattle.vyrd_base.proofs.PartLaws.{place_parts, places_at_most, node_parts-places, place_is}
 use Rattle.vyrd_spec.proofs.LeafLaws.{entry_sound}
@@ -28,18 +27,7 @@ add_entry-requires c =
     }
 
 pub loop-place-preserved : goal.loop-place-preserved
-loop-place-preserved c =
-    let words = c.args.words.now in
-    added-push (place_parts words c.args.leaf) c.loop-place.place c.args.values.now
-    c.loop-place.values c.add_entry.new.values c.loop-place.invariant
-    (c.in_ok-add_entry.ensures ∙ ap (added c.loop-place.values)
-    (place_is words c.args.leaf c.loop-place.place))
+loop-place-preserved = grind (arith, added-push, added, place_is)
 
 pub returns : goal.returns
-returns c =
-    let words = c.args.words.now in
-    let all : c.loop-place.place ≡ min (count_of words c.args.leaf) 4 = omega arith in
-    c.loop-place.invariant
-    ∙ ap (λ m. added c.args.values.now (flat_map (place_parts words c.args.leaf) (numbers_below m)))
-    all
-    ∙ sym (ap (added c.args.values.now) (node_parts-places words c.args.leaf))
+returns = grind (arith, added, node_parts-places)

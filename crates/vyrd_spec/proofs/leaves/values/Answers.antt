@@ -16,10 +16,7 @@ loop-turn-init c = record {
 }
 
 pub add_leaf-requires-clause-sound : goal.add_leaf-requires-clause-sound
-add_leaf-requires-clause-sound c =
-    let walk = c.loop-turn.invariant.walk in
-    leaf_entries c.args.size c.args.words.now c.loop-turn.leaf
-    (tree_of c.args.size c.args.words.now c.requires.tree) walk.in_use walk.leaf
+add_leaf-requires-clause-sound = grind (arith, leaf_entries, tree_of)
 
 pub returns-then-right-eq0-clause-values : goal.returns-then-right-eq0-clause-values
 returns-then-right-eq0-clause-values c =

@@ -13,12 +13,7 @@ isnt_not true c is e = let no : false ≡ true = sym is ∙ e in cc
 isnt_not false c is e = refl
 
 pub returns-then-not-put_left : goal.returns-then-not-put_left
-returns-then-not-put_left c =
-    let words = c.args.words.now in
-    told_twice c.args.last words c.loop-node.node c.loop-node.lefts.items c.loop-node-test.true
-    (is_not (has_left c.loop-node.lefts.items (right_of words c.loop-node.node)) c.put_left.result
-    c.put_left.ensures.free c.if-not-put_left.true)
-    c.loop-node.invariant
+returns-then-not-put_left = grind (arith, told_twice, is_not)
 
 pub loop-node-preserved : goal.loop-node-preserved
 loop-node-preserved c =

@@ -10,6 +10,4 @@ returns-then-not-is_sound_slot c =
     (sym c.is_sound_slot.ensures ∙ c.if-not-is_sound_slot.true))
 
 pub loop-slot-preserved : goal.loop-slot-preserved
-loop-slot-preserved c =
-    passes_more (is_sound_slot c.args.size c.args.words.now) c.loop-slot.slot c.loop-slot.invariant
-    (sym c.is_sound_slot.ensures ∙ c.if-not-is_sound_slot.false)
+loop-slot-preserved = grind (arith, passes_more)

@@ -18,11 +18,7 @@ loop-at-init g c =
     (subst (λ found. IfSome found (λ s. of.made s ≡ 0)) c.in-Some.is begun.made)
 
 pub returns-in_default : goal.returns-in_default
-returns-in_default g c =
-    let of = g.B.Running.Spec in
-    never_known (g.B.Begins.charter c.args.begins.now) c.args.starting.now c.args.front.now c.args.n
-    c.requires.within
-    (sym (ap (option_map of.state) c.in_default.is) ∙ c.in_ok-spec.ensures.state)
+returns-in_default = grind (arith, never_known)
 
 pub returns-in_default-2 : goal.returns-in_default-2
 returns-in_default-2 g c =

@@ -1,10 +1,10 @@
-use Rattle.std.proofs.Common.{◌≡◌, ◌⊎◌, inl, inr, ℕ, List, ◌∷◌, ◌++◌, ◌<◌, ◌+◌, Some, arith, ap}
+use Rattle.std.proofs.Common.{inl, inr, ◌∷◌, ◌++◌, ◌+◌, arith, ap}
 use Rattle.std.proofs.Common.{◌∙◌, sym}
 use Rattle.std.specs.Prelude.{slice_get}
 use Rattle.std.proofs.Math.Nat.{eq-or-lt_of_le}
-use Rattle.std.proofs.lemmas.Option.{get_or_from_slice_get, slice_get_within, slice_get-get_or}
+use Rattle.std.proofs.lemmas.Option.{get_or_from_slice_get, slice_get_within}
 use Rattle.vyrd_base.specs.Spelling.{method_name}
-use Rattle.vyrd_base.proofs.StructureLaws.{place_of, method_listed, subject_listed}
+use Rattle.vyrd_base.proofs.StructureLaws.{place_of, method_listed}
 use Rattle.vyrd_text.proofs.line.read_method.Goals as goal
 
 pub loop-method-init : goal.loop-method-init

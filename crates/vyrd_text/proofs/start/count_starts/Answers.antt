@@ -18,6 +18,4 @@ loop-line-preserved c =
     }
 
 pub returns-clause-count : goal.returns-clause-count
-returns-clause-count c =
-    let none = front_last c.loop-line.rest.now c.in_default.ensures in
-    omega (arith, c.loop-line.invariant.counted, none)
+returns-clause-count = grind (arith, front_last)

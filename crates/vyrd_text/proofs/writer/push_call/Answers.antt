@@ -1,7 +1,5 @@
 use Rattle.std.proofs.Common.{ap, sym, ◌∙◌, ◌++◌, ◌∷◌, List, ℕ, [], append_assoc}
 use Rattle.std.specs.Prelude.{flat_map, decimal, take}
-use Rattle.vyrd_base.specs.Subjects.{arity_of}
-use Rattle.vyrd_base.specs.Spelling.{method_name}
 use Rattle.vyrd_text.proofs.WrittenLaws.{call_text_after}
 use Rattle.vyrd_text.proofs.writer.push_call.Goals as goal
 

@@ -1,8 +1,7 @@
-use Rattle.std.proofs.Common.{◌≡◌, arith, ap, sym, ◌∙◌, min}
+use Rattle.std.proofs.Common.{arith, ap, ◌∙◌}
 use Rattle.std.specs.Prelude.{flat_map}
 use Rattle.vyrd_base.specs.Places.{numbers_below}
 use Rattle.vyrd_base.specs.Amounts.{amount_of}
-use Rattle.vyrd_base.specs.Tree.{count_of}
 use Rattle.vyrd_base.specs.Added.{added}
 use Rattle.vyrd_base.proofs.AddedLaws.{added-push, amount_of-added}
 use Rattle.vyrd_base.proofs.PartLaws.{place_parts, places_at_most, node_parts-places, place_is}
@@ -21,16 +20,7 @@ add_entry-requires c = record {
 }
 
 pub loop-j-preserved : goal.loop-j-preserved
-loop-j-preserved c =
-    added-push (place_parts c.args.words.now c.args.node) c.loop-j.j c.args.sums.now c.loop-j.sums
-    c.add_entry.new.sums c.loop-j.invariant
-    (c.in_ok-add_entry.ensures ∙ ap (added c.loop-j.sums)
-    (place_is c.args.words.now c.args.node c.loop-j.j))
+loop-j-preserved = grind (arith, added-push, added, place_is)
 
 pub returns : goal.returns
-returns c =
-    let all : c.loop-j.j ≡ min (count_of c.args.words.now c.args.node) 4 = omega arith in
-    c.loop-j.invariant
-    ∙ ap (λ m. added c.args.sums.now
-    (flat_map (place_parts c.args.words.now c.args.node) (numbers_below m))) all
-    ∙ sym (ap (added c.args.sums.now) (node_parts-places c.args.words.now c.args.node))
+returns = grind (arith, added, node_parts-places)

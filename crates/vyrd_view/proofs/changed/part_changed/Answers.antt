@@ -14,7 +14,7 @@ loop-place-preserved g c =
     let f : ℕ → ℕ × ℕ = pair_at (d.width decoder) (d.places decoder)
     (d.gives decoder) c.args.words.now in
     let at : c.args.part * c.places.result + c.loop-place.place ≡ m =
-    ap (λ p. c.args.part * p + c.loop-place.place) c.places.ensures in
+    cc (c.places.ensures) in
     let pair : ℕ × ℕ = get_or c.counted_part-pairs.result c.loop-place.place (0, 0) in
     let low : c.loop-place.place < d.places decoder =
     omega (arith, c.loop-place-test.true, c.places-place-end.ensures) in
@@ -23,14 +23,13 @@ loop-place-preserved g c =
     omega (arith, low, c.loop-place.invariant.places, c.requires.places) in
     let ok = c.in_ok-replace.ensures.ok in
     let now : c.replace.new.self.pairs ≡ set pairs m pair =
-    ap (λ k. k.pairs) ok ∙ ap (λ k. set pairs k pair) at in
+    cc in
     record {
-      sound = ap (λ k. k.refused) ok ∙ c.loop-place.invariant.sound;
-      specified = ap (λ k. k.specified) ok ∙ c.loop-place.invariant.specified;
+      sound = cc (c.loop-place.invariant.sound);
+      specified = cc (c.loop-place.invariant.specified);
       places = ap length now ∙ length-set pairs m pair ∙ c.loop-place.invariant.places;
-      inside = λ j lower. ap (λ s. get_or s (c.args.part * d.places decoder + j) (0, 0)) now
-          ∙ place_inside f c.args.part (d.places decoder) c.loop-place.place pairs pair within is
-          c.loop-place.invariant.inside j lower;
+      inside = λ j lower. cc (place_inside f c.args.part (d.places decoder) c.loop-place.place pairs
+          pair within is c.loop-place.invariant.inside j lower);
       outside = λ k other. ap (λ s. get_or s k (0, 0)) now
           ∙ place_outside c.args.part (d.places decoder) c.loop-place.place pairs pair low k other
           ∙ c.loop-place.invariant.outside k other;

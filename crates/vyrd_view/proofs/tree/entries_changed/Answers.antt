@@ -2,7 +2,6 @@ use Rattle.std.proofs.Common.{◌≡◌, ℕ, ◌+◌, ◌*◌, ◌/◌, ◌<◌
 use Rattle.std.proofs.Common.{length, drop, get_or, ap, sym, ◌∙◌, subst, arith}
 use Rattle.std.proofs.Math.Bool.{and-false}
 use Rattle.std.proofs.lemmas.List.{drop_all}
-use Rattle.vyrd_view.specs.Kept.{ComparedKept}
 use Rattle.vyrd_view.specs.Chains.{is_stale}
 use Rattle.vyrd_view.specs.Comparing.{differing}
 use Rattle.vyrd_view.proofs.DifferingLaws.{one_differs, one_stays}
@@ -40,15 +39,15 @@ loop-word-preserved g c =
           (λ j low. put.inside j low ∙ w.decoded_node-entries.ensures.entries j low) put.above
           (subst (AreNodesFresh size words marks pairs) more c.loop-word.invariant.others) in
           record {
-            sound = ap (λ k. k.refused) w.parts-is ∙ put.sound;
-            specified = ap (λ k. k.specified) w.parts-is ∙ put.specified
-                ∙ c.loop-word.invariant.specified;
-            places = ap (λ k. length k.pairs) w.parts-is ∙ put.places
-                ∙ c.loop-word.invariant.places;
-            others = λ m low none. ap (λ (k : ComparedKept). get_or k.pairs m (0, 0)) w.parts-is
-                ∙ fresh m low none;
-            end = ap (λ (k : ComparedKept). get_or k.pairs (4 * size) (0, 0)) w.parts-is
-                ∙ put.above (4 * size) (omega (arith, within)) ∙ c.loop-word.invariant.end;
+            sound = cc (w.parts-is, put.sound);
+            specified = cc (w.parts-is, put.specified, c.loop-word.invariant.specified);
+            places = cc (w.parts-is, put.places, c.loop-word.invariant.places);
+            others = λ m low none. cc (w.parts-is, fresh m low none);
+            end = cc (
+              w.parts-is,
+              put.above (4 * size) (omega (arith, within)),
+              c.loop-word.invariant.end,
+            );
             counted = omega (
               arith,
               c.loop-word.invariant.counted,
@@ -79,13 +78,11 @@ loop-word-preserved g c =
                 )
           ] in
           record {
-            sound = ap (λ k. k.refused) w.parts-is ∙ c.loop-word.invariant.sound;
-            specified = ap (λ k. k.specified) w.parts-is ∙ c.loop-word.invariant.specified;
-            places = ap (λ k. length k.pairs) w.parts-is ∙ c.loop-word.invariant.places;
-            others = λ m low none. ap (λ (k : ComparedKept). get_or k.pairs m (0, 0)) w.parts-is
-                ∙ kept.0 m low none;
-            end = ap (λ (k : ComparedKept). get_or k.pairs (4 * size) (0, 0)) w.parts-is
-                ∙ c.loop-word.invariant.end;
+            sound = cc (w.parts-is, c.loop-word.invariant.sound);
+            specified = cc (w.parts-is, c.loop-word.invariant.specified);
+            places = cc (w.parts-is, c.loop-word.invariant.places);
+            others = λ m low none. cc (w.parts-is, kept.0 m low none);
+            end = cc (w.parts-is, c.loop-word.invariant.end);
             counted = omega (arith, c.loop-word.invariant.counted, w.steps-is, kept.1);
           }
     ]

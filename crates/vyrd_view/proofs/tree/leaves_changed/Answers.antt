@@ -10,8 +10,7 @@ use Rattle.vyrd_view.proofs.ReadyLaws.{tree_count, tree_others, tree_marks, tree
 use Rattle.vyrd_view.proofs.tree.leaves_changed.Goals as goal
 
 pub entries_changed-requires-clause-places : goal.entries_changed-requires-clause-places
-entries_changed-requires-clause-places g c =
-    tree_count c.args.before.now c.args.parts.now.pairs c.args.marks.now c.requires.walked
+entries_changed-requires-clause-places g c = search (tree_count, arith)
 
 pub entries_changed-requires-clause-others : goal.entries_changed-requires-clause-others
 entries_changed-requires-clause-others g c =
@@ -37,18 +36,10 @@ returns-then-not-has_turned-clause-walked g c =
     (put.end ∙ tree_end before words turned pairs marks c.requires.walked elsewhere unlinked)
 
 pub remark-requires-clause-places : goal.remark-requires-clause-places
-remark-requires-clause-places g c =
-    c.in_ok-entries_changed.ensures.places
-    ∙ tree_count c.args.before.now c.args.parts.now.pairs c.args.marks.now c.requires.walked
+remark-requires-clause-places = grind (arith, tree_count)
 
 pub replace-requires-clause-place : goal.replace-requires-clause-place
-replace-requires-clause-place g c = omega (
-  arith,
-  c.remark.auto.marks,
-  c.in_ok-remark.ensures.places,
-  c.in_ok-entries_changed.ensures.places,
-  tree_count c.args.before.now c.args.parts.now.pairs c.args.marks.now c.requires.walked,
-)
+replace-requires-clause-place = grind (arith, tree_count)
 
 pub returns-clause-walked : goal.returns-clause-walked
 returns-clause-walked g c =

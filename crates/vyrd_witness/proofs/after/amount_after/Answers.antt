@@ -1,4 +1,4 @@
-use Rattle.std.proofs.Common.{◌≡◌, ◌+◌, ◌/◌, set, arith}
+use Rattle.std.proofs.Common.{◌≡◌, ◌+◌, set, arith}
 use Rattle.vyrd_base.specs.Rules.{rules_of}
 use Rattle.vyrd_base.proofs.HeaderLaws.{size_in_32_bits}
 use Rattle.vyrd_witness.specs.Changes.{amount_shown}
@@ -17,18 +17,7 @@ pub overflow_sub-result : goal.overflow_sub-result
 overflow_sub-result c = omega (arith, turned c)
 
 pub overflow_add-result : goal.overflow_add-result
-overflow_add-result c =
-    let h = c.args.header in
-    let words = c.args.words.now in
-    let key = c.args.key in
-    omega (
-      arith,
-      turned c,
-      few_shown h words key c.requires.multiset,
-      size_in_32_bits h,
-      c.given_with-old.ensures,
-      slot_at_most key (set words c.args.word c.args.was) (c.args.word / 2),
-    )
+overflow_add-result = grind (arith, turned, few_shown, size_in_32_bits, slot_at_most)
 
 pub returns : goal.returns
 returns c = omega (arith, turned c)

@@ -6,11 +6,7 @@ use Rattle.vyrd_witness.proofs.EffectKinds.{commit_outside, end_committed, end_a
 use Rattle.vyrd_witness.proofs.effect.effects_by.Goals as goal
 
 pub returns-then-phase : goal.returns-then-phase
-returns-then-phase c =
-    c.new.ensures.items ∙ write_inside c.args.front.now c.args.at c.in-Write.word c.in-Write.value
-    c.args.entry c.args.phase
-    (is_phase c.args.front.now c.args.at c.args.entry c.args.phase c.requires.phase) c.in-Write.is
-    c.if-phase.true
+returns-then-phase = grind (arith, write_inside, is_phase)
 
 pub effects_of_commit-requires : goal.effects_of_commit-requires
 effects_of_commit-requires c =
@@ -18,8 +14,7 @@ effects_of_commit-requires c =
 
 pub effects_of_end-requires : goal.effects_of_end-requires
 effects_of_end-requires c =
-    let within = slice_get_within c.args.front.now c.args.at c.args.entry c.requires.here in
-    omega (arith, within)
+    grind (arith, slice_get_within c.args.front.now c.args.at c.args.entry c.requires.here)
 
 pub returns-in_ok-push-in-Write : goal.returns-in_ok-push-in-Write
 returns-in_ok-push-in-Write c =
@@ -43,18 +38,10 @@ returns-then-phase-2 c = IfOk-weaker c.effects_of_commit.result _ _
     c.in-Commit.is c.if-phase-2.true found) c.effects_of_commit.ensures
 
 pub returns-else-phase-2 : goal.returns-else-phase-2
-returns-else-phase-2 c =
-    c.new-else-phase-2.ensures.items
-    ∙ commit_outside c.args.front.now c.args.at c.args.entry c.args.phase
-    (is_phase c.args.front.now c.args.at c.args.entry c.args.phase c.requires.phase)
-    c.in-Commit.is c.if-phase-2.false
+returns-else-phase-2 = grind (arith, commit_outside, is_phase)
 
 pub returns-then-phase-3 : goal.returns-then-phase-3
-returns-then-phase-3 c =
-    c.new-then-phase-3.ensures.items
-    ∙ end_committed c.args.front.now c.args.at c.args.entry c.args.phase
-    (is_phase c.args.front.now c.args.at c.args.entry c.args.phase c.requires.phase)
-    c.in-BlockClose.is c.if-phase-3.true
+returns-then-phase-3 = grind (arith, end_committed, is_phase)
 
 pub returns-else-phase-3 : goal.returns-else-phase-3
 returns-else-phase-3 c = IfOk-weaker c.effects_of_end.result _ _

@@ -33,14 +33,7 @@ returns-in-BlockClose-clause-ends c = λ ends. c.loop-written.invariant
     c.if-entry-caller.true c.in-BlockClose.is
 
 pub returns-in-Return-clause-goes_on : goal.returns-in-Return-clause-goes_on
-returns-in-Return-clause-goes_on c = λ goes.
-    ahead_returns c.args.front.now c.args.at c.args.caller c.loop-written.written
-    c.in-Return.field-0 c.entry_at-entry.result c.args.effects.now.items
-    c.loop-written.effects.items c.entry_at-entry.ensures c.if-entry-caller.true c.in-Return.is
-    c.loop-written.invariant
+returns-in-Return-clause-goes_on c = search (ahead_returns, arith)
 
 pub returns-clause-goes_on : goal.returns-clause-goes_on
-returns-clause-goes_on c = λ goes.
-    ahead_past c.args.front.now c.args.at c.args.caller c.loop-written.written
-    c.args.effects.now.items c.loop-written.effects.items (omega (arith, c.loop-written-test.false))
-    c.loop-written.invariant
+returns-clause-goes_on = grind (arith, ahead_past)

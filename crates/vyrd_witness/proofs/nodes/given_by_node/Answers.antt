@@ -1,8 +1,5 @@
-use Rattle.std.proofs.Common.{◌≡◌, min, ap, ◌∙◌, sym, arith}
-use Rattle.std.specs.Prelude.{flat_map}
+use Rattle.std.proofs.Common.{ap, ◌∙◌, arith}
 use Rattle.vyrd_base.specs.Amounts.{given}
-use Rattle.vyrd_base.specs.Places.{numbers_below}
-use Rattle.vyrd_base.specs.Tree.{count_of}
 use Rattle.vyrd_base.proofs.PartLaws.{place_parts, place_is, node_parts-places}
 use Rattle.vyrd_view.specs.Laws.Sums.{given_flat_push}
 use Rattle.vyrd_witness.proofs.nodes.given_by_node.Goals as goal
@@ -24,10 +21,4 @@ loop-j-preserved c =
     }
 
 pub returns-clause-given : goal.returns-clause-given
-returns-clause-given c =
-    let words = c.args.words.now in
-    let node = c.args.node in
-    let all : c.loop-j.j ≡ min (count_of words node) 4 = omega arith in
-    c.loop-j.invariant.given
-    ∙ ap (λ m. given c.args.key (flat_map (place_parts words node) (numbers_below m))) all
-    ∙ sym (ap (given c.args.key) (node_parts-places words node))
+returns-clause-given = grind (arith, given, node_parts-places)

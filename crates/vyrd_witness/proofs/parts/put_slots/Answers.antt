@@ -1,8 +1,6 @@
-use Rattle.std.proofs.Common.{◌≡◌, ◌*◌, ap, ◌∙◌, ◌++◌, sym, arith}
-use Rattle.std.specs.Prelude.{flat_map}
+use Rattle.std.proofs.Common.{◌≡◌, ◌*◌, ap, arith}
 use Rattle.vyrd_base.specs.Amounts.{given}
 use Rattle.vyrd_base.specs.Multiset.{slot_parts}
-use Rattle.vyrd_base.specs.Places.{numbers_below}
 use Rattle.vyrd_witness.specs.Given.{told}
 use Rattle.vyrd_witness.proofs.GivenLaws.{given_numbered, one_more}
 use Rattle.vyrd_witness.proofs.parts.put_slots.Goals as goal
@@ -22,6 +20,4 @@ returns c =
     let old = c.args.parts.now.items in
     let all : c.loop-slot.slot ≡ 4 * c.args.size =
     omega (arith, c.loop-slot-test.false, c.loop-slot.auto.slot-end, c.requires.count) in
-    c.loop-slot.invariant
-    ∙ ap (λ n. old ++ flat_map (λ i. told i (given key (slot_parts words i))) (numbers_below n)) all
-    ∙ ap (λ xs. old ++ xs) (sym (given_numbered key (slot_parts words) (4 * c.args.size)))
+    cc (c.loop-slot.invariant, given_numbered key (slot_parts words) (4 * c.args.size))

@@ -5,38 +5,13 @@ use Rattle.vyrd_words.proofs.CountLaws.{apart_set_grown}
 use Rattle.vyrd_words.proofs.counts.set_apart.Goals as goal
 
 pub overflow_sub-len : goal.overflow_sub-len
-overflow_sub-len g c = omega (
-  arith,
-  c.len-2.ensures,
-  c.args.large.now.ok.0,
-  c.place_apart-place.ensures.place,
-  apart_in-parts c.args.index c.args.bytes.now.items,
-  c.requires.all,
-)
+overflow_sub-len = grind (arith, apart_in-parts)
 
 pub insert-requires : goal.insert-requires
-insert-requires g c = omega (
-  arith,
-  c.args.large.now.ok.0,
-  c.place_apart-place.ensures.place,
-  apart_in-parts c.args.index c.args.bytes.now.items,
-  c.requires.all,
-)
+insert-requires = grind (arith, apart_in-parts)
 
 pub returns-in_err-insert-clause-steps : goal.returns-in_err-insert-clause-steps
-returns-in_err-insert-clause-steps g c = omega (
-  arith,
-  c.add.ensures,
-  c.len-2.ensures,
-  c.args.large.now.ok.0,
-  c.place_apart-place.ensures.place,
-  c.place_apart-place.ensures.steps,
-  apart_in-parts c.args.index c.args.bytes.now.items,
-  apart_few (drop c.args.index c.args.bytes.now.items),
-  length-drop c.args.index c.args.bytes.now.items,
-  c.requires.all,
-  c.requires.index,
-)
+returns-in_err-insert-clause-steps = grind (arith, apart_in-parts, apart_few, length-drop)
 
 pub returns-clause-same : goal.returns-clause-same
 returns-clause-same g c = let bytes = c.args.bytes.now.items in
@@ -62,16 +37,4 @@ returns-clause-all g c = let bytes = c.args.bytes.now.items in
     )
 
 pub returns-clause-steps : goal.returns-clause-steps
-returns-clause-steps g c = omega (
-  arith,
-  c.add.ensures,
-  c.len-2.ensures,
-  c.args.large.now.ok.0,
-  c.place_apart-place.ensures.place,
-  c.place_apart-place.ensures.steps,
-  apart_in-parts c.args.index c.args.bytes.now.items,
-  apart_few (drop c.args.index c.args.bytes.now.items),
-  length-drop c.args.index c.args.bytes.now.items,
-  c.requires.all,
-  c.requires.index,
-)
+returns-clause-steps = grind (arith, apart_in-parts, apart_few, length-drop)

@@ -38,12 +38,7 @@ pub returns-clause-ok : goal.returns-clause-ok
 returns-clause-ok g c =
     let items = c.pairs-key-items.result.now in
     let same = c.pairs-key-items.ensures.pairs in
-    c.loop-key.invariant.told
-    ∙ ap (λ (s : Amounts). record (g.C.Compare.known c.args.compared.now) {
-      specified = take c.loop-key.key-index s;
-    }) (sym same)
-    ∙ ap (λ (s : Amounts). record (g.C.Compare.known c.args.compared.now) { specified = s })
-    (take_all c.loop-key.key-index items c.loop-key-test.false ∙ same)
+    cc (c.loop-key.invariant.told, take_all c.loop-key.key-index items c.loop-key-test.false)
 
 pub returns-clause-refused : goal.returns-clause-refused
 returns-clause-refused g c = ap (λ (k : Known). k.refused) c.loop-key.invariant.told

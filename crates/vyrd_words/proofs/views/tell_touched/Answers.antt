@@ -1,4 +1,4 @@
-use Rattle.std.proofs.Common.{ℕ, ◌+◌, length, arith, refl, take, get_or, ap, sym, ◌∙◌}
+use Rattle.std.proofs.Common.{ℕ, ◌+◌, arith, refl, take, get_or, ap, sym, ◌∙◌}
 use Rattle.std.proofs.lemmas.List.{take_all}
 use Rattle.vyrd_base.specs.Amounts.{Amounts, amount_of, with_amount}
 use Rattle.vyrd_base.specs.Rules.{rules_by}
@@ -44,41 +44,22 @@ loop-key-preserved g c =
 
 pub returns-clause-ok : goal.returns-clause-ok
 returns-clause-ok g c =
-    let items = c.touched-key-items.result.now in
-    let same = c.touched-key-items.ensures in
-    let known : Known = g.C.Compare.known c.args.compared.now in
-    let shown : Amounts =
-    (rules_by (g.S.Spec.charter c.args.spec.now)).shown (g.S.Spec.state c.args.spec.now) in
-    c.loop-key.invariant.told
-    ∙ ap (λ ks. record known {
-      specified = with_touched (take c.loop-key.key-index ks) shown known.specified;
-    }) (sym same)
-    ∙ ap (λ ks. record known { specified = with_touched ks shown known.specified })
-    (take_all c.loop-key.key-index items c.loop-key-test.false ∙ same)
+    grind (
+      arith,
+      c.loop-key.invariant.told,
+      c.touched-key-items.ensures,
+      take_all
+          c.loop-key.key-index c.touched-key-items.result.now c.loop-key-test.false,
+    )
 
 pub returns-clause-refused : goal.returns-clause-refused
-returns-clause-refused g c =
-    ap (λ (k : Known). k.refused) c.loop-key.invariant.told ∙ c.requires.sound
+returns-clause-refused g c = grind (arith, c.loop-key.invariant.told, c.requires.sound)
 
 pub loop-key-init : goal.loop-key-init
 loop-key-init g c = record { told = refl; steps = omega arith }
 
 pub returns-in_err-spec_changed-clause-steps : goal.returns-in_err-spec_changed-clause-steps
-returns-in_err-spec_changed-clause-steps g c =
-    omega (
-      arith,
-      c.tick.ensures,
-      c.spec_changed.ensures.steps,
-      c.loop-key.invariant.steps,
-      c.loop-key-test.true,
-      ap length c.touched-key-items.ensures,
-    )
+returns-in_err-spec_changed-clause-steps = grind arith
 
 pub returns-clause-steps : goal.returns-clause-steps
-returns-clause-steps g c =
-    omega (
-      arith,
-      c.loop-key.invariant.steps,
-      c.loop-key.auto.key-index-end,
-      ap length c.touched-key-items.ensures,
-    )
+returns-clause-steps = grind arith

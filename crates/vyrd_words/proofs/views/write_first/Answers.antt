@@ -61,8 +61,4 @@ loop-preserved g c =
 
 pub returns-clause-changed : goal.returns-clause-changed
 returns-clause-changed g c =
-    let done : c.args.count - c.loop.counter ≡ 0 = omega (arith, c.loop-test.false) in
-    sym (append-nil c.loop.changed.items)
-    ∙ sym (ap (λ n. c.loop.changed.items ++ map (λ write. write.0) (take n c.loop.writes.items))
-    done)
-    ∙ c.loop.invariant.changed
+    grind (arith, append-nil c.loop.changed.items, c.loop-test.false, c.loop.invariant.changed)

@@ -1,5 +1,5 @@
 use Rattle.std.proofs.Common.{◌≡◌, ℕ, List, ◌+◌, ◌∷◌, ◌++◌, [], ◌≤◌, length, take, get_or, arith}
-use Rattle.std.proofs.Common.{refl, ap, subst, sym, ◌∙◌}
+use Rattle.std.proofs.Common.{ap, subst, sym, ◌∙◌}
 use Rattle.std.proofs.lemmas.List.{take_more, take_all}
 use Rattle.std.specs.List.{sum_by}
 use Rattle.std.proofs.lemmas.List.Sums.{sum_by_push, sum_by-take-le}
@@ -10,16 +10,15 @@ use Rattle.vyrd_words.proofs.FewLaws.{begun_grows, begun_twice}
 use Rattle.vyrd_words.proofs.words.give.Goals as goal
 
 pub loop-word-init : goal.loop-word-init
-loop-word-init g c = record {
-  first = sym (first_with_nothing 0 c.args.views.now.first c.args.views.now.since);
-  since = sym (with_part_nothing 0 c.args.views.now.since);
-  begun = begun_grows 0 [] c.args.views.now.begun c.args.views.now.since;
-  specified = refl;
-  sound = c.requires.sound;
-  header = refl;
-  shows = refl;
-  steps = omega arith;
-}
+loop-word-init g c =
+    grind (
+      arith,
+      first_with_nothing 0 c.args.views.now.first c.args.views.now.since,
+      with_part_nothing 0 c.args.views.now.since,
+      begun_grows 0 [] c.args.views.now.begun
+          c.args.views.now.since,
+      c.requires.sound,
+    )
 
 pub loop-word-preserved : goal.loop-word-preserved
 loop-word-preserved g c =
@@ -64,44 +63,19 @@ loop-word-preserved g c =
     }
 
 pub returns-clause-first : goal.returns-clause-first
-returns-clause-first g c =
-    c.loop-word.invariant.first
-    ∙ ap (λ xs. first_with 0 (written c.args.words.now xs) c.args.views.now.first
-    c.args.views.now.since)
-    (take_all c.loop-word.word-index c.args.changed.now c.loop-word-test.false)
+returns-clause-first = grind (arith, written, take_all)
 
 pub returns-clause-since : goal.returns-clause-since
-returns-clause-since g c =
-    c.loop-word.invariant.since
-    ∙ ap (λ xs. with_part 0 (written c.args.words.now xs) c.args.views.now.since)
-    (take_all c.loop-word.word-index c.args.changed.now c.loop-word-test.false)
+returns-clause-since = grind (arith, written, take_all)
 
 pub returns-clause-begun : goal.returns-clause-begun
-returns-clause-begun g c =
-    subst (λ xs. c.loop-word.views.begun ≤ begun_with 0 (written c.args.words.now xs)
-    c.args.views.now.begun c.args.views.now.since)
-    (take_all c.loop-word.word-index c.args.changed.now c.loop-word-test.false)
-    c.loop-word.invariant.begun
+returns-clause-begun = grind (arith, written, take_all)
 
 pub returns-clause-steps : goal.returns-clause-steps
-returns-clause-steps g c =
-    let all = take_all c.loop-word.word-index c.args.changed.now c.loop-word-test.false in
-    omega (
-      arith,
-      c.loop-word.invariant.steps,
-      c.loop-word.auto.word-index-end,
-      ap (sum_by (g.C.Compare.price c.args.views.now.shows)) all,
-    )
+returns-clause-steps = grind (arith, take_all)
 
 pub returns-clause-most : goal.returns-clause-most
-returns-clause-most g c =
-    let all = take_all c.loop-word.word-index c.args.changed.now c.loop-word-test.false in
-    omega (
-      arith,
-      c.loop-word.invariant.steps,
-      c.loop-word.auto.word-index-end,
-      ap (sum_by (g.C.Compare.price c.args.views.now.shows)) all,
-    )
+returns-clause-most = grind (arith, take_all)
 
 pub returns-in_err-effect-clause-most : goal.returns-in_err-effect-clause-most
 returns-in_err-effect-clause-most g c =

@@ -3,9 +3,7 @@ use Rattle.vyrd_work.proofs.ItemLaws.{no_count, bad_count}
 use Rattle.vyrd_work.proofs.line.read_turns.Goals as goal
 
 pub returns-in_err-count : goal.returns-in_err-count
-returns-in_err-count c = rw c.from_residual-in_err-count.ensures
-    (no_count c.args.text.now c.in_ok-caller.caller c.in_ok-caller.rest.now
-    (omega (arith, c.in_ok-caller.ensures.0)) c.in_ok-caller.ensures.1 c.in_err-count.ensures)
+returns-in_err-count = grind (arith, no_count)
 
 pub returns-then-not-is_count : goal.returns-then-not-is_count
 returns-then-not-is_count c =

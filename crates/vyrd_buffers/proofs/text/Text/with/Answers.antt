@@ -6,21 +6,7 @@ pub pow-requires : goal.pow-requires
 pow-requires c = omega (arith, low_power c.args.self.read c.args.self.of c.requires c.args.self.few)
 
 pub overflow_mul-result : goal.overflow_mul-result
-overflow_mul-result c =
-    let low = low_power c.args.self.read c.args.self.of c.requires c.args.self.few in
-    omega (
-      arith,
-      digit_fits c.digit.result c.pow.result c.digit.ensures.small
-          (omega (arith, low, c.pow.ensures)),
-    )
+overflow_mul-result = grind (arith, low_power, digit_fits)
 
 pub overflow_add-result : goal.overflow_add-result
-overflow_add-result c =
-    let low = low_power c.args.self.read c.args.self.of c.requires c.args.self.few in
-    omega (
-      arith,
-      c.args.self.small,
-      low,
-      digit_fits c.digit.result c.pow.result
-          c.digit.ensures.small (omega (arith, low, c.pow.ensures)),
-    )
+overflow_add-result = grind (arith, low_power, digit_fits)

@@ -6,22 +6,16 @@ use Rattle.vyrd_cache.proofs.Steps.{decided}
 use Rattle.vyrd_cache.proofs.task.Task.knowing.Goals as goal
 
 pub returns-then-state-eq-DIRTY : goal.returns-then-state-eq-DIRTY
-returns-then-state-eq-DIRTY c =
-    λ h. looked_dirty h c.args.self c.doing.result c.args.state c.in-LookAndWrite.is
-    c.if-state-eq-DIRTY.true c.doing.ensures
+returns-then-state-eq-DIRTY c = search (looked_dirty, arith)
 
 pub returns-else-state-eq-DIRTY : goal.returns-else-state-eq-DIRTY
-returns-else-state-eq-DIRTY c =
-    λ h. looked_other h c.args.self c.doing-else-state-eq-DIRTY.result c.args.state
-    c.in-LookAndWrite.is c.if-state-eq-DIRTY.false c.doing-else-state-eq-DIRTY.ensures
+returns-else-state-eq-DIRTY = grind (arith, looked_other)
 
 pub returns-then-state-eq-DIRTY-2 : goal.returns-then-state-eq-DIRTY-2
-returns-then-state-eq-DIRTY-2 c = λ h. flushed_dirty h c.args.self c.args.state c.in-Flush.is
-    c.if-state-eq-DIRTY-2.true
+returns-then-state-eq-DIRTY-2 c = search (flushed_dirty, arith)
 
 pub returns-else-state-eq-DIRTY-2 : goal.returns-else-state-eq-DIRTY-2
-returns-else-state-eq-DIRTY-2 c =
-    λ h. flushed_other h c.args.self c.args.state c.in-Flush.is c.if-state-eq-DIRTY-2.false
+returns-else-state-eq-DIRTY-2 c = search (flushed_other, arith)
 
 pub returns-in-2 : goal.returns-in-2
 returns-in-2 c = λ h. evicted_dirty h c.args.self c.args.state c.in-Evict.is c.in-2.is
@@ -30,21 +24,13 @@ pub returns-in-0 : goal.returns-in-0
 returns-in-0 c = λ h. evicted_absent h c.args.self c.args.state c.in-Evict.is c.in-0.is
 
 pub returns-in_default-state : goal.returns-in_default-state
-returns-in_default-state c =
-    λ h. evicted_other h c.args.self c.doing-in_default-state.result c.args.state c.in-Evict.is
-    (omega arith)
-    (omega arith) c.doing-in_default-state.ensures
+returns-in_default-state = grind (arith, evicted_other)
 
 pub returns-then-state-eq-ABSENT : goal.returns-then-state-eq-ABSENT
-returns-then-state-eq-ABSENT c =
-    λ h. read_absent h c.args.self c.doing-then-state-eq-ABSENT.result c.args.state c.in-Read.is
-    c.if-state-eq-ABSENT.true c.doing-then-state-eq-ABSENT.ensures
+returns-then-state-eq-ABSENT = grind (arith, read_absent)
 
 pub returns-else-state-eq-ABSENT : goal.returns-else-state-eq-ABSENT
-returns-else-state-eq-ABSENT c =
-    λ h. read_other h c.args.self c.args.state c.in-Read.is c.if-state-eq-ABSENT.false
+returns-else-state-eq-ABSENT c = search (read_other, arith)
 
 pub returns-in_default : goal.returns-in_default
-returns-in_default c =
-    λ h. decided h c.args.self c.args.state c.in_default.not-LookAndWrite c.in_default.not-Flush
-    c.in_default.not-Evict c.in_default.not-Read
+returns-in_default = grind (arith, decided)

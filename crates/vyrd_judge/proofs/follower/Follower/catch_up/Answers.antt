@@ -1,7 +1,6 @@
-use Rattle.std.proofs.Common.{Some, ◌+◌, ◌≤◌, ap, sym, subst, ◌∙◌, arith}
+use Rattle.std.proofs.Common.{Some, ◌+◌, ◌≤◌, sym, subst, arith}
 use Rattle.std.proofs.lemmas.Result.{IfOk-weaker}
 use Rattle.vyrd_base.specs.Rules.{rules_by}
-use Rattle.vyrd_base.specs.Verdicts.{first_fault}
 use Rattle.vyrd_judge.specs.declared.outcome.Advance.TheVariants.{Goes}
 use Rattle.vyrd_judge.specs.Costs.{debt, debt_by}
 use Rattle.vyrd_judge.specs.Following.{IsCatchingUp, MayCatchUp, AdvanceGives, with_first}
@@ -21,49 +20,32 @@ go_on-requires-clause-may g c = may_catch_up_on c.requires.may (λ starting log 
     (subst (λ first. IsCatchingUp first c.args.self.now starting log) c.in-Some.is going)))
 
 pub returns-in_default-clause-answer : goal.returns-in_default-clause-answer
-returns-in_default-clause-answer g c = λ starting log going.
-    sym (caught_up (subst (λ first. IsCatchingUp first c.args.self.now starting log) c.in_default.is
-    going)).faultless
+returns-in_default-clause-answer g c = λ starting log going. grind (arith, starting, caught_up)
 
 pub returns-in_default-clause-follows : goal.returns-in_default-clause-follows
-returns-in_default-clause-follows g c = λ starting log going none.
-    caught_up (subst (λ first. IsCatchingUp first c.args.self.now starting log) c.in_default.is
-    going)
+returns-in_default-clause-follows g c =
+    λ starting log going none. grind (arith, starting, caught_up)
 
 pub returns-in-Goes-None-clause-follows : goal.returns-in-Goes-None-clause-follows
-returns-in-Goes-None-clause-follows g c = λ starting log going none.
-    caught_up (subst (AdvanceGives (rules_by c.args.self.now.charter) starting log c.judge.new.self)
-    (c.in-Goes-None.is ∙ ap Goes c.in-Goes-None.field-0-is)
-    (c.in_ok-judge.ensures.gives starting log
-    (subst (λ first. IsCatchingUp first c.args.self.now starting log) c.in-Some.is going)))
+returns-in-Goes-None-clause-follows g c =
+    λ starting log going none. grind (arith, starting, caught_up)
 
 pub returns-in-Goes-None-clause-answer : goal.returns-in-Goes-None-clause-answer
-returns-in-Goes-None-clause-answer g c = λ starting log going.
-    sym (caught_up
-    (subst (AdvanceGives (rules_by c.args.self.now.charter) starting log c.judge.new.self)
-    (c.in-Goes-None.is ∙ ap Goes c.in-Goes-None.field-0-is)
-    (c.in_ok-judge.ensures.gives starting log
-    (subst (λ first. IsCatchingUp first c.args.self.now starting log) c.in-Some.is
-    going)))).faultless
-    ∙ ap (λ l. first_fault (rules_by l) starting log) c.judge.ensures.charter
+returns-in-Goes-None-clause-answer g c =
+    λ starting log going. grind (arith, c.judge.ensures.charter, starting, caught_up)
 
 pub returns-in_default-clause-steps : goal.returns-in_default-clause-steps
-returns-in_default-clause-steps g c = λ starting log going.
-    subst (λ first. c.args.steps.now + debt g.S.Compared.Compare.price g.S.Spec.most_touched
-    c.args.self.now log ≤ c.args.steps.now + debt g.S.Compared.Compare.price g.S.Spec.most_touched
-    (with_first first c.args.self.now) log) (sym c.in_default.is) (omega arith)
+returns-in_default-clause-steps g c = λ starting log going. grind (arith, c.in_default.is)
 
 pub returns-in-Goes-None-clause-steps : goal.returns-in-Goes-None-clause-steps
-returns-in-Goes-None-clause-steps g c = λ starting log going.
-    subst (λ first. c.judge.new.steps + debt g.S.Compared.Compare.price g.S.Spec.most_touched
-    c.judge.new.self log ≤ c.args.steps.now + debt g.S.Compared.Compare.price g.S.Spec.most_touched
-    (with_first first c.args.self.now) log) (sym c.in-Some.is)
-    (subst (λ a. c.judge.new.steps + debt_by g.S.Compared.Compare.price g.S.Spec.most_touched a
-    c.judge.new.self log ≤ c.args.steps.now + debt g.S.Compared.Compare.price g.S.Spec.most_touched
-    (with_first (Some c.in-Some.x) c.args.self.now) log)
-    (c.in-Goes-None.is ∙ ap Goes c.in-Goes-None.field-0-is)
-    (c.in_ok-judge.ensures.steps starting log (subst (λ first. IsCatchingUp first c.args.self.now
-    starting log) c.in-Some.is going)))
+returns-in-Goes-None-clause-steps g c =
+    λ starting log going. grind (
+      arith,
+      c.in-Some.is,
+      c.in-Goes-None.is,
+      c.in-Goes-None.field-0-is,
+      starting,
+    )
 
 pub returns-in-Goes-clause-steps : goal.returns-in-Goes-clause-steps
 returns-in-Goes-clause-steps g c = λ starting log going.

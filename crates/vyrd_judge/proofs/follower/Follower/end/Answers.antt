@@ -11,8 +11,7 @@ returns-then-is_err-clause-verdict g c = λ starting log f.
     let was = subst (λ k. IsFaultless k starting log) (sym c.self.view_is) f in
     let opened = open_by _ c.end_counted.result (c.end_counted.ensures.end (newest_first log)
     was.taken_in.shape) in
-    end_open was (sym opened ∙ sym c.is_err.ensures.value ∙ c.if-is_err.true)
-    ∙ ap (λ (k : FollowerKept). verdict (rules_by k.charter) starting log) c.self.view_is
+    cc (end_open was (sym opened ∙ sym c.is_err.ensures.value ∙ c.if-is_err.true), c.self.view_is)
 
 pub returns-clause-verdict : goal.returns-clause-verdict
 returns-clause-verdict g c = λ starting log f.

@@ -1,10 +1,9 @@
-use Rattle.std.proofs.Common.{◌+◌, ◌∷◌, [], Some, refl, ap, subst, sym, ◌∙◌, arith}
+use Rattle.std.proofs.Common.{◌+◌, [], Some, refl, ap, subst, sym, ◌∙◌, arith}
 use Rattle.vyrd_base.specs.Rules.{rules_by}
 use Rattle.vyrd_base.specs.declared.verdict.Verdict.TheVariants.{Violation}
 use Rattle.vyrd_base.specs.Places.{newest_first}
 use Rattle.vyrd_base.specs.Verdicts.{first_fault}
 use Rattle.vyrd_judge.specs.Judged.{HeadGives, KnowsState}
-use Rattle.vyrd_judge.specs.Queued.{HasQueued}
 use Rattle.vyrd_words.specs.Effects.{effect_parts}
 use Rattle.vyrd_judge.specs.Following.{FollowerKept, IsCatchingUp, MayCatchUp}
 use Rattle.vyrd_judge.proofs.FollowerLaws.{may_judge, few_taken, few_position, taken_on, sound_up}
@@ -16,8 +15,7 @@ judge-requires-clause-may g c = may_judge c.args.x
     (subst (MayCatchUp (Some c.args.x)) (sym c.self.view_is) c.requires.may)
 
 pub judge-requires-clause-sound : goal.judge-requires-clause-sound
-judge-requires-clause-sound g c = sound_up
-    (subst (MayCatchUp (Some c.args.x)) (sym c.self.view_is) c.requires.may)
+judge-requires-clause-sound g c = search (sound_up, arith)
 
 pub leave-requires : goal.leave-requires
 leave-requires g c =
@@ -27,22 +25,10 @@ leave-requires g c =
     }
 
 pub overflow_add-line : goal.overflow_add-line
-overflow_add-line g c =
-    omega (
-      arith,
-      few_position c.args.x
-          (subst (MayCatchUp (Some c.args.x)) (sym c.self.view_is) c.requires.may)
-          c.self.invariant.3,
-    )
+overflow_add-line = grind (arith, few_position)
 
 pub overflow_add-line-in-Faults : goal.overflow_add-line-in-Faults
-overflow_add-line-in-Faults g c =
-    omega (
-      arith,
-      few_position c.args.x
-          (subst (MayCatchUp (Some c.args.x)) (sym c.self.view_is) c.requires.may)
-          c.self.invariant.3,
-    )
+overflow_add-line-in-Faults = grind (arith, few_position)
 
 pub returns-in-Goes-clause-gives : goal.returns-in-Goes-clause-gives
 returns-in-Goes-clause-gives g c = λ starting log going.
@@ -55,19 +41,16 @@ returns-in-Goes-clause-gives g c = λ starting log going.
     c.judge.new.self.watches.by_caller c.args.x i.queue.waiting.items c.judge.new.words.views.first
     c.judge.new.words.views.since) c.in-Goes.is gives in
     let queued = c.leave.ensures.left c.args.x (newest_first log) c.requires.can_leave
-    (subst (λ h. HasQueued h (c.args.x ∷ i.queue.waiting.items) i.queue.taken i.queue.callers.items
-    (newest_first log)) (sym c.self.invariant.2) was.taken_in.queued) in
+    (rw c.self.invariant.2 was.taken_in.queued) in
     record {
       taken_in = taken_on _ _ starting log i.queue.waiting.items was.taken_in judged
-          (subst (λ h. HasQueued h i.queue.waiting.items c.leave.new.self.taken
-          c.leave.new.self.callers.items (newest_first log)) c.self.invariant.2 queued)
+          (rw (← c.self.invariant.2) queued)
           c.leave.ensures.waiting c.judge.ensures.charter refl refl c.judge.ensures.shadow
           c.judge.ensures.inner c.judge.ensures.views_header
           (subst (KnowsState (rules_by (g.S.Spec.charter i.replay.spec)) c.judge.new.words.views
           (g.S.Spec.state c.judge.new.self.spec)) c.in-Goes.is
           (c.in_ok-judge.ensures.known was.taken_in.specified)) refl refl refl
-          (c.judge.new.self.callers
-          ∙ ap (λ g'. (rules_by g').header.callers) c.judge.ensures.charter)
+          (cc (c.judge.new.self.callers, c.judge.ensures.charter))
           c.judge.new.self.few.kept
           (c.in_ok-judge.ensures.few starting log i.queue.waiting.items (effect_parts [] [] log)
           was.taken_in.judged was.taken_in.few_writes);

@@ -1,9 +1,5 @@
-use Rattle.std.proofs.Common.{[], Some, refl, ap, sym, subst, ◌∙◌, arith}
+use Rattle.std.proofs.Common.{refl, ap, sym, ◌∙◌, arith}
 use Rattle.vyrd_base.specs.Rules.{rules_by}
-use Rattle.vyrd_base.specs.Starts.{words_at_start}
-use Rattle.vyrd_judge.specs.Queued.{HasQueued}
-use Rattle.std.specs.Prelude.{replicate}
-use Rattle.vyrd_base.specs.declared.header.Header.{Header}
 use Rattle.vyrd_observers.specs.Watching.{unwatched}
 use Rattle.vyrd_base.proofs.HeaderLaws.{few_words}
 use Rattle.vyrd_words.proofs.StartWords.{start_few}
@@ -16,17 +12,16 @@ returns-clause-taken_in g c =
     let r = rules_by (g.S.Spec.charter c.args.spec) in
     let named = sym c.requires.spec_header in
     first_taken_in _ r c.args.start.now
-    (ap (λ s. rules_by (g.S.Spec.charter s)) c.in_ok-replay.ensures.spec) refl
-    (c.requires.state ∙ ap (λ s. Some (g.S.Spec.state s)) (sym c.in_ok-replay.ensures.spec))
+    (cc (c.in_ok-replay.ensures.spec)) refl
+    (cc (c.requires.state, c.in_ok-replay.ensures.spec))
     c.in_ok-shape.ensures.followed (c.in_ok-shape.ensures.header ∙ named)
     c.in_ok-words.ensures.words (c.in_ok-words.ensures.header ∙ named)
     (c.in_ok-words.ensures.views_header ∙ named)
-    (subst (λ h. HasQueued h c.in_ok-queue.queue.waiting.items c.in_ok-queue.queue.taken
-    c.in_ok-queue.queue.callers.items []) named c.in_ok-queue.ensures.queued)
+    (rw (← named) c.in_ok-queue.ensures.queued)
     (ap g.S.Spec.made c.in_ok-replay.ensures.spec ∙ c.requires.made)
-    (c.in_ok-replay.ensures.unwatched ∙ ap (λ (h : Header). replicate h.callers unwatched) named)
-    c.in_ok-queue.ensures.waiting (c.in_ok-words.ensures.first ∙ c.requires.words
-    ∙ ap (λ h. words_at_start h c.args.start.now) named) c.in_ok-words.ensures.since refl refl refl
+    (cc (c.in_ok-replay.ensures.unwatched))
+    c.in_ok-queue.ensures.waiting (cc (c.in_ok-words.ensures.first, c.requires.words))
+    c.in_ok-words.ensures.since refl refl refl
     (c.in_ok-words.ensures.specified, c.in_ok-words.ensures.sound)
     c.in_ok-replay.replay.few.kept c.in_ok-words.ensures.begun
 

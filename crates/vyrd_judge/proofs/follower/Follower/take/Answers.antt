@@ -1,7 +1,6 @@
 use Rattle.std.proofs.Common.{◌≡◌, ◌<◌, ◌^◌, ◌∷◌, ◌++◌, [], refl, ap, subst, sym, ◌∙◌}
 use Rattle.vyrd_base.specs.Rules.{rules_by}
 use Rattle.vyrd_base.specs.Verdicts.{first_fault, verdict_so_far}
-use Rattle.vyrd_judge.specs.Queued.{MayQueue}
 use Rattle.vyrd_judge.specs.Following.{FollowerKept, IsFaultless, IsSomewhere}
 use Rattle.std.proofs.lemmas.Result.{IfOk-weaker}
 use Rattle.vyrd_judge.proofs.FollowerLaws.{broken_so_far, may_take, may_queue, low_commits}
@@ -44,8 +43,7 @@ follow_counted-requires-clause-may g c =
 pub follow-requires-clause-may : goal.follow-requires-clause-may
 follow-requires-clause-may g c =
     let i = c.self.inside in
-    subst (λ h. MayQueue h i.queue.waiting.items i.queue.taken i.queue.callers.items c.args.entry
-    i.entries) (sym c.self.invariant.2)
+    rw c.self.invariant.2
     (may_queue c.args.entry (subst IsSomewhere (sym c.self.view_is) c.requires.somewhere)
     (keeps_by c.args.entry (rules_by (g.S.Spec.charter c.self.inside.replay.spec)).header
     c.self.invariant.0 refl c.in_default.ensures.ok))
@@ -97,8 +95,7 @@ returns-clause-answer g c = λ starting log f.
     ) starting log was in
     IfOk-weaker c.catch_up.result (λ v. v ≡ first_fault r starting more)
     (λ v. v ≡ verdict_so_far (rules_by c.args.self.now.charter) starting more)
-    (λ v is. answer_with v going.taken_in is
-    ∙ ap (λ (k : FollowerKept). verdict_so_far (rules_by k.charter) starting more) c.self.view_is)
+    (λ v is. cc (answer_with v going.taken_in is, c.self.view_is))
     (c.catch_up.ensures.answer starting more going)
 
 pub returns-clause-follows : goal.returns-clause-follows

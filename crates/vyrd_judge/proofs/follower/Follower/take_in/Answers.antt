@@ -88,36 +88,20 @@ returns-in-BlockCommit-clause-follows g c = λ starting log f none. subst
     (c.take-in-BlockCommit.ensures.follows starting log f none)
 
 pub returns-in-Call-clause-steps : goal.returns-in-Call-clause-steps
-returns-in-Call-clause-steps g c = λ starting log f. subst (λ e. IfOk c.take.result
-    (λ v. c.take.new.steps + debt_after g.S.Compared.Compare.price g.S.Spec.most_touched v
-    c.take.new.self (log ++ e ∷ [])
-    ≤ c.args.steps.now + debt g.S.Compared.Compare.price g.S.Spec.most_touched c.args.self.now log
-    + entry_cost g.S.Compared.Compare.price g.S.Spec.most_touched c.args.self.now e))
-    (of_kind c.args.entry c.in-Call.is) (c.take.ensures.steps starting log f)
+returns-in-Call-clause-steps g c = λ starting log f. rw (← of_kind c.args.entry c.in-Call.is)
+    (c.take.ensures.steps starting log f)
 
 pub returns-in-Return-clause-steps : goal.returns-in-Return-clause-steps
-returns-in-Return-clause-steps g c = λ starting log f. subst (λ e. IfOk c.take-in-Return.result
-    (λ v. c.take-in-Return.new.steps + debt_after g.S.Compared.Compare.price g.S.Spec.most_touched v
-    c.take-in-Return.new.self (log ++ e ∷ [])
-    ≤ c.args.steps.now + debt g.S.Compared.Compare.price g.S.Spec.most_touched c.args.self.now log
-    + entry_cost g.S.Compared.Compare.price g.S.Spec.most_touched c.args.self.now e))
-    (of_kind c.args.entry c.in-Return.is) (c.take-in-Return.ensures.steps starting log f)
+returns-in-Return-clause-steps g c = λ starting log f. rw (← of_kind c.args.entry c.in-Return.is)
+    (c.take-in-Return.ensures.steps starting log f)
 
 pub returns-in-Write-clause-steps : goal.returns-in-Write-clause-steps
-returns-in-Write-clause-steps g c = λ starting log f. subst (λ e. IfOk c.take-in-Write.result
-    (λ v. c.take-in-Write.new.steps + debt_after g.S.Compared.Compare.price g.S.Spec.most_touched v
-    c.take-in-Write.new.self (log ++ e ∷ [])
-    ≤ c.args.steps.now + debt g.S.Compared.Compare.price g.S.Spec.most_touched c.args.self.now log
-    + entry_cost g.S.Compared.Compare.price g.S.Spec.most_touched c.args.self.now e))
-    (of_kind c.args.entry c.in-Write.is) (c.take-in-Write.ensures.steps starting log f)
+returns-in-Write-clause-steps g c = λ starting log f. rw (← of_kind c.args.entry c.in-Write.is)
+    (c.take-in-Write.ensures.steps starting log f)
 
 pub returns-in-Commit-clause-steps : goal.returns-in-Commit-clause-steps
-returns-in-Commit-clause-steps g c = λ starting log f. subst (λ e. IfOk c.take-in-Commit.result
-    (λ v. c.take-in-Commit.new.steps + debt_after g.S.Compared.Compare.price g.S.Spec.most_touched v
-    c.take-in-Commit.new.self (log ++ e ∷ [])
-    ≤ c.args.steps.now + debt g.S.Compared.Compare.price g.S.Spec.most_touched c.args.self.now log
-    + entry_cost g.S.Compared.Compare.price g.S.Spec.most_touched c.args.self.now e))
-    (of_kind c.args.entry c.in-Commit.is) (c.take-in-Commit.ensures.steps starting log f)
+returns-in-Commit-clause-steps g c = λ starting log f. rw (← of_kind c.args.entry c.in-Commit.is)
+    (c.take-in-Commit.ensures.steps starting log f)
 
 pub returns-in-BlockOpen-clause-steps : goal.returns-in-BlockOpen-clause-steps
 returns-in-BlockOpen-clause-steps g c = λ starting log f. subst

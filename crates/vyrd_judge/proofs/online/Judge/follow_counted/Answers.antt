@@ -1,11 +1,10 @@
-use Rattle.std.proofs.Common.{◌+◌, ◌≤◌, ◌++◌, take, drop, ap, sym, subst, ◌∙◌, arith}
+use Rattle.std.proofs.Common.{◌+◌, ◌++◌, take, drop, ap, sym, subst, ◌∙◌, arith}
 use Rattle.std.proofs.Common.{append_assoc, append-nil, refl}
 use Rattle.std.proofs.lemmas.List.{take_more, take-append-drop}
 use Rattle.vyrd_base.specs.Rules.{rules_by}
 use Rattle.vyrd_base.specs.Verdicts.{verdict_so_far}
 use Rattle.vyrd_judge.specs.Following.{JudgeView, HasFollowed}
 use Rattle.vyrd_base.proofs.FrontLaws.{take_past}
-use Rattle.vyrd_judge.specs.Costs.{judge_debt, log_cost}
 use Rattle.vyrd_judge.proofs.CostLaws.{stands_paid, first_paid, entry_paid, verdict_paid}
 use Rattle.vyrd_judge.proofs.OnlineLaws.{stands_on, followed_on, decided, none_stands}
 use Rattle.vyrd_judge.proofs.OnlineLaws.{so_far_is_known}
@@ -38,8 +37,7 @@ loop-entry-preserved g c =
     let i = c.loop-entry.entry-index in
     record {
       followed = λ starting log f. subst (HasFollowed c.take.new.self starting)
-          (append_assoc log (take i es) _ ∙ ap (λ xs. log ++ xs) (sym
-          (take_more es i _ c.loop-entry-test.true)))
+          (cc (append_assoc log (take i es) _, take_more es i _ c.loop-entry-test.true))
           (c.in_ok-verdict.ensures.followed starting (log ++ take i es)
           (c.loop-entry.invariant.followed starting log f));
       header = c.take.ensures.charter ∙ c.loop-entry.invariant.header;
@@ -65,8 +63,7 @@ returns-in-Some-2-clause-followed g c = λ starting log f.
     decided log (take (i + 1) es) (drop (i + 1) es) (take-append-drop (i + 1) es)
     (c.in_ok-verdict.ensures.so_far ∙ c.in-Some-2.is)
     (subst (HasFollowed c.take.new.self starting)
-    (append_assoc log (take i es) _
-    ∙ ap (λ xs. log ++ xs) (sym (take_more es i _ c.loop-entry-test.true)))
+    (cc (append_assoc log (take i es) _, take_more es i _ c.loop-entry-test.true))
     (c.in_ok-verdict.ensures.followed starting (log ++ take i es)
     (c.loop-entry.invariant.followed starting log f)))
 
@@ -91,12 +88,7 @@ returns-clause-answer g c = λ starting log f.
     c.loop-entry.invariant.header
 
 pub returns-in-Some-clause-steps : goal.returns-in-Some-clause-steps
-returns-in-Some-clause-steps g c = λ starting log f.
-    stands_paid g.S.Compared.Compare.price g.S.Spec.most_touched c.args.self.now c.args.steps.now
-    (log_cost g.S.Compared.Compare.price g.S.Spec.most_touched c.args.self.now.kept
-    c.args.entries.now) log
-    (log ++ c.args.entries.now)
-    (ap (λ (j : JudgeView). j.so_far) (sym c.self.view_is) ∙ c.in-Some.is)
+returns-in-Some-clause-steps g c = λ starting log f. grind (arith, starting, stands_paid)
 
 pub returns-in-Some-2-clause-steps : goal.returns-in-Some-2-clause-steps
 returns-in-Some-2-clause-steps g c = λ starting log f.
@@ -116,12 +108,11 @@ returns-in-Some-2-clause-steps g c = λ starting log f.
     (c.loop-entry.invariant.paid starting log f))
 
 pub returns-clause-steps : goal.returns-clause-steps
-returns-clause-steps g c = λ starting log f.
-    subst (λ xs. c.loop-entry.steps + judge_debt g.S.Compared.Compare.price g.S.Spec.most_touched
-    c.loop-entry.self (log ++ xs)
-    ≤ c.args.steps.now + judge_debt g.S.Compared.Compare.price g.S.Spec.most_touched c.args.self.now
-    log
-    + log_cost g.S.Compared.Compare.price g.S.Spec.most_touched c.args.self.now.kept xs)
-    (take_past c.args.entries.now c.loop-entry.entry-index c.loop-entry.auto.entry-index-end
-    c.loop-entry-test.false)
-    (c.loop-entry.invariant.paid starting log f)
+returns-clause-steps g c =
+    λ starting log f. grind (
+      arith,
+      take_past c.args.entries.now c.loop-entry.entry-index
+          c.loop-entry.auto.entry-index-end c.loop-entry-test.false,
+      c.loop-entry.invariant.paid starting
+          log f,
+    )

@@ -17,8 +17,7 @@ use Rattle.vyrd_judge.proofs.online.Judge.follow_history_counted.Goals as goal
 
 pub returns-in-Some-clause-answer : goal.returns-in-Some-clause-answer
 returns-in-Some-clause-answer g c = λ starting log f.
-    stands_on (log_of c.args.history.now) (ap (λ (j : JudgeView). j.so_far) (sym c.self.view_is)
-    ∙ c.in-Some.is) f
+    stands_on (log_of c.args.history.now) (cc (c.self.view_is, c.in-Some.is)) f
 
 pub returns-in-Some-clause-followed : goal.returns-in-Some-clause-followed
 returns-in-Some-clause-followed g c = λ starting log f.
@@ -44,8 +43,7 @@ loop-event-preserved g c =
     let i = c.loop-event.event-index in
     record {
       followed = λ starting log f. subst (HasFollowed c.take_event.new.self starting)
-          (append_assoc log (log_of (take i es)) _ ∙ ap (λ xs. log ++ xs) (sym
-          (log_more es i c.loop-event-test.true)))
+          (cc (append_assoc log (log_of (take i es)) _, log_more es i c.loop-event-test.true))
           (c.in_ok-verdict.ensures.followed starting (log ++ log_of (take i es))
           (c.loop-event.invariant.followed starting log f));
       header = c.take_event.ensures.charter ∙ c.loop-event.invariant.header;
@@ -58,16 +56,9 @@ loop-event-preserved g c =
           (log_of (take i es)) (cons_option (logged (get_or es i past).caller (get_or es i
           past).did) []) (log_of (take (i + 1) es)) c.loop-event.invariant.header
           c.loop-event.invariant.shows (log_more es i c.loop-event-test.true)
-          (subst (λ xs. c.take_event.new.steps + judge_debt g.S.Compared.Compare.price
-          g.S.Spec.most_touched
-          c.take_event.new.self xs
-          ≤ c.loop-event.steps + judge_debt g.S.Compared.Compare.price g.S.Spec.most_touched
-          c.loop-event.self (log ++ log_of (take i es))
-          + log_cost g.S.Compared.Compare.price g.S.Spec.most_touched c.loop-event.self.kept
-          (cons_option (logged (get_or es i past).caller (get_or es i past).did) []) + 1)
-          (append_assoc log (log_of (take i es)) (cons_option (logged (get_or es i past).caller
-          (get_or es i past).did) []) ∙ ap (λ xs. log ++ xs) (sym
-          (log_more es i c.loop-event-test.true)))
+          (rw (← append_assoc log (log_of (take i es)) (cons_option (logged (get_or es i
+          past).caller (get_or es i past).did) []) ∙ ap (λ xs. log ++ xs) (sym (log_more es i
+          c.loop-event-test.true)))
           (c.in_ok-verdict.ensures.steps starting (log ++ log_of (take i es))
           (c.loop-event.invariant.followed starting log f)))
           (c.loop-event.invariant.paid starting log f);
@@ -81,8 +72,7 @@ returns-in-Some-2-clause-followed g c = λ starting log f.
     decided log (log_of (take (i + 1) es)) (log_of (drop (i + 1) es)) (log_around es (i + 1))
     (c.in_ok-verdict.ensures.so_far ∙ c.in-Some-2.is)
     (subst (HasFollowed c.take_event.new.self starting)
-    (append_assoc log (log_of (take i es)) _
-    ∙ ap (λ xs. log ++ xs) (sym (log_more es i c.loop-event-test.true)))
+    (cc (append_assoc log (log_of (take i es)) _, log_more es i c.loop-event-test.true))
     (c.in_ok-verdict.ensures.followed starting (log ++ log_of (take i es))
     (c.loop-event.invariant.followed starting log f)))
 
@@ -106,11 +96,7 @@ returns-clause-answer g c = λ starting log f.
     c.loop-event.invariant.header
 
 pub returns-in-Some-clause-steps : goal.returns-in-Some-clause-steps
-returns-in-Some-clause-steps g c = λ starting log f.
-    stands_events g.S.Compared.Compare.price g.S.Spec.most_touched c.args.self.now c.args.steps.now
-    (log_cost g.S.Compared.Compare.price g.S.Spec.most_touched c.args.self.now.kept
-    (log_of c.args.history.now)) (length c.args.history.now) log (log ++ log_of c.args.history.now)
-    (ap (λ (j : JudgeView). j.so_far) (sym c.self.view_is) ∙ c.in-Some.is)
+returns-in-Some-clause-steps g c = λ starting log f. grind (arith, starting, stands_events)
 
 pub returns-in-Some-2-clause-steps : goal.returns-in-Some-2-clause-steps
 returns-in-Some-2-clause-steps g c = λ starting log f.
@@ -143,11 +129,5 @@ returns-in-Some-2-clause-steps g c = λ starting log f.
 pub returns-clause-steps : goal.returns-clause-steps
 returns-clause-steps g c = λ starting log f.
     last_events _ _ _ _ c.loop-event.auto.event-index-end
-    (subst (λ xs. c.loop-event.steps + judge_debt g.S.Compared.Compare.price g.S.Spec.most_touched
-    c.loop-event.self (log ++ xs)
-    ≤ c.args.steps.now + judge_debt g.S.Compared.Compare.price g.S.Spec.most_touched c.args.self.now
-    log
-    + log_cost g.S.Compared.Compare.price g.S.Spec.most_touched c.args.self.now.kept xs
-    + c.loop-event.event-index)
-    (ap log_of (take_all c.loop-event.event-index c.args.history.now c.loop-event-test.false))
+    (rw (← ap log_of (take_all c.loop-event.event-index c.args.history.now c.loop-event-test.false))
     (c.loop-event.invariant.paid starting log f))

@@ -1,7 +1,7 @@
 use Rattle.std.proofs.Common.{◌+◌, ◌≤◌, ◌∷◌, ◌++◌, [], Ok, ap, sym, subst, ◌∙◌}
 use Rattle.std.proofs.Math.Logic.{∥∥₁_map}
 use Rattle.vyrd_judge.specs.Following.{JudgeView, HasFollowed}
-use Rattle.vyrd_judge.specs.Costs.{debt, debt_after, judge_debt, entry_cost}
+use Rattle.vyrd_judge.specs.Costs.{debt, debt_after, entry_cost}
 use Rattle.vyrd_judge.proofs.OnlineLaws.{faultless_of}
 use Rattle.vyrd_judge.proofs.online.Judge.take.Goals as goal
 
@@ -26,15 +26,8 @@ returns-in-Ok-None-clause-steps g c = λ starting log f.
     let kept = c.self.inside.follower in
     let more = log ++ c.args.entry ∷ [] in
     let none = ap (λ (j : JudgeView). j.so_far) c.self.view_is ∙ c.requires.undecided in
-    subst (λ (j : JudgeView). c.take_in.new.steps + debt_after g.S.Compared.Compare.price
-    g.S.Spec.most_touched c.self.inside.so_far
-    c.take_in.new.self more ≤ c.args.steps.now + judge_debt g.S.Compared.Compare.price
-    g.S.Spec.most_touched j log + entry_cost g.S.Compared.Compare.price g.S.Spec.most_touched j.kept
-    c.args.entry) c.self.view_is
-    (subst (λ o. c.take_in.new.steps + debt_after g.S.Compared.Compare.price g.S.Spec.most_touched o
-    c.take_in.new.self more
-    ≤ c.args.steps.now + debt_after g.S.Compared.Compare.price g.S.Spec.most_touched o kept log
-    + entry_cost g.S.Compared.Compare.price g.S.Spec.most_touched kept c.args.entry) (sym none)
+    rw (← c.self.view_is)
+    (rw none
     (subst (λ v. c.take_in.new.steps + debt_after g.S.Compared.Compare.price g.S.Spec.most_touched v
     c.take_in.new.self more
     ≤ c.args.steps.now + debt g.S.Compared.Compare.price g.S.Spec.most_touched kept log
@@ -47,12 +40,8 @@ returns-in-Ok-Some-clause-steps g c = λ starting log f.
     let kept = c.self.inside.follower in
     let more = log ++ c.args.entry ∷ [] in
     let none = ap (λ (j : JudgeView). j.so_far) c.self.view_is ∙ c.requires.undecided in
-    subst (λ (j : JudgeView). c.take_in.new.steps + 0 ≤ c.args.steps.now
-    + judge_debt g.S.Compared.Compare.price g.S.Spec.most_touched j log +
-    entry_cost g.S.Compared.Compare.price g.S.Spec.most_touched j.kept c.args.entry) c.self.view_is
-    (subst (λ o. c.take_in.new.steps + 0 ≤ c.args.steps.now
-    + debt_after g.S.Compared.Compare.price g.S.Spec.most_touched o kept log
-    + entry_cost g.S.Compared.Compare.price g.S.Spec.most_touched kept c.args.entry) (sym none)
+    rw (← c.self.view_is)
+    (rw none
     (subst (λ v. c.take_in.new.steps + debt_after g.S.Compared.Compare.price g.S.Spec.most_touched v
     c.take_in.new.self more
     ≤ c.args.steps.now + debt g.S.Compared.Compare.price g.S.Spec.most_touched kept log

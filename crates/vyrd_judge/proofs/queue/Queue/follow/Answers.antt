@@ -70,13 +70,10 @@ returns-in-BlockCommit-clause-taken_up g c = λ earlier q keeps at.
     (keeps_as c.in-BlockCommit.is keeps) q callers waiting taken))
 
 pub returns-in-Write-clause-taken_up : goal.returns-in-Write-clause-taken_up
-returns-in-Write-clause-taken_up g c = λ earlier q keeps at. taken_kind c.args.entry c.in-Write.is
-    (write_up c.args.entry.caller _ _ q)
+returns-in-Write-clause-taken_up g c = search (taken_kind, write_up, arith)
 
 pub returns-in-BlockOpen-clause-taken_up : goal.returns-in-BlockOpen-clause-taken_up
-returns-in-BlockOpen-clause-taken_up g c = λ earlier q keeps at. taken_kind c.args.entry
-    c.in-BlockOpen.is (open_up c.args.entry.caller q)
+returns-in-BlockOpen-clause-taken_up g c = search (taken_kind, open_up, arith)
 
 pub returns-in-BlockClose-clause-taken_up : goal.returns-in-BlockClose-clause-taken_up
-returns-in-BlockClose-clause-taken_up g c = λ earlier q keeps at. taken_kind c.args.entry
-    c.in-BlockClose.is (close_up c.args.entry.caller q)
+returns-in-BlockClose-clause-taken_up g c = search (taken_kind, close_up, arith)

@@ -1,4 +1,4 @@
-use Rattle.std.proofs.Common.{◌≡◌, ℕ, List, Ok, length, set, ap, sym, subst, ◌∙◌, arith}
+use Rattle.std.proofs.Common.{◌≡◌, ℕ, List, Ok, length, ap, sym, subst, ◌∙◌, arith}
 use Rattle.std.specs.Prelude.{option_map}
 use Rattle.vyrd_base.specs.Amounts.{Amounts, first_difference}
 use Rattle.vyrd_base.specs.States.{State}
@@ -9,7 +9,7 @@ use Rattle.vyrd_judge.proofs.ReachedFaults.{by_next}
 use Rattle.vyrd_judge.proofs.JudgingLaws.{current_closed}
 use Rattle.vyrd_spec.specs.Touching.{with_touched}
 use Rattle.vyrd_view.specs.Known.{view_by}
-use Rattle.vyrd_observers.specs.Watching.{AllSee, AreCurrent, unwatched}
+use Rattle.vyrd_observers.specs.Watching.{AreCurrent}
 use Rattle.vyrd_observers.proofs.SeeingLaws.{still_current}
 use Rattle.vyrd_base.proofs.KeptLaws.{method_subject, method_args}
 use Rattle.vyrd_words.proofs.FewLaws.{few_answered}
@@ -21,20 +21,13 @@ known_on : (r q : Rules) (keys : List ℕ) (before after : State) (known : Amoun
     → known ≡ r.shown before
     → with_touched keys (r.shown after) (r.shown before) ≡ r.shown after
     → with_touched keys (q.shown after) known ≡ q.shown after
-known_on r q keys before after known same is makes =
-    subst (λ p. with_touched keys (p.shown after) known ≡ p.shown after) (sym same)
-    (ap (with_touched keys (r.shown after)) is ∙ makes)
+known_on r q keys before after known same is makes = grind (arith, after)
 
 pub step-requires-clause-subject : goal.step-requires-clause-subject
-step-requires-clause-subject g c =
-    method_subject (rules_by (g.S.Spec.charter c.args.self.now.spec)).header c.args.method
-    c.args.args
-    c.requires.may
+step-requires-clause-subject = grind (arith, method_subject)
 
 pub step-requires-clause-args : goal.step-requires-clause-args
-step-requires-clause-args g c = method_args
-    (rules_by (g.S.Spec.charter c.args.self.now.spec)).header c.args.method c.args.args
-    c.requires.may
+step-requires-clause-args = grind (arith, method_args)
 
 pub returns-then-not-branch-clause-leads : goal.returns-then-not-branch-clause-leads
 returns-then-not-branch-clause-leads g c = λ part rest is known.
@@ -88,22 +81,19 @@ returns-clause-leads g c = λ part rest is known.
     (c.in_ok-step.ensures.touched (ap Ok c.if-not-branch.false)) in
     record {
       next = c.in_ok-step.ensures.allowed (ap Ok c.if-not-branch.false);
-      same = ap (λ v. first_difference v (r.shown after))
-          (ap (λ (view : List ℕ → Amounts). view first) (sym c.requires.shows))
-          ∙ ap (λ (p : Rules). first_difference (view_by c.args.words.now.views.shows first)
-          (p.shown after)) (sym (ap rules_by c.step.ensures.charter))
-          ∙ sym (c.in_ok-key.ensures.difference part rest is makes)
-          ∙ is_none _ c.in_default.not-Some;
+      same = cc (
+        c.requires.shows,
+        c.step.ensures.charter,
+        c.in_ok-key.ensures.difference part rest
+            is makes,
+        is_none _ c.in_default.not-Some,
+      );
       count = omega (arith, c.in_ok-step.ensures.counted (ap Ok c.if-not-branch.false));
-      seen = subst (λ (p : Rules). AllSee (p.answer after)
-          (set c.args.self.now.watches.by_caller c.args.caller unwatched)
-          c.see_all_counted.new.self.by_caller) (ap rules_by c.step.ensures.charter)
-          (subst (λ ws. AllSee ((rules_by (g.S.Spec.charter c.step.new.self)).answer after) ws
-          c.see_all_counted.new.self.by_caller) c.close_counted.ensures.watches
+      seen = rw (← ap rules_by c.step.ensures.charter)
+          (rw (← c.close_counted.ensures.watches)
           c.in_ok-see_all_counted.ensures.seen);
       len = c.see_all_counted.ensures.len ∙ ap length c.close_counted.ensures.watches;
-      current = subst (λ (p : Rules). AreCurrent (p.answer after)
-          c.see_all_counted.new.self.by_caller) (ap rules_by c.step.ensures.charter)
+      current = rw (← ap rules_by c.step.ensures.charter)
           c.in_ok-see_all_counted.ensures.current;
       words = c.in_ok-key.ensures.first part rest is;
       since = c.in_ok-key.ensures.since part rest is;
@@ -127,14 +117,4 @@ returns-clause-few g c = λ part rest parts waits are.
     (c.in_ok-key.ensures.since part rest waits) (c.in_ok-key.ensures.begun part rest waits) are
 
 pub returns-clause-known : goal.returns-clause-known
-returns-clause-known g c = λ known. (
-  c.in_ok-key.ensures.specified
-      ∙ known_on (rules_by (g.S.Spec.charter c.args.self.now.spec))
-      (rules_by (g.S.Spec.charter c.step.new.self)) (g.S.Spec.touched c.step.new.self)
-      (g.S.Spec.state c.args.self.now.spec)
-      (g.S.Spec.state c.step.new.self) _ (ap rules_by c.step.ensures.charter) known
-      (c.in_ok-step.ensures.touched (ap Ok c.if-not-branch.false))
-      ∙ ap (λ (p : Rules). p.shown (g.S.Spec.state c.step.new.self))
-      (ap rules_by c.step.ensures.charter),
-  c.in_ok-key.ensures.sound,
-)
+returns-clause-known = grind (arith, known_on)

@@ -1,7 +1,6 @@
 use Rattle.vyrd_base.specs.Rules.{rules_by}
-use Rattle.std.proofs.Common.{ap, sym, subst, ◌∙◌}
+use Rattle.std.proofs.Common.{ap, sym, ◌∙◌}
 use Rattle.vyrd_judge.specs.declared.waiting.Event.TheVariants.{Commits}
-use Rattle.vyrd_judge.specs.Judged.{Judged}
 use Rattle.vyrd_judge.proofs.JudgingLaws.{begins_caller, begins_may, begins_free, commits_caller}
 use Rattle.vyrd_judge.proofs.JudgingLaws.{commits_may, commits_mutates, returns_caller, steps_few}
 use Rattle.vyrd_judge.proofs.JudgingLaws.{judged_current, judged_begins, watch_there}
@@ -52,12 +51,8 @@ returns-in_ok-begin-in-Begins-clause-gives g c = λ starting log xs j known.
     let old = c.args.self.now in
     let done = judged_begins (sym c.event.ensures ∙ c.in-Begins.is) old.callers j in
     let same_spec = c.begin.ensures.spec in
-    subst (λ s. Judged h starting log (g.S.Spec.state s)
-    (g.S.Spec.made s) c.begin.new.self.watches.by_caller xs c.args.words.now.views.first
-    c.args.words.now.views.since) (sym same_spec)
-    (subst (λ ws. Judged h starting log (g.S.Spec.state old.spec) (g.S.Spec.made old.spec) ws xs
-    c.args.words.now.views.first c.args.words.now.views.since)
-    (sym (rw c.caller.ensures.is at c.in_ok-begin-in-Begins.ensures.watches)) done)
+    rw same_spec
+    (rw (rw c.caller.ensures.is at c.in_ok-begin-in-Begins.ensures.watches) done)
 
 pub unreachable-requires : goal.unreachable-requires
 unreachable-requires g c =
@@ -83,12 +78,8 @@ returns-then-end-clause-gives g c = λ starting log xs j known.
     let done = judged_answered seen.0 (sym c.event.ensures ∙ c.in-Returns.is) seen.1
     (sym (c.end.ensures.answered seen.0 (rw c.caller-in-Returns.ensures.is seen.1)) ∙ c.if-end.true)
     j in
-    subst (λ s. Judged h starting log (g.S.Spec.state s)
-    (g.S.Spec.made s) c.end.new.self.watches.by_caller xs c.args.words.now.views.first
-    c.args.words.now.views.since) (sym c.end.ensures.spec)
-    (subst (λ ws. Judged h starting log (g.S.Spec.state old.spec) (g.S.Spec.made old.spec) ws xs
-    c.args.words.now.views.first c.args.words.now.views.since)
-    (sym (rw c.caller-in-Returns.ensures.is at c.end.ensures.watches)) done)
+    rw c.end.ensures.spec
+    (rw (rw c.caller-in-Returns.ensures.is at c.end.ensures.watches) done)
 
 pub returns-else-end-clause-gives : goal.returns-else-end-clause-gives
 returns-else-end-clause-gives g c = λ starting log xs j known.

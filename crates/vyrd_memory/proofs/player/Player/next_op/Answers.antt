@@ -1,5 +1,5 @@
 use Rattle.std.proofs.Common.{◌≡◌, ℕ, ◌+◌, true, List, [], ◌∷◌, length, drop, Option, Some, None}
-use Rattle.std.proofs.Common.{ap, sym, ◌∙◌, subst, Bor}
+use Rattle.std.proofs.Common.{ap, sym, ◌∙◌, Bor}
 use Rattle.std.specs.Prelude.{get_or, is_some, nat_lt, MatchOption, IfSome}
 use Rattle.std.specs.List.{list_all}
 use Rattle.std.specs.Option.{option_copied}
@@ -28,8 +28,6 @@ returns g c =
     rw (c.copied.ensures)
     (at_place c.args.self.now.underway.header c.args.self.now.ops.items c.args.self.now.begun
     c.get.result
-    (c.get.ensures.lookup.0 ∙ ap (λ xs. nat_lt c.args.self.now.begun (length xs))
-    c.deref.ensures.value)
-    (subst (λ xs. IfSome c.get.result (λ x. x.now ≡ get_or xs c.args.self.now.begun x.now))
-    c.deref.ensures.value c.get.ensures.lookup.1)
+    (cc (c.get.ensures.lookup.0, c.deref.ensures.value))
+    (rw (← c.deref.ensures.value) c.get.ensures.lookup.1)
     c.args.self.now.callable)

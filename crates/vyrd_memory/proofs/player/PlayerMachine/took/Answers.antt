@@ -1,7 +1,7 @@
 use Rattle.std.proofs.Common.{◌∙◌, sym, ap}
 use Rattle.std.specs.Prelude.{drop}
 use Rattle.std.specs.Option.{option_map_or}
-use Rattle.vyrd_memory.specs.Scripts.{stop, followed_by, operations}
+use Rattle.vyrd_memory.specs.Scripts.{stop}
 use Rattle.vyrd_memory.specs.Laws.Player.{player_goes_on}
 use Rattle.vyrd_memory.proofs.player.PlayerMachine.took.Goals as goal
 
@@ -10,11 +10,10 @@ returns-then-is_some-clause-script g c =
     let m = c.args.self.now in
     let new = option_map_or (g.P.Progress.rest c.go_on.new.self.header) c.go_on.new.self.progress
     stop in
-    ap (λ h. followed_by new
-    (operations (g.P.Progress.procedure h m.variant) (drop m.begun m.ops.items)))
-    c.go_on.ensures.header
-    ∙ player_goes_on m.underway.header m.underway.left (g.P.Progress.rest m.underway.header)
-    m.underway.progress (g.P.Progress.procedure m.underway.header m.variant)
-    (drop m.begun m.ops.items)
-    c.args.answer new m.underway.goes_on (sym c.is_some.ensures ∙ c.if-is_some.true)
-    c.go_on.ensures.script
+    cc (
+      c.go_on.ensures.header,
+      player_goes_on m.underway.header m.underway.left (g.P.Progress.rest
+          m.underway.header) m.underway.progress (g.P.Progress.procedure m.underway.header m.variant)
+          (drop m.begun m.ops.items) c.args.answer new m.underway.goes_on (sym c.is_some.ensures ∙
+          c.if-is_some.true) c.go_on.ensures.script,
+    )

@@ -1,6 +1,6 @@
 -- The operation under way is sound and ends in time, so that its next place is, unless nothing is
 -- left there: then this is its return.
-use Rattle.std.proofs.Common.{◌∙◌, sym, ap, subst, arith, ◌-◌}
+use Rattle.std.proofs.Common.{◌∙◌, sym, ap, arith, ◌-◌}
 use Rattle.std.specs.Option.{option_map_or}
 use Rattle.vyrd_memory.specs.Scripts.{stop, next_act, after_answer, IsAnswer}
 use Rattle.vyrd_memory.specs.Underway.{IsUnderway}
@@ -10,41 +10,18 @@ use Rattle.vyrd_memory.specs.Laws.Underway.{underway_over, underway_ends}
 use Rattle.vyrd_memory.proofs.underway.Underway.go_on.Goals as goal
 
 pub took-requires-clause-sound : goal.took-requires-clause-sound
-took-requires-clause-sound g c =
-    let s = c.args.self.now in
-    underway_sound s.header s.left (g.P.Progress.rest s.header c.in-Some.progress)
-    (of_some (λ p. IsUnderway s.header s.left (g.P.Progress.rest s.header p)) s.progress
-    c.in-Some.progress c.in-Some.is s.goes_on)
+took-requires-clause-sound = grind (arith, underway_sound, of_some)
 
 pub took-requires-clause-goes_on : goal.took-requires-clause-goes_on
-took-requires-clause-goes_on g c =
-    let s = c.args.self.now in
-    underway_goes_on s.header s.left (g.P.Progress.rest s.header c.in-Some.progress)
-    (of_some (λ p. IsUnderway s.header s.left (g.P.Progress.rest s.header p)) s.progress
-    c.in-Some.progress c.in-Some.is s.goes_on)
+took-requires-clause-goes_on = grind (arith, underway_goes_on, of_some)
 
 pub overflow_sub-self : goal.overflow_sub-self
-overflow_sub-self g c =
-    let s = c.args.self.now in
-    underway_left s.header s.left (g.P.Progress.rest s.header c.in-Some.progress)
-    (of_some (λ p. IsUnderway s.header s.left (g.P.Progress.rest s.header p)) s.progress
-    c.in-Some.progress c.in-Some.is s.goes_on)
+overflow_sub-self = grind (arith, underway_left, of_some)
 
 pub invariant_of-self-else-is_over-clause-goes_on :
     goal.invariant_of-self-else-is_over-clause-goes_on
-invariant_of-self-else-is_over-clause-goes_on g c =
-    let s = c.args.self.now in
-    let answer = is_of_some (λ p. IsAnswer
-    (next_act (g.P.Progress.rest s.header p)) c.args.answer) s.progress c.in-Some.progress
-    c.in-Some.is c.requires.answer in
-    let underway = of_some (λ p. IsUnderway s.header s.left (g.P.Progress.rest s.header p))
-    s.progress c.in-Some.progress c.in-Some.is s.goes_on in
-    let same = underway_ends s.header s.left (g.P.Progress.rest s.header c.in-Some.progress)
-    (g.P.Progress.rest s.header c.took.new.self) c.args.answer underway answer c.took.ensures in
-    let goes = sym same ∙ sym (c.is_over.ensures s.header s.subject) ∙ c.if-is_over.false in
-    subst (Underway s.header (s.left - 1)) (sym c.took.ensures)
-    (underway_next s.header s.left (g.P.Progress.rest s.header c.in-Some.progress) c.args.answer
-    underway goes answer)
+invariant_of-self-else-is_over-clause-goes_on =
+    grind (arith, is_of_some, of_some, underway_ends, underway_next)
 
 pub returns-then-is_over-clause-script : goal.returns-then-is_over-clause-script
 returns-then-is_over-clause-script g c =
@@ -64,16 +41,7 @@ returns-then-is_over-clause-script g c =
     underway ends answer)
 
 pub returns-then-is_over-clause-falls : goal.returns-then-is_over-clause-falls
-returns-then-is_over-clause-falls g c =
-    let s = c.args.self.now in
-    underway_left s.header s.left (g.P.Progress.rest s.header c.in-Some.progress)
-    (of_some (λ p. IsUnderway s.header s.left (g.P.Progress.rest s.header p)) s.progress
-    c.in-Some.progress c.in-Some.is s.goes_on)
+returns-then-is_over-clause-falls = grind (arith, underway_left, of_some)
 
 pub returns-else-is_over-clause-falls : goal.returns-else-is_over-clause-falls
-returns-else-is_over-clause-falls g c =
-    let s = c.args.self.now in
-    let low = underway_left s.header s.left (g.P.Progress.rest s.header c.in-Some.progress)
-    (of_some (λ p. IsUnderway s.header s.left (g.P.Progress.rest s.header p)) s.progress
-    c.in-Some.progress c.in-Some.is s.goes_on) in
-    omega (arith, low)
+returns-else-is_over-clause-falls = grind (arith, underway_left, of_some)

@@ -25,7 +25,5 @@ returns-clause-taken c =
     let held = c.in_ok-new.ensures.held
     ∙ (λ i. replicate (c.callers.ensures i) (replicate (words_for (c.lock_words.ensures i)) 0)) in
     let cells = c.in_ok-new.ensures.cells ∙ ap (λ n. replicate n unused) c.plain_words.ensures in
-    subst (λ steps. HasTaken
-    (record { header = c.args.header; uses = c.in_ok-new.field-0; steps = steps }) [])
-    (ap (map step_coded) (sym c.new-2.ensures.items))
+    rw (← ap (map step_coded) (sym c.new-2.ensures.items))
     (taken_nothing c.args.header c.in_ok-new.field-0 held cells)

@@ -1,6 +1,5 @@
 use Rattle.std.proofs.Common.{◌≡◌, ◌∙◌, [], ◌∷◌, ◌++◌, map, ap, sym, subst}
 use Rattle.vyrd_mover.specs.Steps.{step_coded, code_of, step_of}
-use Rattle.vyrd_mover.specs.Usage.{kept_after}
 use Rattle.vyrd_mover.specs.Taking.{HasTaken, IsNext}
 use Rattle.vyrd_mover.proofs.TakingLaws.{taken_more}
 use Rattle.vyrd_mover.proofs.checker.BlockChecker.take.Goals as goal
@@ -14,20 +13,8 @@ returns-clause-taken c = λ history taken next.
     let code = c.code.ensures ∙ ap code_of c.of.ensures in
     let codes : c.push_reserved.new.self.items ≡ before.codes.items ++ code_of (step_of e) ∷ [] =
     c.push_reserved.ensures.items ∙ (λ i. c.reserve.ensures.items i ++ code i ∷ []) in
-    subst (λ uses. HasTaken
-    (record {
-      header = before.header;
-      uses = uses;
-      steps = map step_coded c.push_reserved.new.self.items;
-    }) (history ++ e ∷ []))
-    (sym c.in_ok-follow.ensures.ok)
-    (subst (λ cs. HasTaken
-    (record {
-      header = before.header;
-      uses = kept_after before.uses e.caller e.did;
-      steps = map step_coded cs;
-    }) (history ++ e ∷ []))
-    (sym codes) (taken_more before.header before.uses before.codes.items history e had legal))
+    rw c.in_ok-follow.ensures.ok
+    (rw codes (taken_more before.header before.uses before.codes.items history e had legal))
 
 pub invariant_of-self-2 : goal.invariant_of-self-2
 invariant_of-self-2 c =
@@ -49,12 +36,6 @@ invariant_of-self-2 c =
             steps = map step_coded c.push_reserved.new.self.items;
           }) (history ++ e ∷ []))
           (sym c.in_ok-follow.ensures.ok)
-          (subst (λ cs. HasTaken
-          (record {
-            header = before.header;
-            uses = kept_after before.uses e.caller e.did;
-            steps = map step_coded cs;
-          }) (history ++ e ∷ []))
-          (sym codes) (taken_more before.header before.uses before.codes.items history e had
+          (rw codes (taken_more before.header before.uses before.codes.items history e had
           legal));
     }

@@ -1,7 +1,6 @@
 use Rattle.std.proofs.Common.{refl, sym, ◌∙◌, subst}
-use Rattle.std.specs.Prelude.{OnOk, IfErr}
+use Rattle.std.specs.Prelude.{OnOk}
 use Rattle.vyrd_mover.specs.EventsRead.{HaveReadOn}
-use Rattle.vyrd_mover.specs.Refusals.{IsRefusedAt}
 use Rattle.vyrd_mover.proofs.EventLaws.{event_in_sound}
 use Rattle.vyrd_mover.proofs.EventsReadLaws.{line_says}
 use Rattle.vyrd_mover.proofs.events.Events.take_line.Goals as goal
@@ -34,5 +33,4 @@ returns-clause-err c = λ r have.
     let says = line_says c.args.self.now.ledger c.args.self.now.checker r c.subject.result
     c.len.result c.args.line.now have c.subject.ensures c.len.ensures _
     (sym c.read_event.ensures ∙ c.in-Some.is) in
-    subst (λ read. IfErr c.take_event.result (λ fault. IsRefusedAt c.args.number fault read))
-    (sym says) (c.take_event.ensures.err r have)
+    rw says (c.take_event.ensures.err r have)

@@ -1,5 +1,4 @@
-use Rattle.std.proofs.Common.{◌+◌, Some, ◌∷◌, [], ◌++◌, sym, subst}
-use Rattle.vyrd_mover.specs.HistoryReaders.{IsAtBy}
+use Rattle.std.proofs.Common.{Some}
 use Rattle.vyrd_mover.proofs.LinesLaws.{at_later, later_taken, later_refused}
 use Rattle.vyrd_mover.proofs.lines.Lines.take_later_line.Goals as goal
 
@@ -13,8 +12,7 @@ pub returns-in-Ok : goal.returns-in-Ok
 returns-in-Ok c = λ bytes at some.
     let l = c.args.self.now in
     let f = at_later l c.in-Some.events bytes c.requires.fine c.in-Some.is at in
-    subst (λ fault. IsAtBy (l.line + 1) (Some c.next_line.new.events) c.in-Ok.ended fault
-    (bytes ++ (c.args.line.now ++ 10 ∷ []))) (sym c.requires.fine)
+    rw c.requires.fine
     (later_taken l.line c.in-Some.events c.next_line.new.events l.ended c.in-Ok.ended
     c.args.line.now bytes f (c.in-Ok.ensures.ok f.recorded f.have))
 

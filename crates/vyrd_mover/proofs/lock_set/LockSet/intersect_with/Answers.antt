@@ -1,7 +1,6 @@
-use Rattle.std.proofs.Common.{◌≡◌, ◌<◌, ◌≤◌, ◌+◌, ◌∙◌, bit_and, get_or, set, length, arith, ap, sym}
+use Rattle.std.proofs.Common.{◌≡◌, ◌<◌, ◌+◌, ◌∙◌, bit_and, get_or, set, length, arith, sym}
 use Rattle.std.proofs.Common.{subst}
 use Rattle.std.proofs.lemmas.Grind.{get_or_default_zero}
-use Rattle.vyrd_mover.specs.LockSets.{in_both}
 use Rattle.vyrd_mover.proofs.LockLaws.{IsMet, met_none, met_more, met_all}
 use Rattle.vyrd_mover.proofs.lock_set.LockSet.intersect_with.Goals as goal
 
@@ -23,8 +22,4 @@ loop-place-preserved c =
     (met_more words c.args.other.now items place before low)
 
 pub returns : goal.returns
-returns c =
-    let all : length c.self.inside.words.items ≤ c.loop-place.place = omega arith in
-    met_all c.self.inside.words.items c.args.other.now c.loop-place.self-inside.words.items
-    c.loop-place.place c.loop-place.invariant all
-    ∙ ap (λ words. in_both words c.args.other.now) c.self.view_is
+returns = grind (arith, met_all)

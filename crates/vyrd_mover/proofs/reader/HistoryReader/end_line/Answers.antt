@@ -14,10 +14,9 @@ returns-then-is_empty c = λ bytes read.
     let here = c.self.inside in
     let line = c.args.line.now ++ 10 ∷ [] in
     let s : ReaderState = record { lines = here.lines; unfinished = here.unfinished } in
-    let had : HasRead s bytes = subst (λ t. HasRead t bytes) (sym c.self.view_is) read in
+    let had : HasRead s bytes = rw c.self.view_is read in
     let none = c.is_empty.ensures.0 c.if-is_empty.true in
-    subst (λ xs. HasRead (record { lines = c.take_line.new.self; unfinished = xs }) (bytes ++ line))
-    (sym none)
+    rw none
     (whole_line c.take_line.new.self s bytes line had none (c.take_line.ensures had.whole had.at))
 
 pub take_line-requires-2-clause-one_line : goal.take_line-requires-2-clause-one_line
@@ -36,13 +35,11 @@ returns c = λ bytes read.
     let line = c.args.line.now in
     let l = c.take_line-2.new.self in
     let s : ReaderState = record { lines = here.lines; unfinished = here.unfinished } in
-    let had : HasRead s (bytes ++ line) = subst (λ t. HasRead t (bytes ++ line))
-    (sym c.self-2.view_is) (c.put.ensures bytes read) in
+    let had : HasRead s (bytes ++ line) = rw c.self-2.view_is (c.put.ensures bytes read) in
     let at = subst (λ xs. IsAt l (had.whole ++ (xs ++ 10 ∷ [])))
     (c.as_slice.ensures.bytes ∙ c.replace-whole.ensures.value)
     (c.take_line-2.ensures had.whole had.at) in
-    subst (λ xs. HasRead (record { lines = l; unfinished = xs }) (bytes ++ (line ++ 10 ∷ [])))
-    (sym (c.replace-whole.ensures.after ∙ c.new.ensures))
+    rw (c.replace-whole.ensures.after ∙ c.new.ensures)
     (subst (HasRead (record { lines = l; unfinished = [] })) (append_assoc bytes line (10 ∷ []))
     (nothing_unfinished l s (bytes ++ line) (10 ∷ []) had at))
 
@@ -55,8 +52,7 @@ invariant_of-self c =
     let none = c.is_empty.ensures.0 c.if-is_empty.true in
     record {
       bytes = c.self.invariant.bytes ++ line;
-      read = subst (λ xs. HasRead (record { lines = c.take_line.new.self; unfinished = xs })
-          (c.self.invariant.bytes ++ line)) (sym none)
+      read = rw none
           (whole_line c.take_line.new.self s c.self.invariant.bytes line had none
           (c.take_line.ensures had.whole had.at));
     }

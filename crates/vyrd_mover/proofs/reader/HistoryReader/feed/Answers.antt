@@ -1,4 +1,4 @@
-use Rattle.std.proofs.Common.{◌∙◌, ◌++◌, sym, subst}
+use Rattle.std.proofs.Common.{◌∙◌, ◌++◌, sym}
 use Rattle.vyrd_mover.specs.HistoryReaders.{HasRead, ReaderState}
 use Rattle.vyrd_mover.proofs.LinesLaws.{still_at_fault}
 use Rattle.vyrd_mover.proofs.ReaderLaws.{nothing_unfinished, fed_line, fed_all}
@@ -10,9 +10,8 @@ returns-then-is_at_fault c = λ before read.
     let here = c.self.inside in
     let piece = c.args.piece.now in
     let s : ReaderState = record { lines = here.lines; unfinished = here.unfinished } in
-    let had : HasRead s before = subst (λ t. HasRead t before) (sym c.self.view_is) read in
-    subst (λ xs. HasRead (record { lines = here.lines; unfinished = xs }) (before ++ piece))
-    (sym c.clear.ensures)
+    let had : HasRead s before = rw c.self.view_is read in
+    rw c.clear.ensures
     (nothing_unfinished here.lines s before piece had
     (still_at_fault here.lines had.whole (here.unfinished ++ piece)
     (sym c.is_at_fault.ensures ∙ c.if-is_at_fault.true) had.at))

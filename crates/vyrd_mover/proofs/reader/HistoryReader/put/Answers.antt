@@ -9,9 +9,8 @@ pub returns-then-is_at_fault : goal.returns-then-is_at_fault
 returns-then-is_at_fault c = λ before read.
     let here = c.self.inside in
     let s : ReaderState = record { lines = here.lines; unfinished = here.unfinished } in
-    let had : HasRead s before = subst (λ t. HasRead t before) (sym c.self.view_is) read in
-    subst (λ xs. HasRead (record { lines = here.lines; unfinished = xs })
-    (before ++ c.args.bytes.now)) (sym c.clear.ensures)
+    let had : HasRead s before = rw c.self.view_is read in
+    rw c.clear.ensures
     (nothing_unfinished here.lines s before c.args.bytes.now had
     (still_at_fault here.lines had.whole (here.unfinished ++ c.args.bytes.now)
     (sym c.is_at_fault.ensures ∙ c.if-is_at_fault.true) had.at))
@@ -21,7 +20,7 @@ returns-then-len-bytes-gt-LONGEST c = λ before read.
     let here = c.self.inside in
     let more = c.args.bytes.now in
     let s : ReaderState = record { lines = here.lines; unfinished = here.unfinished } in
-    let had : HasRead s before = subst (λ t. HasRead t before) (sym c.self.view_is) read in
+    let had : HasRead s before = rw c.self.view_is read in
     let long : 64 < length (here.unfinished ++ more) =
     omega (
       arith,
@@ -30,8 +29,7 @@ returns-then-len-bytes-gt-LONGEST c = λ before read.
       length-append here.unfinished
           more,
     ) in
-    subst (λ xs. HasRead (record { lines = c.break_long_line.new.self; unfinished = xs })
-    (before ++ more)) (sym c.clear-then-len-bytes-gt-LONGEST.ensures)
+    rw c.clear-then-len-bytes-gt-LONGEST.ensures
     (nothing_unfinished c.break_long_line.new.self s before more had
     (c.break_long_line.ensures had.whole (here.unfinished ++ more) had.at
     (lacks-append 10 here.unfinished more had.one_line c.requires) long))
@@ -62,9 +60,7 @@ invariant_of-self-then-len-bytes-gt-LONGEST c =
     ) in
     record {
       bytes = c.self.invariant.bytes ++ more;
-      read = subst (λ xs. HasRead (record { lines = c.break_long_line.new.self; unfinished = xs })
-          (c.self.invariant.bytes ++ more))
-          (sym c.clear-then-len-bytes-gt-LONGEST.ensures)
+      read = rw c.clear-then-len-bytes-gt-LONGEST.ensures
           (nothing_unfinished c.break_long_line.new.self s c.self.invariant.bytes more had
           (c.break_long_line.ensures had.whole (here.unfinished ++ more) had.at
           (lacks-append 10 here.unfinished more had.one_line c.requires) long));

@@ -11,7 +11,7 @@ use Rattle.vyrd_mover.specs.declared.step.Step.{Step}
 use Rattle.vyrd_mover.specs.Blocks.{line_of}
 use Rattle.vyrd_mover.specs.RaceFree.{is_race_free}
 use Rattle.vyrd_mover.specs.Steps.{step_coded, step_of, IsWithin}
-use Rattle.vyrd_mover.specs.Ahead.{preceded_by, HasSurveyed}
+use Rattle.vyrd_mover.specs.Ahead.{preceded_by}
 use Rattle.vyrd_mover.specs.Usage.{UsageKept}
 use Rattle.vyrd_mover.specs.Taking.{HasTaken}
 use Rattle.vyrd_mover.proofs.LegalPlaces.{MayCome, legal_event, in_range}
@@ -96,19 +96,14 @@ loop-place-preserved c = λ history taken.
     let e = get_or history i some_event in
     let later = drop c.loop-place.place history in
     let next : suc i ≡ c.loop-place.place = omega arith in
-    let front : drop i history ≡ e ∷ later = drop-cons history i some_event at.low
-    ∙ ap (λ n. e ∷ drop n history) next in
-    let line : i + 2 ≡ line_of e = ap (λ n. n + 2) (sym at.come.numbered) in
+    let front : drop i history ≡ e ∷ later = cc (drop-cons history i some_event at.low) in
+    let line : i + 2 ≡ line_of e = cc (at.come.numbered) in
     let more = survey_goes_on free h.callers e later c.loop-place.survey
     (c.loop-place.invariant history taken) at.come.caller in
     let on = c.precede.ensures (cells_of h) history taken.seen (omega (arith, some_callers h))
     ∙ λ j. preceded_by free c.loop-place.survey (line j) (at.is j).caller (at.is j).role in
-    subst (λ es. IsSurvey free h.callers es c.precede.new.self) (sym front)
+    rw front
     (subst (IsSurvey free h.callers (e ∷ later)) (sym on) more)
 
 pub returns : goal.returns
-returns c = λ history taken.
-    let all : c.loop-place.place ≡ 0 = omega arith in
-    subst (λ n. HasSurveyed (is_race_free (cells_of c.args.header) history)
-    (drop n history) c.loop-place.survey) all
-    ((c.loop-place.invariant history taken).surveyed)
+returns c = λ history taken. grind (arith, (c.loop-place.invariant history taken).surveyed)

@@ -58,15 +58,10 @@ returns-in-Some-clause-answered g c = λ seen there.
     ∙ ap (λ (s : Seen). has_answer s.answers c.args.reply) same
 
 pub invariant_of-self : goal.invariant_of-self
-invariant_of-self g c =
-    order_closed c.self.inside.header c.args.caller c.self.inside.trails.items
-    c.close.new.trails.items c.self.inside.by_caller.items
-    c.close.new.watches.items c.self.inside.reach c.close.new.reach c.close.ensures.closes
-    c.self.invariant
+invariant_of-self g c = search (order_closed, arith)
 
 pub returns-in-Some-clause-watches : goal.returns-in-Some-clause-watches
-returns-in-Some-clause-watches g c = c.close.ensures.closes.seen
-    ∙ ap (λ (k : Watched). set k.by_caller c.args.caller unwatched) c.self.view_is
+returns-in-Some-clause-watches g c = grind (arith, c.close.ensures.closes.seen, c.self.view_is)
 
 pub returns-in-Some-clause-keeps_few : goal.returns-in-Some-clause-keeps_few
 returns-in-Some-clause-keeps_few g c = keeps_few c.self.inside.header c.close.new.reach

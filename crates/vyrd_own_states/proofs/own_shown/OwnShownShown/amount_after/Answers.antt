@@ -1,6 +1,4 @@
-use Rattle.std.proofs.Common.{◌≡◌, subst, arith}
-use Rattle.std.specs.Prelude.{IfOk}
-use Rattle.vyrd_base.specs.Amounts.{amount_of}
+use Rattle.std.proofs.Common.{arith}
 use Rattle.vyrd_own_states.proofs.OwnShownLaws.{are_whole, whole_seen}
 use Rattle.vyrd_own_states.proofs.OwnAfterLaws.{behind_whole, among_whole}
 use Rattle.vyrd_own_states.proofs.own_shown.OwnShownShown.amount_after.Goals as goal
@@ -20,8 +18,4 @@ amount_after-requires-clause-before c =
     (omega (arith, c.if-word-whole.false))
 
 pub returns : goal.returns
-returns c =
-    let known = are_whole c.self.view_is c.self.invariant.0 c.requires.count
-    c.self.inside.parts.width_is c.self.invariant.2 c.parts.ensures c.width.ensures in
-    subst (λ view. IfOk c.amount_after.result (λ amount. amount ≡ amount_of view c.args.key))
-    (whole_seen known) c.amount_after.ensures
+returns = grind (arith, whole_seen)

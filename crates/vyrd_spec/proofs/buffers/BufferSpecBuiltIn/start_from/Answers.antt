@@ -1,9 +1,8 @@
-use Rattle.std.proofs.Common.{◌≡◌, Some, None, rules, ap, ◌∙◌, ◌^◌, sym}
+use Rattle.std.proofs.Common.{◌≡◌, Some, None, rules, ap, ◌∙◌, ◌^◌}
 use Rattle.vyrd_base.specs.Subjects.{is_built_in}
 use Rattle.vyrd_base.specs.declared.subject.Subject.TheVariants.{Buffers}
 use Rattle.vyrd_base.specs.Amounts.{collected}
 use Rattle.vyrd_base.specs.Buffers.{buffer_at, buffer_parts}
-use Rattle.vyrd_base.specs.Represented.{is_sound}
 use Rattle.vyrd_base.specs.Views.{parts_of}
 use Rattle.vyrd_spec.specs.Rows.{row_amounts}
 use Rattle.vyrd_spec.specs.Texts.{sound_texts}
@@ -34,8 +33,7 @@ returns-in-Some-clause-state c =
     let texts = c.in-Some.texts.items in
     let some : sound_texts size words ≡ Some texts = rw c.in-Some.is at c.in_ok-texts.ensures in
     a_state c.args.header Buffers words (row_amounts texts) c.requires.serves c.requires.count
-    (ap (λ n. is_sound Buffers n words) (sym c.size.ensures) ∙ sound_where (is_buffer_at words)
-    (text_shown words) size texts some)
+    (cc (c.size.ensures, sound_where (is_buffer_at words) (text_shown words) size texts some))
     (row_shows (is_buffer_at words) (text_shown words)
     (λ b. buffer_parts size b (buffer_at words b)) (given_text size words) size texts some
     ∙ ap (λ n. collected (parts_of Buffers n words)) c.size.ensures)
@@ -45,5 +43,4 @@ returns-in-None-clause-state c =
     let words = c.args.words.now in
     let none : sound_texts c.size.result words ≡ None = rw c.in-None.is at c.in_ok-texts.ensures in
     no_state c.args.header Buffers words c.requires.serves c.requires.count
-    (ap (λ n. is_sound Buffers n words) (sym c.size.ensures) ∙ unsound_where (is_buffer_at words)
-    (text_shown words) c.size.result none)
+    (cc (c.size.ensures, unsound_where (is_buffer_at words) (text_shown words) c.size.result none))

@@ -1,4 +1,4 @@
-use Rattle.std.proofs.Common.{◌≡◌, Some, None, rules, ap, ◌∙◌, ◌^◌, sym}
+use Rattle.std.proofs.Common.{◌≡◌, Some, None, rules, ap, ◌∙◌, ◌^◌}
 use Rattle.vyrd_base.specs.Subjects.{is_built_in}
 use Rattle.vyrd_base.specs.declared.subject.Subject.TheVariants.{Cache}
 use Rattle.vyrd_base.specs.Amounts.{collected}
@@ -34,8 +34,7 @@ returns-in-Some-clause-state c =
     let pairs = c.in-Some.pairs.items in
     let some : sound_pairs size words ≡ Some pairs = rw c.in-Some.is at c.in_ok-pairs.ensures in
     a_state c.args.header Cache words (row_amounts pairs) c.requires.serves c.requires.count
-    (ap (λ n. is_sound Cache n words) (sym c.size.ensures) ∙ sound_where (is_sound_at words)
-    (pair_shown words) size pairs some)
+    (cc (c.size.ensures, sound_where (is_sound_at words) (pair_shown words) size pairs some))
     (row_shows (is_sound_at words) (pair_shown words) (λ h. chunk_parts size h (chunk_at words h))
     (given_pair size words) size pairs some
     ∙ ap (λ n. collected (parts_of Cache n words)) c.size.ensures)
@@ -45,5 +44,4 @@ returns-in-None-clause-state c =
     let words = c.args.words.now in
     let none : sound_pairs c.size.result words ≡ None = rw c.in-None.is at c.in_ok-pairs.ensures in
     no_state c.args.header Cache words c.requires.serves c.requires.count
-    (ap (λ n. is_sound Cache n words) (sym c.size.ensures) ∙ unsound_where (is_sound_at words)
-    (pair_shown words) c.size.result none)
+    (cc (c.size.ensures, unsound_where (is_sound_at words) (pair_shown words) c.size.result none))

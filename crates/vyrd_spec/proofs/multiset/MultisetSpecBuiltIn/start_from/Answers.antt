@@ -1,8 +1,7 @@
-use Rattle.std.proofs.Common.{ap, ◌∙◌, sym, subst}
+use Rattle.std.proofs.Common.{ap, sym, subst}
 use Rattle.vyrd_base.specs.Subjects.{is_built_in}
 use Rattle.vyrd_base.specs.declared.subject.Subject.TheVariants.{Multiset}
 use Rattle.vyrd_base.specs.Amounts.{IsAmounts, collected}
-use Rattle.vyrd_base.specs.Represented.{is_sound}
 use Rattle.vyrd_base.specs.Views.{parts_of}
 use Rattle.vyrd_base.proofs.SumLaws.{IsAmounts-collected}
 use Rattle.vyrd_spec.proofs.SlotLaws.{first_counts}
@@ -12,8 +11,7 @@ use Rattle.vyrd_spec.proofs.multiset.MultisetSpecBuiltIn.start_from.Goals as goa
 pub returns-then-not-are_sound-clause-state : goal.returns-then-not-are_sound-clause-state
 returns-then-not-are_sound-clause-state c =
     no_state c.args.header Multiset c.args.words.now c.requires.serves c.requires.count
-    (ap (λ n. is_sound Multiset n c.args.words.now) (sym c.size-size.ensures)
-    ∙ sym c.are_sound.ensures ∙ c.if-not-are_sound.true)
+    (cc (c.size-size.ensures, c.are_sound.ensures, c.if-not-are_sound.true))
 
 pub invariant_of-result-clause-formed : goal.invariant_of-result-clause-formed
 invariant_of-result-clause-formed c =
@@ -31,7 +29,5 @@ pub returns-clause-state : goal.returns-clause-state
 returns-clause-state c =
     a_state c.args.header Multiset c.args.words.now c.in_ok-counts.field-0 c.requires.serves
     c.requires.count
-    (ap (λ n. is_sound Multiset n c.args.words.now) (sym c.size-size.ensures)
-    ∙ sym c.are_sound.ensures ∙ c.if-not-are_sound.false)
-    (c.in_ok-counts.ensures ∙ ap (λ n. collected (parts_of Multiset n c.args.words.now))
-    c.size-size.ensures)
+    (cc (c.size-size.ensures, c.are_sound.ensures, c.if-not-are_sound.false))
+    (cc (c.in_ok-counts.ensures, c.size-size.ensures))

@@ -3,15 +3,10 @@ use Rattle.vyrd_spec.proofs.NodeLaws.{left_at, many_lefts, left_in_use}
 use Rattle.vyrd_spec.proofs.nodes.Nodes.left.Goals as goal
 
 pub index-requires : goal.index-requires
-index-requires c =
-    let nodes = c.args.self.now in
-    omega (arith, c.requires, many_lefts nodes.last nodes.words.now nodes.lefts.items nodes.each)
+index-requires = grind (arith, many_lefts)
 
 pub returns-clause-left : goal.returns-clause-left
-returns-clause-left c =
-    let nodes = c.args.self.now in
-    c.index.ensures ∙ left_at nodes.last nodes.words.now nodes.lefts.items c.args.node
-    c.index.result.now nodes.each c.requires
+returns-clause-left = grind (arith, left_at)
 
 pub returns-clause-in_use : goal.returns-clause-in_use
 returns-clause-in_use c =

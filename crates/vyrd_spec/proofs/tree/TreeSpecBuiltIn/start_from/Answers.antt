@@ -1,7 +1,6 @@
-use Rattle.std.proofs.Common.{ap, ◌∙◌, sym, subst}
+use Rattle.std.proofs.Common.{sym, subst}
 use Rattle.vyrd_base.specs.declared.subject.Subject.TheVariants.{Tree}
 use Rattle.vyrd_base.specs.Amounts.{IsAmounts, collected}
-use Rattle.vyrd_base.specs.Represented.{is_sound}
 use Rattle.vyrd_base.specs.Views.{parts_of}
 use Rattle.vyrd_base.proofs.SumLaws.{IsAmounts-collected}
 use Rattle.vyrd_spec.proofs.StartFromLaws.{no_state, a_state}
@@ -15,14 +14,11 @@ invariant_of-result-clause-formed c =
 pub returns-then-not-branch-clause-state : goal.returns-then-not-branch-clause-state
 returns-then-not-branch-clause-state c =
     no_state c.args.header Tree c.args.words.now c.requires.serves c.requires.count
-    (ap (λ n. is_sound Tree n c.args.words.now) (sym c.size-size.ensures)
-    ∙ sym c.in_ok-is_tree.ensures ∙ c.if-not-branch.true)
+    (cc (c.size-size.ensures, c.in_ok-is_tree.ensures, c.if-not-branch.true))
 
 pub returns-clause-state : goal.returns-clause-state
 returns-clause-state c =
     a_state c.args.header Tree c.args.words.now c.in_ok-values.field-0 c.requires.serves
     c.requires.count
-    (ap (λ n. is_sound Tree n c.args.words.now) (sym c.size-size.ensures)
-    ∙ sym c.in_ok-is_tree.ensures ∙ c.if-not-branch.false)
-    (c.in_ok-values.ensures.values ∙ ap (λ n. collected (parts_of Tree n c.args.words.now))
-    c.size-size.ensures)
+    (cc (c.size-size.ensures, c.in_ok-is_tree.ensures, c.if-not-branch.false))
+    (cc (c.in_ok-values.ensures.values, c.size-size.ensures))

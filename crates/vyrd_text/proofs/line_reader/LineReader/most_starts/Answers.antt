@@ -1,6 +1,5 @@
-use Rattle.std.proofs.Common.{◌+◌, ◌≤◌, arith, subst}
+use Rattle.std.proofs.Common.{arith}
 use Rattle.vyrd_text.specs.Readers.{LineState}
-use Rattle.vyrd_text.specs.Ahead.{starts_ahead}
 use Rattle.vyrd_text.specs.ReaderView.{state_of}
 use Rattle.vyrd_text.proofs.ReaderLaws.{none_of, some_of}
 use Rattle.vyrd_text.proofs.AheadLaws.{ahead_first, ahead_begun}
@@ -12,8 +11,7 @@ returns-then-is_none-clause-most c =
     let within = ahead_first r.fault r.header r.starting r.unfinished c.args.piece.now
     (none_of c.self.inside.header c.if-is_none.ensures)
     c.self.invariant.one_line in
-    subst (λ (s : LineState). starts_ahead s c.args.piece.now ≤ c.count_later_starts.result)
-    c.self.view_is
+    rw (← c.self.view_is)
     (omega (arith, within, c.count_later_starts.ensures.count))
 
 pub returns-clause-most : goal.returns-clause-most
@@ -22,6 +20,5 @@ returns-clause-most c =
     let header = some_of c.self.inside.header c.if-is_none.ensures in
     let within = ahead_begun r.fault r.header header.0 r.starting r.unfinished c.args.piece.now
     header.1 c.self.invariant.one_line in
-    subst (λ (s : LineState). starts_ahead s c.args.piece.now ≤ 1 + c.count_later_starts-2.result)
-    c.self.view_is
+    rw (← c.self.view_is)
     (omega (arith, within, c.count_later_starts-2.ensures.count))

@@ -1,6 +1,6 @@
-use Rattle.std.proofs.Common.{ap, sym, ◌∙◌, subst, [], refl}
+use Rattle.std.proofs.Common.{ap, sym, ◌∙◌, refl}
 use Rattle.vyrd_text.specs.Readers.{LineState}
-use Rattle.vyrd_text.specs.Steps.{IsTaken, IsLineTaken, with_line, starts_of, entries_of}
+use Rattle.vyrd_text.specs.Steps.{starts_of, entries_of}
 use Rattle.vyrd_text.specs.ReaderView.{state_of}
 use Rattle.vyrd_text.proofs.ReaderLaws.{line_at_once, line_then}
 use Rattle.vyrd_text.proofs.line_reader.LineReader.take_line.Goals as goal
@@ -17,8 +17,5 @@ returns c =
     let same = c.as_slice.ensures.bytes ∙ c.replace-whole.ensures.value in
     line_then c.args.self.now (state_of c.self-2.inside) c.end_line-2.new.self c.args.line.now
     (starts_of c.end_line-2.result) (entries_of c.end_line-2.result)
-    (subst (λ (s : LineState). IsTaken c.args.self.now c.args.line.now [] [] s)
-    (sym c.self-2.view_is) c.take_unfinished.ensures)
-    (subst (λ t. IsLineTaken (with_line (state_of c.self-2.inside) t)
-    (starts_of c.end_line-2.result)
-    (entries_of c.end_line-2.result) c.end_line-2.new.self) same c.end_line-2.ensures)
+    (rw c.self-2.view_is c.take_unfinished.ensures)
+    (rw (← same) c.end_line-2.ensures)

@@ -1,8 +1,4 @@
-use Rattle.std.proofs.Common.{List, subst}
-use Rattle.vyrd_base.specs.declared.log.Entry.{Entry}
-use Rattle.vyrd_base.specs.declared.log.StartWord.{StartWord}
-use Rattle.vyrd_text.specs.Answered.{IsAnswer}
-use Rattle.vyrd_text.specs.Readers.{ReaderState, lines_of}
+use Rattle.vyrd_text.specs.Readers.{lines_of}
 use Rattle.vyrd_text.specs.Steps.{IsFed}
 use Rattle.vyrd_text.proofs.ReaderLaws.{reader_with}
 use Rattle.vyrd_text.proofs.ReadLaws.{fed_read, fed_start, fed_entries, fed_fault, unless}
@@ -13,15 +9,9 @@ fed : (c : goal.After-answer-2) → IsFed (lines_of c.args.self.now) c.args.piec
     c.args.self.now.start c.take_piece.new.start.items
     c.args.out.now.items c.take_piece.new.out.items c.take_piece.new.self
 fed c =
-    subst (λ (s : ReaderState). IsFed (lines_of s) c.args.piece.now s.start
-    c.take_piece.new.start.items
-    c.args.out.now.items c.take_piece.new.out.items c.take_piece.new.self) c.self.view_is
-    (subst (λ (t : List StartWord). IsFed c.self.inside.lines c.args.piece.now t
-    c.take_piece.new.start.items
-    c.args.out.now.items c.take_piece.new.out.items c.take_piece.new.self) c.reserve-2.ensures.items
-    (subst (λ (t : List Entry). IsFed c.self.inside.lines c.args.piece.now
-    c.reserve-2.new.self.items c.take_piece.new.start.items
-    t c.take_piece.new.out.items c.take_piece.new.self) c.reserve.ensures.items
+    rw (← c.self.view_is)
+    (rw (← c.reserve-2.ensures.items)
+    (rw (← c.reserve.ensures.items)
     c.take_piece.ensures))
 
 pub returns-clause-read : goal.returns-clause-read
@@ -44,7 +34,6 @@ returns-clause-entries c = λ bytes has. unless c.answer-2.result
 
 pub returns-clause-answer : goal.returns-clause-answer
 returns-clause-answer c = λ bytes has. unless c.answer-2.result
-    (subst (λ f. IsAnswer c.answer-2.result f)
-    (fed_fault c.args.self.now (reader_with c.take_piece.new.self c.take_piece.new.start.items)
-    bytes c.args.piece.now
-    c.args.out.now.items c.take_piece.new.out.items has (fed c)) c.answer-2.ensures)
+    (rw (← fed_fault c.args.self.now (reader_with c.take_piece.new.self
+    c.take_piece.new.start.items) bytes c.args.piece.now c.args.out.now.items
+    c.take_piece.new.out.items has (fed c)) c.answer-2.ensures)

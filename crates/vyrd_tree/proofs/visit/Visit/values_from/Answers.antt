@@ -10,8 +10,4 @@ returns-in-Some-clause-rest c = λ h task.
     c.in-Some.ensures.1 (omega (arith, len, c.requires.count))
 
 pub returns-in-None-clause-rest : goal.returns-in-None-clause-rest
-returns-in-None-clause-rest c = λ h task.
-    let v = c.args.self.now in
-    let len : length v.entries.slots ≡ 4 = search rules in
-    values_came h task v c.args.place c.args.count c.requires.place c.in-None.ensures
-    (omega (arith, len, c.requires.count))
+returns-in-None-clause-rest = grind (arith, values_came)

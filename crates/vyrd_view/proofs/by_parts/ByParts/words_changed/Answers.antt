@@ -47,13 +47,11 @@ copy_changed-requires-clause-elsewhere g c =
     c.requires.count ∙ sym (ap (λ k. k.count) c.self.view_is) in
     let elsewhere : AgreeElsewhere (padded (parts * width) words) c.args.words.now
     c.args.changed.now =
-    subst (λ before. AgreeElsewhere before c.args.words.now c.args.changed.now)
-    (sym (grown.0 ∙ ap (λ k. k.words) c.self.view_is)) c.requires.elsewhere in
+    rw (grown.0 ∙ ap (λ k. k.words) c.self.view_is) c.requires.elsewhere in
     let count : c.len-front.result ≡ length words =
     omega (arith, c.len-front.ensures, c.make_room.new.words.ok.0) in
-    subst (λ before. AgreeElsewhere before (take c.len-front.result c.args.words.now)
-    c.args.changed.now) (sym c.deref_mut.ensures.value)
-    (subst (λ n. AgreeElsewhere words (take n c.args.words.now) c.args.changed.now) (sym count)
+    rw c.deref_mut.ensures.value
+    (rw count
     (room_agrees width places parts held (d.gives decoder) words c.args.words.now c.args.changed.now
     pairs grown.1 all elsewhere ok.room))
 
@@ -80,8 +78,7 @@ parts_changed-requires-clause-others g c =
     c.requires.count ∙ sym (ap (λ k. k.count) c.self.view_is) in
     let elsewhere : AgreeElsewhere (padded (parts * width) words) c.args.words.now
     c.args.changed.now =
-    subst (λ before. AgreeElsewhere before c.args.words.now c.args.changed.now)
-    (sym (grown.0 ∙ ap (λ k. k.words) c.self.view_is)) c.requires.elsewhere in
+    rw (grown.0 ∙ ap (λ k. k.words) c.self.view_is) c.requires.elsewhere in
     room_others width places parts held (d.gives decoder) words c.args.words.now c.args.changed.now
     pairs grown.1 all elsewhere ok.room
 
@@ -105,36 +102,33 @@ invariant_of-self-2 g c =
     held kept.words.items words kept.parts.pairs pairs (c.self.invariant sound) ok.more ok.held
     ok.words ok.places ok.old ok.new in
     let all : length c.args.words.now ≡ parts * width =
-    c.requires.count ∙ sym (ap (λ k. k.count) c.self.view_is) in
+    c.requires.count ∙ sym (cc (c.self.view_is)) in
     let elsewhere : AgreeElsewhere (padded (parts * width) words) c.args.words.now
     c.args.changed.now =
-    subst (λ before. AgreeElsewhere before c.args.words.now c.args.changed.now)
-    (sym (grown.0 ∙ ap (λ k. k.words) c.self.view_is)) c.requires.elsewhere in
+    rw (grown.0 ∙ ap (λ k. k.words) c.self.view_is) c.requires.elsewhere in
     let count : c.len-front.result ≡ length words =
     omega (arith, c.len-front.ensures, c.make_room.new.words.ok.0) in
     let front : c.copy_changed.new.before ≡ take (length words) c.args.words.now =
-    c.copy_changed.ensures ∙ ap (λ n. take n c.args.words.now) count in
+    cc (c.copy_changed.ensures) in
     let back : take c.make_room.new.words.len (c.copy_changed.new.before
     ++ drop (length c.copy_changed.new.before) words) ≡ take (length words) c.args.words.now =
     written_back c.make_room.new.words.len c.copy_changed.new.before words
     (omega (arith, c.make_room.new.words.ok.0)) (ap length front
     ∙ front_length (parts * width) words c.args.words.now c.args.changed.now all
     (omega (arith, grown.1.count, mul-le-mul_right width grown.1.few)) elsewhere) ∙ front in
-    let after : ComparedKept = record {
-      pairs = pairs_by width places held (d.gives decoder) c.args.words.now;
-      specified = c.make_room.new.parts.specified;
-      refused = c.make_room.new.parts.refused;
+    let after : ComparedKept = record c.make_room.new.parts {
+      pairs = pairs_by width places held
+          (d.gives decoder) c.args.words.now;
     } in
     λ fine.
     let now : c.parts_changed.new.parts ≡ after =
     of_sound c.parts_changed.result (c.parts_changed.new.parts ≡ after)
     c.parts_changed.new.parts.refused c.parts_changed.ensures.ok c.parts_changed.ensures.refused
     fine in
-    subst (λ ws. HaveRoom width places parts held (d.gives decoder) ws
-    c.parts_changed.new.parts.pairs) (sym back)
+    rw back
     (room_stays width places parts held (d.gives decoder) words c.args.words.now c.args.changed.now
     pairs grown.1 all elsewhere ok.room
-    c.parts_changed.new.parts.pairs (ap (λ k. k.pairs) now))
+    c.parts_changed.new.parts.pairs (cc))
 
 pub returns-clause-ok : goal.returns-clause-ok
 returns-clause-ok g c =
@@ -156,25 +150,23 @@ returns-clause-ok g c =
     held kept.words.items words kept.parts.pairs pairs (c.self.invariant sound) ok.more ok.held
     ok.words ok.places ok.old ok.new in
     let all : length c.args.words.now ≡ parts * width =
-    c.requires.count ∙ sym (ap (λ k. k.count) c.self.view_is) in
+    c.requires.count ∙ sym (cc (c.self.view_is)) in
     let elsewhere : AgreeElsewhere (padded (parts * width) words) c.args.words.now
     c.args.changed.now =
-    subst (λ before. AgreeElsewhere before c.args.words.now c.args.changed.now)
-    (sym (grown.0 ∙ ap (λ k. k.words) c.self.view_is)) c.requires.elsewhere in
+    rw (grown.0 ∙ ap (λ k. k.words) c.self.view_is) c.requires.elsewhere in
     let count : c.len-front.result ≡ length words =
     omega (arith, c.len-front.ensures, c.make_room.new.words.ok.0) in
     let front : c.copy_changed.new.before ≡ take (length words) c.args.words.now =
-    c.copy_changed.ensures ∙ ap (λ n. take n c.args.words.now) count in
+    cc (c.copy_changed.ensures) in
     let back : take c.make_room.new.words.len (c.copy_changed.new.before
     ++ drop (length c.copy_changed.new.before) words) ≡ take (length words) c.args.words.now =
     written_back c.make_room.new.words.len c.copy_changed.new.before words
     (omega (arith, c.make_room.new.words.ok.0)) (ap length front
     ∙ front_length (parts * width) words c.args.words.now c.args.changed.now all
     (omega (arith, grown.1.count, mul-le-mul_right width grown.1.few)) elsewhere) ∙ front in
-    let after : ComparedKept = record {
-      pairs = pairs_by width places held (d.gives decoder) c.args.words.now;
-      specified = c.make_room.new.parts.specified;
-      refused = c.make_room.new.parts.refused;
+    let after : ComparedKept = record c.make_room.new.parts {
+      pairs = pairs_by width places held
+          (d.gives decoder) c.args.words.now;
     } in
     let whole : padded (parts * width) (take c.make_room.new.words.len (c.copy_changed.new.before
     ++ drop (length c.copy_changed.new.before) words)) ≡ c.args.words.now =

@@ -1,23 +1,20 @@
 use Rattle.std.proofs.Common.{◌≡◌, ℕ, ◌+◌, ◌*◌, false, true, length, length-set, replicate, set, ap}
 use Rattle.std.proofs.Common.{sym}
-use Rattle.std.proofs.Common.{◌∙◌, subst, arith}
+use Rattle.std.proofs.Common.{◌∙◌, arith}
 use Rattle.std.proofs.lemmas.List.{length-replicate}
 use Rattle.vyrd_base.specs.Amounts.{given}
-use Rattle.vyrd_view.specs.Chained.{IsWalked}
 use Rattle.vyrd_view.proofs.CurrentLaws.{given_copies}
 use Rattle.vyrd_view.proofs.ReadyLaws.{first_walked}
 use Rattle.vyrd_view.proofs.leaves.Leaves.new.Goals as goal
 
 pub new-requires : goal.new-requires
-new-requires c =
-    λ q. ap (given q) (c.in_ok-pairs.ensures.items_if_clones_equal (λ y e. λ i. (e.0 i, e.1 i)))
-    ∙ given_copies q (4 * c.args.size + 1)
+new-requires = grind (arith, given, given_copies)
 
 pub invariant_of-result : goal.invariant_of-result
 invariant_of-result c =
     let size = c.args.size in
     let marks : set c.in_ok-marks.marks.items 0 true ≡ set (replicate size false) 0 true =
-    ap (λ s. set s 0 true) (c.in_ok-marks.ensures.items_if_clones_equal (λ y e. e)) in
+    cc (c.in_ok-marks.ensures.items_if_clones_equal (λ y e. e)) in
     let words : c.in_ok-vec.field-0.items ≡ replicate (12 * size + 2) 0 =
     c.in_ok-vec.ensures.items_if_clones_equal (λ y e. e) in
     let pairs : c.in_ok-new.field-0.pairs ≡ replicate (4 * size + 1) (0, 0) =
@@ -33,10 +30,7 @@ invariant_of-result c =
         count = omega (arith, ap length words, length-replicate {A = ℕ} (12 * size + 2) 0, count);
         room = ap length next ∙ length-replicate size false ∙ sym count;
       },
-      λ sound. subst (λ ws. IsWalked ws c.in_ok-new.field-0.pairs
-          (set c.in_ok-marks.marks.items 0 true)) (sym words)
-          (subst (λ ps. IsWalked (replicate (12 * size + 2) 0) ps
-          (set c.in_ok-marks.marks.items 0 true)) (sym pairs)
-          (subst (λ ms. IsWalked (replicate (12 * size + 2) 0) (replicate (4 * size + 1) (0, 0)) ms)
-          (sym marks) (first_walked size (12 * size + 2) c.requires.some))),
+      λ sound. rw words
+          (rw pairs
+          (rw marks (first_walked size (12 * size + 2) c.requires.some))),
     )

@@ -1,17 +1,14 @@
 use Rattle.std.proofs.Common.{ap, sym, ◌∙◌, subst}
 use Rattle.vyrd_view.specs.Chained.{IsWalked}
-use Rattle.vyrd_view.specs.Comparing.{AgreeElsewhere}
 use Rattle.vyrd_view.proofs.leaves.Leaves.words_changed.Goals as goal
 
 pub leaves_changed-requires-clause-walked : goal.leaves_changed-requires-clause-walked
 leaves_changed-requires-clause-walked g c =
     let kept = c.self.inside in
-    subst (λ words. IsWalked words kept.parts.pairs c.deref_mut.result.now)
-    (sym c.deref.ensures.value)
+    rw c.deref.ensures.value
     (subst (IsWalked kept.words.items kept.parts.pairs) (sym c.deref_mut.ensures.value)
     (c.self.invariant.1 (ap (λ k. k.refused) c.self.view_is ∙ c.requires.sound)))
 
 pub leaves_changed-requires-clause-elsewhere : goal.leaves_changed-requires-clause-elsewhere
 leaves_changed-requires-clause-elsewhere g c =
-    subst (λ before. AgreeElsewhere before c.args.words.now c.args.changed.now)
-    (sym (c.deref.ensures.value ∙ ap (λ k. k.words) c.self.view_is)) c.requires.elsewhere
+    rw (c.deref.ensures.value ∙ ap (λ k. k.words) c.self.view_is) c.requires.elsewhere

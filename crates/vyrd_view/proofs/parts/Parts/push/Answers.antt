@@ -1,8 +1,7 @@
-use Rattle.std.proofs.Common.{◌≡◌, ℕ, ◌-◌, ◌^◌, [], ◌∷◌, subst, sym, arith}
+use Rattle.std.proofs.Common.{◌-◌, ◌^◌, [], ◌∷◌, subst, sym, arith}
 use Rattle.vyrd_base.specs.Amounts.{given}
 use Rattle.vyrd_base.proofs.SumLaws.{given-append, part_at_most}
 use Rattle.vyrd_view.specs.Pairs.{EachAtMost}
-use Rattle.vyrd_view.specs.Summed.{sum_at}
 use Rattle.vyrd_view.proofs.PairLaws.{each-push}
 use Rattle.vyrd_view.proofs.parts.Parts.push.Goals as goal
 
@@ -12,8 +11,7 @@ invariant_of-self-2 c = λ sound.
     let pair = c.args.pair in
     let before = c.self.invariant sound in (
       before.0,
-      subst (λ xs. (q : ℕ) → sum_at c.self.inside.sums q ≡ given q xs)
-          (sym c.in_ok-push.ensures.items)
+      rw c.in_ok-push.ensures.items
           (λ q. omega (
             arith,
             before.1 q,

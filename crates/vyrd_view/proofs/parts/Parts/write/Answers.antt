@@ -9,20 +9,12 @@ use Rattle.vyrd_view.proofs.parts.Parts.write.Goals as goal
 
 pub change-requires-clause-enough : goal.change-requires-clause-enough
 change-requires-clause-enough g c =
-    let pairs = c.self.inside.pairs.items in
-    let before = c.index-before.result.now in
-    let sound : c.self.inside.refused ≡ false = ap (λ k. k.refused) c.self.view_is
-    ∙ c.requires.sound in
-    let low : c.args.place < length pairs =
-    omega (arith, ap (λ k. length k.pairs) c.self.view_is, c.requires.place) in
-    let is : part_given before.0 (get_or pairs c.args.place before) ≡ before.1 =
-    ap (part_given before.0) (sym c.index-before.ensures) ∙ own_part before.0 before.1 in
-    omega (
+    grind (
       arith,
-      (c.self.invariant sound).1 before.0,
-      part-le-given before.0 pairs c.args.place
-          before low,
-      is,
+      c.index-before.ensures,
+      own_part c.index-before.result.now.0
+          c.index-before.result.now.1,
+      part-le-given,
     )
 
 -- the pairs give less than 2^128 to a key, with the new one
@@ -54,25 +46,4 @@ change-requires-clause-fits g c =
     )
 
 pub invariant_of-self : goal.invariant_of-self
-invariant_of-self g c = λ sound. (
-  c.in-Ok.ensures.settled,
-  λ q.
-      let pairs = c.self.inside.pairs.items in
-      let before = c.index-before.result.now in
-      let low : c.args.place < length pairs =
-      omega (arith, ap (λ k. length k.pairs) c.self.view_is, c.requires.place) in
-      let is : part_given q (get_or pairs c.args.place before) ≡ part_given q before =
-      ap (part_given q) (sym c.index-before.ensures) in
-      omega (
-        arith,
-        c.in-Ok.ensures.shown q,
-        (c.self.invariant sound).1 q,
-        given-set q pairs
-            c.args.place (c.args.key, c.args.amount) before low,
-        is,
-      ),
-  each-set (2 ^ 64 - 1) c.self.inside.pairs.items c.args.place (c.args.key, c.args.amount)
-      (omega (arith, ap (λ k. length k.pairs) c.self.view_is, c.requires.place))
-      (omega (arith, c.ranges.amount.fits))
-      ((c.self.invariant (ap (λ k. k.refused) c.self.view_is ∙ c.requires.sound)).2),
-)
+invariant_of-self = grind (arith, given-set, each-set)

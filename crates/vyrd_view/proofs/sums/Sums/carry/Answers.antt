@@ -1,4 +1,4 @@
-use Rattle.std.proofs.Common.{◌≡◌, ℕ, ◌+◌, ◌-◌, ◌*◌, ◌/◌, ◌%◌, ◌^◌, ◌==◌, if◌then◌else◌, ap}
+use Rattle.std.proofs.Common.{◌≡◌, ℕ, ◌+◌, ◌-◌, ◌*◌, ◌^◌, ◌==◌, if◌then◌else◌}
 use Rattle.std.proofs.Common.{◌∙◌, arith}
 use Rattle.std.proofs.lemmas.Result.{on_ok_weaker}
 use Rattle.vyrd_base.specs.Amounts.{with_amount}
@@ -13,28 +13,13 @@ pub at-before-requires : goal.at-before-requires
 at-before-requires g c = (settled_sums c.args.self.now c.requires.settled).carries
 
 pub exchanged-sum-requires-clause-enough : goal.exchanged-sum-requires-clause-enough
-exchanged-sum-requires-clause-enough g c =
-    omega (
-      arith,
-      c.requires.enough,
-      c.requires.shown,
-      c.at-before.ensures.shown,
-      sum_is c.args.self.now c.args.key,
-    )
+exchanged-sum-requires-clause-enough = grind (arith, sum_is)
 
 pub exchanged-sum-requires-clause-fits : goal.exchanged-sum-requires-clause-fits
-exchanged-sum-requires-clause-fits g c = λ less.
-    omega (
-      arith,
-      c.requires.fits less,
-      c.requires.shown,
-      c.at-before.ensures.shown,
-      sum_is c.args.self.now c.args.key,
-    )
+exchanged-sum-requires-clause-fits = grind (arith, sum_is)
 
 pub put_uncounted-requires-clause-settled : goal.put_uncounted-requires-clause-settled
-put_uncounted-requires-clause-settled g c =
-    (settled_sums c.args.self.now c.requires.settled).carries
+put_uncounted-requires-clause-settled g c = search (settled_sums, arith)
 
 pub put-requires-clause-settled : goal.put-requires-clause-settled
 put-requires-clause-settled g c = (settled_sums c.args.self.now c.requires.settled).sides
@@ -71,11 +56,8 @@ returns-clause-shown g c =
     ≡ (if q == k then sum else sum_at s q)}
     c.put.result
     (λ now. sum_carries s sides carries k sum
-    (λ q. c.in_ok-put_uncounted.ensures.shown q
-    ∙ ap (λ n. if q == k then n else shown_at s.carries q)
-    (c.exchanged-sum.ensures.carries ∙ ap (λ n. n / 2 ^ 64) whole))
-    (λ q. now q ∙ ap (λ n. if q == k then n else shown_at s.sides q)
-    (c.exchanged-sum.ensures.left ∙ ap (λ n. n % 2 ^ 64) whole)))
+    (λ q. cc (c.in_ok-put_uncounted.ensures.shown q, c.exchanged-sum.ensures.carries))
+    (λ q. cc (now q, c.exchanged-sum.ensures.left)))
     c.put.ensures.shown
 
 pub returns-clause-specified : goal.returns-clause-specified

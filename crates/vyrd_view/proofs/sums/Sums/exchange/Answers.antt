@@ -3,7 +3,7 @@ use Rattle.std.proofs.lemmas.Result.{on_ok_weaker}
 use Rattle.vyrd_base.specs.Amounts.{with_amount}
 use Rattle.vyrd_view.specs.Sided as sided
 use Rattle.vyrd_view.specs.Sided.{shown_at, specified_of}
-use Rattle.vyrd_view.specs.Summed.{IsSettled, sum_at}
+use Rattle.vyrd_view.specs.Summed.{sum_at}
 use Rattle.vyrd_view.proofs.SidedLaws.{settled_of, with_same_amount}
 use Rattle.vyrd_view.proofs.SummedLaws.{settled_sums, sides_settle, sum_moves}
 use Rattle.vyrd_view.proofs.sums.Sums.exchange.Goals as goal
@@ -15,11 +15,7 @@ pub put-requires-clause-settled : goal.put-requires-clause-settled
 put-requires-clause-settled g c = (settled_sums c.args.self.now c.requires.settled).sides
 
 pub returns-clause-settled : goal.returns-clause-settled
-returns-clause-settled g c =
-    let s = c.args.self.now in
-    on_ok_weaker {P = sided.IsSettled c.put.new.self}
-    {Q = IsSettled (record { sides = c.put.new.self; carries = s.carries })} c.put.result
-    (sides_settle s c.put.new.self c.requires.settled) c.put.ensures.settled
+returns-clause-settled = grind (arith, sides_settle)
 
 pub returns-clause-shown : goal.returns-clause-shown
 returns-clause-shown g c =

@@ -1,9 +1,7 @@
-use Rattle.std.proofs.Common.{◌≡◌, ◌+◌, ◌++◌, ap, subst, ◌∙◌, take, vec_len}
-use Rattle.vyrd_base.specs.Places.{newest_first}
+use Rattle.std.proofs.Common.{◌≡◌, ap, ◌∙◌, vec_len}
 use Rattle.vyrd_base.specs.Rules.{Rules, rules_by}
-use Rattle.vyrd_witness.specs.Changes.{amount_shown, changes_in, words_through}
+use Rattle.vyrd_witness.specs.Changes.{words_through}
 use Rattle.vyrd_witness.specs.Effects.{effects_along}
-use Rattle.vyrd_witness.specs.Phases.{ArePhases}
 use Rattle.vyrd_witness.proofs.EffectLaws.{pass_next, changes_next}
 use Rattle.vyrd_witness.proofs.WrittenLaws.{there_fit}
 use Rattle.vyrd_witness.proofs.walk.Walk.changes.Goals as goal
@@ -27,20 +25,18 @@ loop-at-preserved g c =
     let effects = c.deref.ensures.value ∙ c.in_ok-effects.ensures.effects in
     let same = c.in_ok-effects.ensures.words in
     let before : mid ≡ words_through words (effects_along front c.args.from at) =
-    ap (λ v. v.items) same ∙ c.loop-at.invariant.words in
+    cc (c.loop-at.invariant.words) in
     let key = c.loop-at.invariant.key in
     record {
       words = pass_next front c.args.from at c.deref.result.now words mid new.words.items
           c.loop-at.auto.at effects before pushed.words;
       count = pushed.count ∙ ap vec_len same ∙ c.loop-at.invariant.count;
-      phases = subst (λ h. ArePhases h c.step.new.self.phases.items
-          (newest_first (take (at + 1) front))) c.header-header.ensures
+      phases = rw (← c.header-header.ensures)
           c.in_ok-effects.ensures.next;
       key = pushed.key ∙ key;
-      here = pushed.there ∙ ap (λ k. amount_shown r new.words.items k) key;
+      here = cc (pushed.there);
       changes = changes_next r c.args.followed.now.key front c.args.from at c.deref.result.now
           words mid c.loop-at.changes.items new.changes.items c.loop-at.auto.at effects before
           c.loop-at.invariant.changes
-          (subst (λ k. new.changes.items
-          ≡ c.loop-at.changes.items ++ changes_in r k mid c.deref.result.now) key pushed.changes);
+          (rw (← key) pushed.changes);
     }

@@ -7,25 +7,14 @@ use Rattle.vyrd_shadow.proofs.WriteLaws.{with_writes-append}
 use Rattle.vyrd_words.specs.Costs.{pending_for}
 use Rattle.vyrd_words.specs.Counts.{total, late_writes}
 use Rattle.vyrd_words.proofs.PendingLaws.{first_pending}
-use Rattle.vyrd_words.specs.Cuts.{Cuts, first_of, since_of, begun_of, AreCuts, AreKnown}
+use Rattle.vyrd_words.specs.Cuts.{Cuts, first_of, since_of, AreCuts, AreKnown}
 use Rattle.vyrd_words.proofs.CutLaws.{sum-cons, advanced_both, late_both, first_in_range}
 use Rattle.vyrd_words.proofs.CutLaws.{first_taken, first_next, since_next}
 use Rattle.vyrd_words.proofs.FewLaws.{begun_next}
 use Rattle.vyrd_words.proofs.views.Views.advance.Goals as goal
 
 pub catch_up-requires-clause-count : goal.catch_up-requires-clause-count
-catch_up-requires-clause-count g c =
-    let i = c.self.inside in
-    let is : i.counts ≡ (c.in-Some.count, c.pop-late.result.items) ∷ c.pop-late.new.self =
-    first_taken i.counts c.pop-late.new.self c.in-Some.count c.pop-late.result.items
-    (sym c.in-Some.ensures) c.pop-late.ensures.rest c.pop-late.ensures.late in
-    omega (
-      arith,
-      c.self.invariant.0.counted,
-      ap total is,
-      sum-cons
-          (c.in-Some.count, c.pop-late.result.items) c.pop-late.new.self,
-    )
+catch_up-requires-clause-count = grind (arith, first_taken, sum-cons)
 
 pub invariant_of-self-in_err-take_late : goal.invariant_of-self-in_err-take_late
 invariant_of-self-in_err-take_late g c =
@@ -112,16 +101,8 @@ returns-clause-first g c = λ part rest waits.
     ∙ ap (λ (v : Cuts). v.first) c.self.view_is)
 
 pub returns-clause-since : goal.returns-clause-since
-returns-clause-since g c = λ part rest waits.
-    let i = c.self.inside in
-    let is : i.counts ≡ (c.in-Some.count, c.deref.result.now) ∷ c.pop-late.new.self =
-    first_taken i.counts c.pop-late.new.self c.in-Some.count c.deref.result.now
-    (sym c.in-Some.ensures) c.pop-late.ensures.rest
-    (c.deref.ensures.value ∙ c.pop-late.ensures.late) in
-    ap (since_of c.pop-late.new.self) c.catch_up.ensures.writes
-    ∙ since_next c.pop-late.new.self (drop c.in-Some.count i.writes.items) part rest
-    (ap (λ ks. since_of ks i.writes.items) (sym is) ∙ ap (λ (v : Cuts). v.since) c.self.view_is
-    ∙ waits)
+returns-clause-since g c =
+    λ part rest waits. grind (arith, c.catch_up.ensures.writes, waits, first_taken, since_next)
 
 pub returns-clause-steps : goal.returns-clause-steps
 returns-clause-steps g c =
@@ -204,13 +185,5 @@ returns-in_err-take_late-clause-most g c =
     omega (arith, was, parts, c.catch_up.ensures.steps, c.take_late.ensures.steps, paid)
 
 pub returns-clause-begun : goal.returns-clause-begun
-returns-clause-begun g c = λ part rest waits.
-    let i = c.self.inside in
-    let is : i.counts ≡ (c.in-Some.count, c.deref.result.now) ∷ c.pop-late.new.self =
-    first_taken i.counts c.pop-late.new.self c.in-Some.count c.deref.result.now
-    (sym c.in-Some.ensures) c.pop-late.ensures.rest
-    (c.deref.ensures.value ∙ c.pop-late.ensures.late) in
-    ap (begun_of c.pop-late.new.self) c.catch_up.ensures.writes
-    ∙ begun_next c.pop-late.new.self (drop c.in-Some.count i.writes.items) part rest
-    (ap (λ ks. since_of ks i.writes.items) (sym is) ∙ ap (λ (v : Cuts). v.since) c.self.view_is
-    ∙ waits)
+returns-clause-begun g c =
+    λ part rest waits. grind (arith, c.catch_up.ensures.writes, waits, first_taken, begun_next)

@@ -14,21 +14,10 @@ use Rattle.vyrd_words.proofs.FewLaws.{begun_far, begun_late}
 use Rattle.vyrd_words.proofs.views.Views.late.Goals as goal
 
 pub returns-then-behind-len-clause-first : goal.returns-then-behind-len-clause-first
-returns-then-behind-len-clause-first g c =
-    let i = c.self.inside in
-    let far : length (since_of i.counts i.writes.items) < c.args.behind =
-    omega (arith, length-since_of i.counts i.writes.items, c.len.ensures, c.if-behind-len.true) in
-    first_far c.args.behind (written c.args.words.now c.args.changed.now) c.args.self.now.first
-    c.args.self.now.since
-    (subst (λ (v : Cuts). length v.since < c.args.behind) c.self.view_is far)
+returns-then-behind-len-clause-first = grind (arith, length-since_of, first_far, written)
 
 pub returns-then-behind-len-clause-since : goal.returns-then-behind-len-clause-since
-returns-then-behind-len-clause-since g c =
-    let i = c.self.inside in
-    let far : length (since_of i.counts i.writes.items) < c.args.behind =
-    omega (arith, length-since_of i.counts i.writes.items, c.len.ensures, c.if-behind-len.true) in
-    since_far c.args.behind (written c.args.words.now c.args.changed.now) c.args.self.now.since
-    (subst (λ (v : Cuts). length v.since < c.args.behind) c.self.view_is far)
+returns-then-behind-len-clause-since = grind (arith, length-since_of, since_far, written)
 
 pub invariant_of-self-2 : goal.invariant_of-self-2
 invariant_of-self-2 g c =
@@ -101,13 +90,7 @@ returns-clause-pending g c =
     omega (arith, was, price, grown)
 
 pub returns-then-behind-len-clause-begun : goal.returns-then-behind-len-clause-begun
-returns-then-behind-len-clause-begun g c =
-    let i = c.self.inside in
-    let far : length (since_of i.counts i.writes.items) < c.args.behind =
-    omega (arith, length-since_of i.counts i.writes.items, c.len.ensures, c.if-behind-len.true) in
-    begun_far c.args.behind (written c.args.words.now c.args.changed.now) c.args.self.now.begun
-    c.args.self.now.since
-    (subst (λ (v : Cuts). length v.since < c.args.behind) c.self.view_is far)
+returns-then-behind-len-clause-begun = grind (arith, length-since_of, begun_far, written)
 
 pub returns-clause-begun : goal.returns-clause-begun
 returns-clause-begun g c =

@@ -1,11 +1,11 @@
 use Rattle.std.proofs.Common.{◌≡◌, ◌<◌, ◌≤◌, ℕ, [], ◌∷◌, ◌++◌, length, take, drop, length-drop}
-use Rattle.std.proofs.Common.{arith, set, ap, sym, ◌∙◌, subst}
+use Rattle.std.proofs.Common.{arith, ap, sym, ◌∙◌, subst}
 use Rattle.std.specs.Prelude.{map}
 use Rattle.vyrd_base.specs.Layout.{plain_words}
 use Rattle.vyrd_words.specs.Costs.{pending_for}
 use Rattle.vyrd_words.proofs.PendingLaws.{caught_pending, one_pending, none_late}
 use Rattle.vyrd_words.proofs.WordsLaws.{ok_two}
-use Rattle.vyrd_words.specs.Cuts.{Cuts, AreCuts, AreKnown, first_of, since_of, begun_of}
+use Rattle.vyrd_words.specs.Cuts.{Cuts, begun_of}
 use Rattle.vyrd_words.proofs.CutLaws.{at_once_both, now_at_once, none_waits, all_tail, always}
 use Rattle.vyrd_words.proofs.views.Views.take_effect.Goals as goal
 
@@ -26,8 +26,7 @@ invariant_of-self-then-len-ge-MOST_CHANGED g c =
     i.changed.items (g.C.Compare.known i.compared)
     (subst (λ (v : Cuts). c.args.word < plain_words v.header) (sym c.self.view_is) c.requires.word)
     c.requires.value
-    (subst (λ ks. AreCuts i.header i.words.items ks i.writes.items i.tail
-    × AreKnown i.header i.words.items i.changed.items (g.C.Compare.known i.compared)) none
+    (rw (← none)
     c.self.invariant))
 
 pub invariant_of-self-else-len-ge-MOST_CHANGED : goal.invariant_of-self-else-len-ge-MOST_CHANGED
@@ -47,53 +46,23 @@ invariant_of-self-else-len-ge-MOST_CHANGED g c =
     i.changed.items (g.C.Compare.known i.compared)
     (subst (λ (v : Cuts). c.args.word < plain_words v.header) (sym c.self.view_is) c.requires.word)
     c.requires.value
-    (subst (λ ks. AreCuts i.header i.words.items ks i.writes.items i.tail
-    × AreKnown i.header i.words.items i.changed.items (g.C.Compare.known i.compared)) none
+    (rw (← none)
     c.self.invariant))
 
 pub returns-clause-first : goal.returns-clause-first
-returns-clause-first g c =
-    let i = c.self.inside in
-    let none : i.counts ≡ [] = none_waits i.counts i.writes.items
-    (ap (λ (v : Cuts). v.since) c.self.view_is ∙ c.requires.none_waits) in
-    ap (λ ks. first_of (set c.catch_up.new.words.items c.args.word c.args.value) ks
-    c.catch_up.new.writes.items) none
-    ∙ rw (c.catch_up.ensures.words, c.catch_up.ensures.writes)
-    (now_at_once i.words.items i.writes.items i.tail c.args.word c.args.value
-    (all_tail i.counts i.tail _ none c.self.invariant.0.counted))
-    ∙ ap (λ ks. set (first_of i.words.items ks i.writes.items) c.args.word c.args.value) (sym none)
-    ∙ ap (λ (v : Cuts). set v.first c.args.word c.args.value) c.self.view_is
+returns-clause-first = grind (arith, none_waits, now_at_once, all_tail)
 
 pub returns-clause-since : goal.returns-clause-since
-returns-clause-since g c =
-    let i = c.self.inside in
-    let none : i.counts ≡ [] = none_waits i.counts i.writes.items
-    (ap (λ (v : Cuts). v.since) c.self.view_is ∙ c.requires.none_waits) in
-    ap (λ ks. since_of ks c.catch_up.new.writes.items) none
+returns-clause-since = grind (arith, none_waits)
 
 pub returns-then-len-ge-MOST_CHANGED-clause-first :
     goal.returns-then-len-ge-MOST_CHANGED-clause-first
-returns-then-len-ge-MOST_CHANGED-clause-first g c =
-    let i = c.self.inside in
-    let none : i.counts ≡ [] = none_waits i.counts i.writes.items
-    (ap (λ (v : Cuts). v.since) c.self.view_is ∙ c.requires.none_waits) in
-    always c.compare_words.result (c.compare_words.ensures.first
-    ∙ ap (λ ks. first_of (set c.catch_up.new.words.items c.args.word c.args.value) ks
-    c.catch_up.new.writes.items) none
-    ∙ rw (c.catch_up.ensures.words, c.catch_up.ensures.writes)
-    (now_at_once i.words.items i.writes.items i.tail c.args.word c.args.value
-    (all_tail i.counts i.tail _ none c.self.invariant.0.counted))
-    ∙ ap (λ ks. set (first_of i.words.items ks i.writes.items) c.args.word c.args.value) (sym none)
-    ∙ ap (λ (v : Cuts). set v.first c.args.word c.args.value) c.self.view_is)
+returns-then-len-ge-MOST_CHANGED-clause-first =
+    grind (arith, none_waits, always, now_at_once, all_tail)
 
 pub returns-then-len-ge-MOST_CHANGED-clause-since :
     goal.returns-then-len-ge-MOST_CHANGED-clause-since
-returns-then-len-ge-MOST_CHANGED-clause-since g c =
-    let i = c.self.inside in
-    let none : i.counts ≡ [] = none_waits i.counts i.writes.items
-    (ap (λ (v : Cuts). v.since) c.self.view_is ∙ c.requires.none_waits) in
-    always c.compare_words.result
-    (c.compare_words.ensures.since ∙ ap (λ ks. since_of ks c.catch_up.new.writes.items) none)
+returns-then-len-ge-MOST_CHANGED-clause-since = grind (arith, none_waits, always)
 
 pub returns-clause-steps : goal.returns-clause-steps
 returns-clause-steps g c =

@@ -29,24 +29,19 @@ write_counted-requires-clause-word g c = may_word c.in-Write.is
     (may_opened c.self.view_is c.requires.may)
 
 pub write_counted-requires-clause-value : goal.write_counted-requires-clause-value
-write_counted-requires-clause-value g c = may_value c.in-Write.is
-    (may_opened c.self.view_is c.requires.may)
+write_counted-requires-clause-value g c = search (may_value, may_opened, arith)
 
 pub open_block_counted-requires-clause-caller : goal.open_block_counted-requires-clause-caller
-open_block_counted-requires-clause-caller g c = may_caller
-    (may_opened c.self.view_is c.requires.may)
+open_block_counted-requires-clause-caller g c = search (may_caller, may_opened, arith)
 
 pub open_block_counted-requires-clause-closed : goal.open_block_counted-requires-clause-closed
-open_block_counted-requires-clause-closed g c = may_open c.in-BlockOpen.is
-    (may_opened c.self.view_is c.requires.may)
+open_block_counted-requires-clause-closed g c = search (may_open, may_opened, arith)
 
 pub close_block_counted-requires-clause-caller : goal.close_block_counted-requires-clause-caller
-close_block_counted-requires-clause-caller g c = may_caller
-    (may_opened c.self.view_is c.requires.may)
+close_block_counted-requires-clause-caller g c = search (may_caller, may_opened, arith)
 
 pub close_block_counted-requires-clause-opened : goal.close_block_counted-requires-clause-opened
-close_block_counted-requires-clause-opened g c = may_close c.in-BlockClose.is
-    (may_opened c.self.view_is c.requires.may)
+close_block_counted-requires-clause-opened g c = search (may_close, may_opened, arith)
 
 pub close_block_counted-requires-in-BlockCommit-clause-caller :
     goal.close_block_counted-requires-in-BlockCommit-clause-caller
@@ -59,12 +54,10 @@ close_block_counted-requires-in-BlockCommit-clause-opened g c = may_block_commit
     (may_opened c.self.view_is c.requires.may)
 
 pub index_mut-requires : goal.index_mut-requires
-index_mut-requires g c =
-    omega (arith, may_caller (may_opened c.self.view_is c.requires.may), c.self.invariant.1)
+index_mut-requires g c = search (may_caller, may_opened, arith)
 
 pub index-number-requires : goal.index-number-requires
-index-number-requires g c =
-    omega (arith, may_caller (may_opened c.self.view_is c.requires.may), c.self.invariant.1)
+index-number-requires g c = search (may_caller, may_opened, arith)
 
 pub overflow_sub-behind : goal.overflow_sub-behind
 overflow_sub-behind g c =
@@ -81,8 +74,7 @@ overflow_sub-behind g c =
     ∙ ap Some (sym c.index-number.ensures)) (may_opened c.self.view_is c.requires.may)
 
 pub index_mut-requires-in-Commit : goal.index_mut-requires-in-Commit
-index_mut-requires-in-Commit g c =
-    omega (arith, may_caller (may_opened c.self.view_is c.requires.may), c.self.invariant.1)
+index_mut-requires-in-Commit g c = search (may_caller, may_opened, arith)
 
 pub returns-in-Call-clause-taken : goal.returns-in-Call-clause-taken
 returns-in-Call-clause-taken g c = λ starting earlier has keeps counted.
@@ -366,24 +358,12 @@ returns-in_ok-pass_on-in-BlockCommit-clause-steps g c = λ starting earlier seen
     )))
 
 pub returns-in-Call-clause-steps : goal.returns-in-Call-clause-steps
-returns-in-Call-clause-steps g c = λ starting earlier has keeps counted.
-    let before = c.args.self.now in
-    paid_now {v = before} {w = before} c.args.entry earlier []
-    (c.args.steps.now + owed c.args.self.now.shadow + c.args.self.now.views.pending
-    + sum_by (g.C.Compare.price c.args.self.now.views.shows)
-    (effect_words c.args.self.now.shadow c.args.entry.caller c.args.entry.kind)
-    + 5) (c.args.steps.now + owed before.shadow + before.views.pending)
-    refl c.in-Call.is (low_caller keeps) (λ no. cc) refl (omega arith)
+returns-in-Call-clause-steps g c =
+    λ starting earlier has keeps counted. grind (arith, starting, counted, paid_now, low_caller)
 
 pub returns-in-Return-clause-steps : goal.returns-in-Return-clause-steps
-returns-in-Return-clause-steps g c = λ starting earlier has keeps counted.
-    let before = c.args.self.now in
-    paid_now {v = before} {w = before} c.args.entry earlier []
-    (c.args.steps.now + owed c.args.self.now.shadow + c.args.self.now.views.pending
-    + sum_by (g.C.Compare.price c.args.self.now.views.shows)
-    (effect_words c.args.self.now.shadow c.args.entry.caller c.args.entry.kind)
-    + 5) (c.args.steps.now + owed before.shadow + before.views.pending)
-    refl c.in-Return.is (low_caller keeps) (λ no. cc) refl (omega arith)
+returns-in-Return-clause-steps g c =
+    λ starting earlier has keeps counted. grind (arith, starting, counted, paid_now, low_caller)
 
 pub returns-in-Call-clause-most : goal.returns-in-Call-clause-most
 returns-in-Call-clause-most g c = λ starting earlier has keeps counted.

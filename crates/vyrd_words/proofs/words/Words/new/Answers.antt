@@ -1,14 +1,13 @@
-use Rattle.std.proofs.Common.{[], ap, sym, subst, arith}
+use Rattle.std.proofs.Common.{ap, arith}
 use Rattle.vyrd_base.specs.declared.header.Header.{Header}
-use Rattle.vyrd_words.proofs.WordsLaws.{HasNumbers, numbers_first}
+use Rattle.vyrd_words.proofs.WordsLaws.{numbers_first}
 use Rattle.vyrd_words.proofs.words.Words.new.Goals as goal
 
 pub returns-clause-words : goal.returns-clause-words
 returns-clause-words g c = λ starting is. record {
   followed = c.in_ok-start_from.ensures.followed starting is;
   unchanged = c.in_ok-start_from.ensures.changed;
-  numbers = subst (λ xs. HasNumbers c.in_ok-start_from.field-0.header.callers xs [])
-      (sym (c.in_ok-vec.ensures.items_if_clones_equal (λ y e. e)))
+  numbers = rw (c.in_ok-vec.ensures.items_if_clones_equal (λ y e. e))
       (numbers_first c.in_ok-start_from.field-0.header.callers c.callers.result
       (omega (
         arith,
