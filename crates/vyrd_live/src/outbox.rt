@@ -11,7 +11,7 @@ use std::hint::spin_loop;
 use std::sync::Wait;
 use std::thread;
 use vyrd_memory::EventSink;
-use vyrd_relay::{PARCEL_ROOM, Parcel, Relay, Sender};
+use vyrd_relay::{PARCEL_ROOM, Relay, Sender};
 use vyrd_trace::Hand;
 
 /// How many calls of `send` pass without a try after one has found the relay full. Failed tries of
@@ -35,8 +35,8 @@ pub(crate) struct Outbox {
 
 impl Outbox {
     /// Sends the events of the lane that weren't sent yet, as long as there are at least so many,
-    /// until a parcel finds the relay full, and answers whether fewer are left. It never waits for
-    /// room, and some calls after one that found none do nothing.
+    /// until a parcel finds the relay full or no room is free for one, and answers whether fewer are
+    /// left. It never waits for room, and some calls after one that found none do nothing.
     pub(crate) fn send<R: Wait>(&mut self, rt: &R, relay: &Relay, hand: &Hand, least: u64) -> bool
         requires least { 1 ≤ least }
         requires sent { HasSent relay.now self.old.sender self.old.place hand.now }
@@ -51,8 +51,12 @@ impl Outbox {
         let forgotten = hand.forgotten();
         let made = hand.made();
         while made - self.place >= least {
-            let Some(parcel) = Parcel::of(&kept[(self.place - forgotten) as usize..]) else {
-                unreachable!()
+            let Some(parcel) = relay.pack(rt, &kept[(self.place - forgotten) as usize..]) else {
+                // There are as many rooms as the relay, all workers and the watch can have at once.
+                // This worker has none, so one is free, or is before long. No clause says so, and
+                // without one it tries again later, as with a full relay.
+                self.pause = PAUSE;
+                return false;
             };
             let count = parcel.len() as u64;
             match relay.push_next(rt, &mut self.sender, parcel) {

@@ -142,6 +142,7 @@ impl<S: EventSink + Drop> Watch<S> {
             return false;
         };
         self.take_all_when_allowed(rt, gate, signals, parcel.events());
+        relay.give_back(rt, parcel);
         true
     }
 
@@ -182,6 +183,7 @@ impl<S: EventSink + Drop> Watch<S> {
             return false;
         };
         self.take_all(parcel.events());
+        relay.give_back(rt, parcel);
         true
     }
 

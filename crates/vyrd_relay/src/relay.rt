@@ -1,7 +1,7 @@
 //! The queue between the senders and the receiver.
 
 ghost use Rattle.std.specs.Prelude.{◌≡◌, ◌+◌, ◌<◌, ◌≤◌, ◌^◌, true, [], length, IfOk, OnOk, OnErr, IfSome};
-ghost use Rattle.std.specs.Prelude.{IfNone, vec_len, vec_capacity};
+ghost use Rattle.std.specs.Prelude.{IfNone, vec_len, vec_capacity, take};
 ghost use Rattle.std.specs.List.{All};
 ghost use Rattle.crossbeam_queue.specs.Passes.{view, IsSamePass, IsPassOf};
 ghost use Rattle.vyrd_relay.specs.declared.known.Known.TheVariants.{Receives};
@@ -10,17 +10,18 @@ ghost use Rattle.vyrd_relay.specs.Ends.{AreNew, with_pushed, with_popped, with_t
 ghost use Rattle.vyrd_relay.specs.Ends.{WasEmpty, HasAll};
 
 use crate::known::Known;
-use crate::parcel::Parcel;
+use crate::parcel::{Parcel, Room, make_room};
 use crate::plays::{Deals, Number, Pops, Pushes, TakesIn};
 use crate::receiver::Receiver;
 use crate::rule::InOrder;
 use crate::sender::Sender;
-use crossbeam_queue::{Pass, RuledArrayQueue};
+use crossbeam_queue::{ArrayQueue, Pass, RuledArrayQueue};
 use std::alloc::{AllocError, Global};
 use std::error::Error;
 use std::fmt;
 use std::marker::{Brand, Model};
 use std::sync::Wait;
+use vyrd_base::Stamped;
 
 type Queue = RuledArrayQueue<Parcel, Known, InOrder>;
 
@@ -39,11 +40,17 @@ impl Error for Full {}
 /// A bounded queue of events in parcels, from the senders of all callers to one receiver. Threads
 /// share it by reference.
 ///
+/// The events of a parcel stand in a room on the heap. All rooms are made with the relay, as many as
+/// it holds parcels, one for each sender and one for the receiver. A parcel is packed in a free one,
+/// and whoever is done with it gives it back.
+///
 /// What the receiver has had of a sender, and then what is queued of it, is what it sent, in its
 /// order, at every moment. Of events of different senders nothing is said.
 #[derive(Drop)]
 pub struct Relay {
     queue: Queue,
+    // The rooms that no parcel has. It holds as many as were made.
+    free: ArrayQueue<Room>,
 }
 
 impl Model for Relay {
@@ -73,15 +80,42 @@ impl Relay {
         let mut ends = Vec::with_capacity(alloc, senders as usize)?;
         let (queue, mut pass) = Queue::ruled(alloc, capacity as usize)?;
         deal_all::<Brand>(&queue, senders, &mut pass, &mut ends);
-        Ok((Relay { queue }, ends, Receiver { pass }))
+        let free = make_rooms(alloc, capacity as usize + senders as usize + 1)?;
+        Ok((Relay { queue, free }, ends, Receiver { pass }))
+    }
+
+    /// The first of these events, as many as a parcel holds, in a free room. It may wait for another
+    /// thread that is in the middle of packing or giving back, but never for a room to come, and it
+    /// takes no memory.
+    ///
+    /// `None` comes if there are no events, and may come also if no room is free; no clause says when
+    /// one is. If no sender has two parcels at a time that aren't queued, and the receiver gives one
+    /// back before it pops the next, a sender that has none finds one free.
+    pub fn pack<R: Wait>(&self, rt: &R, events: &[Stamped]) -> Option<Parcel>
+        ensures first { IfSome result (λ p. p ≡ take 32 events.now) }
+        ensures some { IfSome result (λ p. 1 ≤ length p) }
+    {
+        if events.is_empty() {
+            return None;
+        }
+        let room = self.free.pop(rt)?;
+        Some(Parcel::fill(room, events))
+    }
+
+    /// Gives back the room of a parcel whose events are no longer needed. It may wait as `pack` may.
+    /// The parcel is one that this relay packed: to a relay of which all rooms are free the room of
+    /// another one's parcel is too many, and is let go.
+    pub fn give_back<R: Wait>(&self, rt: &R, parcel: Parcel) {
+        // There is a place for each room that was made with the relay.
+        let _ = self.free.push(rt, parcel.into_room());
     }
 
     /// Sends events of the sender's caller. It is one push of the queue. It may wait for another
     /// thread that is in the middle of a push or a pop, but never for room, and it takes no memory.
     ///
     /// `Full` comes only if the queue held its capacity at a step of this call. Nothing was sent
-    /// then. The clause `cause` says so for one sender alone: what is queued of others may be
-    /// anything to it.
+    /// then, and the parcel's room was given back. The clause `cause` says so of the queue for one
+    /// sender alone: what is queued of others may be anything to it.
     pub fn push_next<R: Wait>(
         &self,
         rt: &R,
@@ -104,7 +138,10 @@ impl Relay {
                 sender.count += count;
                 Ok(())
             }
-            Err(_) => Err(Full),
+            Err(parcel) => {
+                self.give_back(rt, parcel);
+                Err(Full)
+            }
         }
     }
 
@@ -144,7 +181,8 @@ impl Relay {
     }
 
     /// One pop of the queue, of which `pop` says what it is.
-    #[inline(always)]
+    // A function clears at its entry whatever is compiled into it, so this isn't part of `pop`.
+    #[inline(never)]
     fn pop_first<R: Wait>(&self, rt: &R, receiver: &mut Receiver) -> Option<Parcel>
         requires receiver { receiver.old.queue ≡ self.now.queue }
         ensures events { IfSome result (λ events. receiver.new ≡ with_popped receiver.old events) }
@@ -201,4 +239,17 @@ fn deal_all<J: Number>(
             pass: theirs,
         });
     }
+}
+
+/// Makes so many rooms, which are all free.
+fn make_rooms(alloc: Global, count: usize) -> Result<ArrayQueue<Room>, AllocError>
+    requires { 0 < count }
+{
+    let mut free = ArrayQueue::new(alloc, count)?;
+    for _ in 0..count {
+        let room = make_room(alloc)?;
+        // It has a place for each of them, so this takes all of them.
+        let _ = free.push_mut(room);
+    }
+    Ok(free)
 }

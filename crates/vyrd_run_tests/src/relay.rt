@@ -1,7 +1,7 @@
 //! Each public call once with ample memory, with the answers at a full and an empty queue, and two
 //! threads.
 
-ghost use Rattle.std.specs.Prelude.{◌≡◌, ◌+◌, ◌<◌, ◌≤◌, ◌^◌, [], ◌∷◌, length, IfOk};
+ghost use Rattle.std.specs.Prelude.{◌≡◌, ◌+◌, ◌<◌, ◌≤◌, ◌^◌, true, false, [], length, IfOk};
 ghost use Rattle.std.specs.List.{All};
 
 use std::alloc::{AllocError, Global};
@@ -52,7 +52,7 @@ fn has_one_place<R: Wait>(
     ensures receiver { receiver.new.queue ≡ receiver.old.queue }
 {
     is_pushed(rt, relay, sender, 0, 7)
-        && !is_pushed(rt, relay, sender, 0, 8)
+        && is_full(rt, relay, sender, &[event_of(0, 8)])
         && is_popped(rt, relay, receiver, &[event_of(0, 7)])
         && is_nothing_popped(rt, relay, receiver)
 }
@@ -118,27 +118,35 @@ fn two(alloc: Global, capacity: u64) -> Result<(Relay, Sender, Sender, Receiver)
     Ok((relay, first, second, receiver))
 }
 
-/// A parcel of this event alone.
-fn alone(event: Stamped) -> Parcel
-    ensures { result ≡ event ∷ [] }
-{
-    let Some(parcel) = Parcel::of(&[event]) else {
-        unreachable!()
-    };
-    parcel
-}
-
 /// Pushes an event alone, if there is room. It answers whether there was.
 fn is_pushed<R: Wait>(rt: &R, relay: &Relay, sender: &mut Sender, caller: u32, number: u64) -> bool
     requires sender { (sender.old.queue ≡ relay.now.queue) × (sender.old.caller ≡ caller) }
     requires few { length sender.old.sent < 2 ^ 62 }
     ensures same { (sender.new.queue ≡ sender.old.queue) × (sender.new.caller ≡ sender.old.caller) }
-    ensures one { length sender.new.sent ≤ length sender.old.sent + 1 }
+    ensures one { result ≡ true → length sender.new.sent ≡ length sender.old.sent + 1 }
+    ensures none { result ≡ false → sender.new ≡ sender.old }
 {
-    match relay.push_next(rt, sender, alone(event_of(caller, number))) {
+    let Some(parcel) = relay.pack(rt, &[event_of(caller, number)]) else {
+        return false;
+    };
+    match relay.push_next(rt, sender, parcel) {
         Ok(()) => true,
         Err(Full) => false,
     }
+}
+
+/// Whether these events, which are packed, find the queue full.
+fn is_full<R: Wait>(rt: &R, relay: &Relay, sender: &mut Sender, events: &[Stamped]) -> bool
+    requires sender { sender.old.queue ≡ relay.now.queue }
+    requires caller { All (λ e. e.caller ≡ sender.old.caller) events.now }
+    requires few { length sender.old.sent < 2 ^ 62 }
+    ensures same { (sender.new.queue ≡ sender.old.queue) × (sender.new.caller ≡ sender.old.caller) }
+    ensures few { length sender.new.sent ≤ length sender.old.sent + 32 }
+{
+    let Some(parcel) = relay.pack(rt, events) else {
+        return false;
+    };
+    relay.push_next(rt, sender, parcel) == Err(Full)
 }
 
 /// Whether a parcel of just these events is popped.
@@ -146,10 +154,15 @@ fn is_popped<R: Wait>(rt: &R, relay: &Relay, receiver: &mut Receiver, wanted: &[
     requires { receiver.old.queue ≡ relay.now.queue }
     ensures { receiver.new.queue ≡ receiver.old.queue }
 {
-    match relay.pop(rt, receiver) {
-        Some(parcel) => parcel.len() == wanted.len() && parcel.events() == wanted,
-        None => false,
-    }
+    let parcel = relay.pop(rt, receiver);
+    is_packed(rt, relay, parcel, wanted)
+}
+
+/// Whether a parcel has just these events. Its room is given back.
+fn holds<R: Wait>(rt: &R, relay: &Relay, parcel: Parcel, wanted: &[Stamped]) -> bool {
+    let same = parcel.len() == wanted.len() && parcel.events() == wanted;
+    relay.give_back(rt, parcel);
+    same
 }
 
 /// Whether there is nothing to pop.
@@ -177,11 +190,11 @@ fn has_two_places<R: Wait>(
 {
     is_pushed(rt, relay, first, 0, 5)
         && is_pushed(rt, relay, second, 1, 6)
-        && !is_pushed(rt, relay, first, 0, 7)
-        && !is_pushed(rt, relay, second, 1, 8)
+        && is_full(rt, relay, first, &[event_of(0, 7)])
+        && is_full(rt, relay, second, &[event_of(1, 8)])
         && is_popped(rt, relay, receiver, &[event_of(0, 5)])
         && is_pushed(rt, relay, second, 1, 8)
-        && !is_pushed(rt, relay, first, 0, 7)
+        && is_full(rt, relay, first, &[event_of(0, 7)])
         && is_popped(rt, relay, receiver, &[event_of(1, 6)])
         && is_popped(rt, relay, receiver, &[event_of(1, 8)])
         && is_nothing_popped(rt, relay, receiver)
@@ -205,7 +218,7 @@ fn pushed<R: Wait>(rt: &R, relay: &Relay, sender: &mut Sender, events: &[Stamped
     ensures same { (sender.new.queue ≡ sender.old.queue) × (sender.new.caller ≡ sender.old.caller) }
     ensures few { length sender.new.sent ≤ length sender.old.sent + 32 }
 {
-    let Some(parcel) = Parcel::of(events) else {
+    let Some(parcel) = relay.pack(rt, events) else {
         return 0;
     };
     let count = parcel.len();
@@ -247,7 +260,7 @@ fn go_as_two_parcels<R: Wait>(
 {
     pushed(rt, relay, sender, all) == 32
         && pushed(rt, relay, sender, rest) == 4
-        && !is_pushed(rt, relay, sender, 0, 36)
+        && is_full(rt, relay, sender, &[event_of(0, 36)])
         && is_popped(rt, relay, receiver, first)
         && is_popped(rt, relay, receiver, rest)
         && is_nothing_popped(rt, relay, receiver)
@@ -255,8 +268,8 @@ fn go_as_two_parcels<R: Wait>(
 
 #[test]
 fn many_events_go_as_two_parcels(rt: HostRuntime) -> Result<(), Fail> {
-    assert!(rt; Parcel::of(&[]).is_none());
     let (relay, mut sender, mut receiver) = one(rt.alloc(), 2)?;
+    assert!(rt; relay.pack(&rt, &[]).is_none());
     let all = events_from(rt.alloc(), 0, 36)?;
     let first = events_from(rt.alloc(), 0, 32)?;
     let rest = events_from(rt.alloc(), 32, 36)?;
@@ -287,7 +300,7 @@ fn come_whole<R: Wait>(
     ) == 3
         && pushed(rt, relay, second, &[event_of(1, 1), event_of(1, 2)]) == 2
         && pushed(rt, relay, first, &[event_of(0, 5), event_of(0, 6)]) == 2
-        && pushed(rt, relay, second, &[event_of(1, 7), event_of(1, 8)]) == 0
+        && is_full(rt, relay, second, &[event_of(1, 7), event_of(1, 8)])
         && is_popped(
             rt,
             relay,
@@ -303,6 +316,86 @@ fn come_whole<R: Wait>(
 fn parcels_of_two_senders_come_whole(rt: HostRuntime) -> Result<(), Fail> {
     let (relay, mut first, mut second, mut receiver) = two(rt.alloc(), 3)?;
     assert!(rt; come_whole(&rt, &relay, &mut first, &mut second, &mut receiver));
+    Ok(())
+}
+
+/// Whether that many events, each alone, go through the relay one after another.
+fn go_one_by_one<R: Wait>(
+    rt: &R,
+    relay: &Relay,
+    sender: &mut Sender,
+    receiver: &mut Receiver,
+    count: u64,
+) -> bool
+    requires sender { (sender.old.queue ≡ relay.now.queue) × (sender.old.caller ≡ 0)
+        × (sender.old.sent ≡ []) }
+    requires receiver { receiver.old.queue ≡ relay.now.queue }
+    requires few { count < 2 ^ 32 }
+{
+    let mut right = true;
+    for number in 0..count {
+        right = goes_through(rt, relay, sender, receiver, number) && right;
+    }
+    right
+}
+
+/// Whether an event alone goes through an empty relay of one place, and finds it full if it is sent
+/// once more meanwhile.
+fn goes_through<R: Wait>(
+    rt: &R,
+    relay: &Relay,
+    sender: &mut Sender,
+    receiver: &mut Receiver,
+    number: u64,
+) -> bool
+    requires sender { (sender.old.queue ≡ relay.now.queue) × (sender.old.caller ≡ 0) }
+    requires receiver { receiver.old.queue ≡ relay.now.queue }
+    requires few { length sender.old.sent + 64 < 2 ^ 62 }
+    ensures sender { (sender.new.queue ≡ sender.old.queue)
+        × (sender.new.caller ≡ sender.old.caller) }
+    ensures few { length sender.new.sent ≤ length sender.old.sent + 33 }
+    ensures receiver { receiver.new.queue ≡ receiver.old.queue }
+{
+    is_pushed(rt, relay, sender, 0, number)
+        && is_full(rt, relay, sender, &[event_of(0, number)])
+        && is_popped(rt, relay, receiver, &[event_of(0, number)])
+}
+
+/// What no clause can say: rooms come back, of parcels that were popped and of those that found the
+/// relay full. A relay of one place and one sender has three.
+#[test]
+fn rooms_come_back(rt: HostRuntime) -> Result<(), Fail> {
+    let (relay, mut sender, mut receiver) = one(rt.alloc(), 1)?;
+    assert!(rt; go_one_by_one(&rt, &relay, &mut sender, &mut receiver, 20));
+    Ok(())
+}
+
+/// Whether a relay of one place and one sender packs three parcels, no fourth one, and another one
+/// when the room of one of them was given back.
+fn has_three_rooms<R: Wait>(rt: &R, relay: &Relay) -> bool {
+    let first = relay.pack(rt, &[event(1)]);
+    let second = relay.pack(rt, &[event(2)]);
+    let third = relay.pack(rt, &[event(3)]);
+    relay.pack(rt, &[event(4)]).is_none()
+        && is_packed(rt, relay, second, &[event(2)])
+        && is_packed(rt, relay, relay.pack(rt, &[event(5)]), &[event(5)])
+        && is_packed(rt, relay, first, &[event(1)])
+        && is_packed(rt, relay, third, &[event(3)])
+}
+
+/// Whether there is a parcel, of just these events. Its room is given back.
+fn is_packed<R: Wait>(rt: &R, relay: &Relay, parcel: Option<Parcel>, wanted: &[Stamped]) -> bool {
+    match parcel {
+        Some(parcel) => holds(rt, relay, parcel, wanted),
+        None => false,
+    }
+}
+
+/// What no clause can say: a parcel is packed if a room is free, and none if not.
+#[test]
+fn no_parcel_without_a_free_room(rt: HostRuntime) -> Result<(), Fail> {
+    let (relay, _, _) = one(rt.alloc(), 1)?;
+    assert!(rt; has_three_rooms(&rt, &relay));
     Ok(())
 }
 
@@ -327,7 +420,7 @@ fn send<R: Wait>(rt: &R, relay: &Relay, sender: &mut Sender, number: u64)
     ensures one { length sender.new.sent ≡ length sender.old.sent + 1 }
 {
     for _ in rt.forever() {
-        if relay.push_next(rt, sender, alone(event(number))).is_ok() {
+        if is_pushed(rt, relay, sender, 0, number) {
             return;
         }
         thread::yield_now();
@@ -343,7 +436,8 @@ fn receive_all<R: Wait>(rt: &R, relay: &Relay, receiver: Receiver, count: u64) -
     let mut receiver = receiver;
     let mut right = true;
     for number in 0..count {
-        right = right && receive(rt, relay, &mut receiver).events() == [event(number)].as_slice();
+        let parcel = receive(rt, relay, &mut receiver);
+        right = holds(rt, relay, parcel, &[event(number)]) && right;
     }
     right
 }

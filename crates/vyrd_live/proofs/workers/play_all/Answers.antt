@@ -57,7 +57,7 @@ end-requires g c =
     c.args.workers.items stopped worked.0 worked.1 c.requires.hands)
 
 -- the workers have worked, and their hands come back in the order of their callers
-module _ (g : given.Over) (c : goal.After-drop-relay-inside-2 g) where
+module _ (g : given.Over) (c : goal.After-drop-relay-inside-3 g) where
   abbrev stopped : List Stopped
   stopped = c.in_ok-stopped.stopped.items
 

@@ -1,7 +1,7 @@
 use Rattle.std.proofs.Common.{◌≡◌, ℕ, length, take, List, ◌++◌, min, ap, ◌∙◌, arith}
 use Rattle.std.proofs.lemmas.List.{take_all, take_min, length-take, take-append-le}
 use Rattle.vyrd_base.specs.declared.history.Stamped.{Stamped}
-use Rattle.vyrd_relay.proofs.parcel.Parcel.of.Goals as goal
+use Rattle.vyrd_relay.proofs.parcel.put_first.Goals as goal
 
 -- what was copied to the front
 front_is : (front rest events : List Stamped) (n count : ℕ) → front ≡ take count events
