@@ -1,16 +1,11 @@
 """Long lines of proofs are broken: where, and what stays."""
 
-import importlib.machinery
-import importlib.util
 import shutil
 import unittest
 from pathlib import Path
 
-from support import TOOLS, ScriptTest
-
-loader = importlib.machinery.SourceFileLoader("wrap", str(TOOLS / "wrap"))
-wrap = importlib.util.module_from_spec(importlib.util.spec_from_loader("wrap", loader))
-loader.exec_module(wrap)
+import layout
+from support import ScriptTest
 
 LONG = "a" * 40
 SHORT = "a" * 30
@@ -19,21 +14,21 @@ SHORT = "a" * 30
 class Lines(unittest.TestCase):
     def test_a_line_is_broken_before_an_arrow_that_stands_in_no_bracket(self):
         line = f"pub law : (x : {SHORT}) → (y : {SHORT} → B) → C x"
-        self.assertEqual(wrap.broken(line), [f"pub law : (x : {SHORT}) → (y : {SHORT} → B)", "    → C x"])
+        self.assertEqual(layout.broken(line), [f"pub law : (x : {SHORT}) → (y : {SHORT} → B)", "    → C x"])
 
     def test_a_chain_is_broken_before_its_last_step_that_fits(self):
         line = f"    ap f {LONG} ∙ sym {LONG} ∙ other {LONG}"
-        self.assertEqual(wrap.broken(line), [f"    ap f {LONG} ∙ sym {LONG}", f"        ∙ other {LONG}"])
+        self.assertEqual(layout.broken(line), [f"    ap f {LONG} ∙ sym {LONG}", f"        ∙ other {LONG}"])
 
     def test_what_a_bracket_binds_stays_together(self):
         line = f"pub law : (first second third : {LONG}) (fourth fifth sixth seventh eighth : {LONG}) → A"
-        first, second = wrap.broken(line)
+        first, second = layout.broken(line)
         self.assertEqual(first, f"pub law : (first second third : {LONG})")
         self.assertTrue(second.startswith("    (fourth fifth"))
 
     def test_an_import_becomes_two(self):
         names = [f"name_{n:02}" for n in range(14)]
-        first, second = wrap.broken("use Rattle.made_up.specs.Names.{" + ", ".join(names) + "}")
+        first, second = layout.broken("use Rattle.made_up.specs.Names.{" + ", ".join(names) + "}")
         self.assertLessEqual(len(first), 100)
         for line in (first, second):
             self.assertTrue(line.startswith("use Rattle.made_up.specs.Names.{") and line.endswith("}"))
@@ -42,17 +37,17 @@ class Lines(unittest.TestCase):
     def test_a_comment_is_filled_up_from_its_long_line_to_its_end(self):
         text = "-- short\n-- " + "word " * 25 + "end\n-- and more\nf x = x\n-- other"
         lines = ["-- short", "-- " + " ".join(["word"] * 19), "-- " + "word " * 6 + "end and more", "f x = x", "-- other"]
-        self.assertEqual(wrap.broken_once(text), ("\n".join(lines), []))
+        self.assertEqual(layout.broken_once(text), ("\n".join(lines), []))
 
     def test_a_comment_of_one_long_word_stays(self):
         line = "-- " + "a" * 120
-        self.assertEqual(wrap.broken_once(line), (line, [line]))
+        self.assertEqual(layout.broken_once(line), (line, [line]))
 
     def test_a_name_can_not_be_broken(self):
-        self.assertIsNone(wrap.broken("    " + "a" * 120))
+        self.assertIsNone(layout.broken("    " + "a" * 120))
 
     def test_nothing_is_broken_behind_a_comment_at_the_end(self):
-        columns = [place.column for place in wrap.places_in("f x -- and why")]
+        columns = [place.column for place in layout.places_in("f x -- and why")]
         self.assertEqual(columns, [1])
 
 
@@ -60,12 +55,12 @@ class Meaning(unittest.TestCase):
     def test_space_comments_and_cut_imports_are_no_change(self):
         one = "use A.{b, c, d}\nf x = g x (y, z)  -- why\n"
         other = "use A.{b, c}\nuse A.{d}\nf x =\n    g x (\n      y,\n      z,\n    )\n"
-        self.assertEqual(wrap.meaning(one), wrap.meaning(other))
+        self.assertEqual(layout.meaning(one), layout.meaning(other))
 
     def test_another_name_another_order_and_another_import_are(self):
         text = "use A.{b, c}\nf x = g x (y, z)\n"
         for other in (text.replace("y, z", "z, y"), text.replace("g x", "h x"), text.replace("b, c", "b"), text.replace("A.", "B.")):
-            self.assertNotEqual(wrap.meaning(text), wrap.meaning(other))
+            self.assertNotEqual(layout.meaning(text), layout.meaning(other))
 
 
 @unittest.skipUnless(shutil.which("rattle"), "the kit's rattle isn't there")
@@ -80,7 +75,7 @@ class Files(ScriptTest):
         text = f"law : (x : A) → P x → Q (other_{LONG} x) → R (another_{LONG} x) → S x\nlaw x p q r = combine p (lemma x q) r\n"
         new, said = self.wrapped(text)
         self.assertEqual((said.error, said.status), ("", 0))
-        self.assertEqual(wrap.meaning(new), wrap.meaning(text))
+        self.assertEqual(layout.meaning(new), layout.meaning(text))
         self.assertEqual(new.splitlines()[1], f"    → R (another_{LONG} x) → S x")
         self.assertTrue(all(len(line) <= 100 for line in new.splitlines()))
 
