@@ -23,9 +23,8 @@ amount_of-added (part ∷ parts) s q =
 
 pub IsAmounts-added : (parts : List (ℕ × ℕ)) (s : Amounts) → IsAmounts s → IsAmounts (added s parts)
 IsAmounts-added [] s is = is
-IsAmounts-added (part ∷ parts) s is =
-    IsAmounts-added parts (plus_amount s part.0 part.1)
-    (IsAmounts-with_amount s part.0 (amount_of s part.0 + part.1) is)
+IsAmounts-added (part ∷ parts) s is = IsAmounts-added parts (plus_amount s _ _)
+    (IsAmounts-with_amount s _ _ is)
 
 pub added-append : (xs ys : List (ℕ × ℕ)) (s : Amounts) → added s (xs ++ ys) ≡ added (added s xs) ys
 added-append [] ys s = refl

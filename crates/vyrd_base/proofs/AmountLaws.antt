@@ -22,13 +22,11 @@ isnt k q = not (q == k)
 
 found_in : (k q : ℕ) (b : Bool) (o : Option ℕ) → (q == k) ≡ b → unwrap_or (cond (not b) o None) 0
     ≡ cond b 0 (unwrap_or o 0)
-found_in k q true o e = refl
-found_in k q false o e = refl
+found_in k q b o e = search arith
 
 put_in : (a : ℕ) (b : Bool) (o : Option ℕ) → unwrap_or (cond b (Some a) o) 0
     ≡ cond b a (unwrap_or o 0)
-put_in a true o = refl
-put_in a false o = refl
+put_in a b o = search arith
 
 alike : (k q x : ℕ) → nat_cmp q x ≡ Equal → isnt k x ≡ isnt k q
 alike k q x e = ap (isnt k) (sym (nat_cmp-IsAntisymmetric q x e))
@@ -126,16 +124,13 @@ less_of : (x k : ℕ) → x < k → nat_cmp x k ≡ Less
 less_of x k low = grind (arith, nat_tests)
 
 and_true : (a b : Bool) → T a → T b → T (a && b)
-and_true true b p q = q
-and_true false b p q = p
+and_true a b p q = search arith
 
 pub first_of_and : (a b : Bool) → T (a && b) → T a
-first_of_and true b p = tt
-first_of_and false b p = p
+first_of_and a b p = search arith
 
 pub second_of_and : (a b : Bool) → T (a && b) → T b
-second_of_and true b p = p
-second_of_and false b p = absurd p
+second_of_and a b p = search arith
 
 below_push : (x k a : ℕ) (s : Amounts) → x < k → T (below_all nat_cmp x s)
     → T (below_all nat_cmp x (s ++ (k, a) ∷ []))

@@ -15,8 +15,7 @@ use Rattle.vyrd_base.proofs.TestLaws.{isnt_same}
 
 -- what `get` finds
 pub lookup-find : (q : ℕ) (es : Amounts) → lookup (is_at (nat_cmp q)) es ≡ find nat_cmp q es
-lookup-find q [] = refl
-lookup-find q (e ∷ es) = ap (λ o. cond (eq_by_cmp nat_cmp q e.0) (Some e.1) o) (lookup-find q es)
+lookup-find q es = search arith
 
 -- what `insert` leaves
 pub insert_entry-put : (k v : ℕ) (es : Amounts) → insert_entry nat_cmp es k v ≡ put nat_cmp k v es
@@ -42,16 +41,14 @@ kept_above k (e ∷ es) h =
     ∙ ap (λ xs. e ∷ xs) (kept_above k es (second_of_and (is_lt (nat_cmp k e.0)) _ h))
 
 flip : (k q : ℕ) (b : Bool) → (k == q) ≡ b → (q == k) ≡ b
-flip k q true e = grind (arith, nat_tests)
-flip k q false e = grind (arith, nat_tests)
+flip k q b e = search arith
 
 -- what `remove` leaves of keys that rise
 pub remove_entry-filter : (k : ℕ) (es : Amounts) → T (is_sorted nat_cmp es)
     → remove_entry (is_at (nat_cmp k)) es ≡ filter (λ entry. not (entry.0 == k)) es
 remove_entry-filter k [] rising = refl
-remove_entry-filter k (e ∷ es) rising =
-    by_test (remove_entry-filter k es (second_of_and (below_all nat_cmp e.0 es) _ rising))
-    (k == e.0) refl
+remove_entry-filter k (e ∷ es) rising = by_test
+    (remove_entry-filter k es (second_of_and (below_all nat_cmp e.0 es) _ rising)) (k == e.0) refl
   where
     kept : List (ℕ × ℕ)
     kept = filter (λ entry. not (entry.0 == k)) es
@@ -59,8 +56,7 @@ remove_entry-filter k (e ∷ es) rising =
     by_test : remove_entry (is_at (nat_cmp k)) es ≡ kept → (b : Bool) → (k == e.0) ≡ b
         → cond (eq_by_cmp nat_cmp k e.0) es (e ∷ remove_entry (is_at (nat_cmp k)) es)
         ≡ cond (not (e.0 == k)) (e ∷ kept) kept
-    by_test rest true is =
-        search (is_at, kept_above, below_all, first_of_and, rising, kept, flip, arith)
+    by_test rest true is = search (is_at, kept_above, below_all, first_of_and, flip, arith)
     by_test rest false isnt = cc (unsigned_tied k e.0, flip k e.0 false isnt)
 
 -- an insert of an amount that isn't 0, and a remove

@@ -27,16 +27,7 @@ unchanged_at f (suc n) (x ∷ xs) d = unchanged_at f n xs d
 pub changed_next : {A : Type 0} (f : A → A) (n : ℕ) (xs ys : List A) (d y : A) → n < length xs
     → ys ≡ changed_below f n xs → y ≡ f (get_or ys n d)
     → set ys n y ≡ changed_below f (n + 1) xs
-changed_next f n xs ys d y within so_far is =
-    let there : get_or ys n d ≡ get_or (changed_below f n xs) n d = (λ i. get_or (so_far i) n d) in
-    let same : get_or ys n d ≡ get_or xs n d = there ∙ unchanged_at f n xs d in
-    let value : y ≡ f (get_or xs n d) = is ∙ ap f same in
-    let wrote : set ys n y ≡ set (changed_below f n xs) n (f (get_or xs n d)) =
-    (λ i. set (so_far i) n (value i)) in
-    let count : suc n ≡ n + 1 = omega arith in
-    let next : changed_below f (suc n) xs ≡ changed_below f (n + 1) xs =
-    ap (λ k. changed_below f k xs) count in
-    wrote ∙ one_more f n xs d within ∙ next
+changed_next f n xs ys d y within so_far is = search (unchanged_at, one_more, arith)
 
 -- all elements are changed
 pub changed_all : {A : Type 0} (f : A → A) (n : ℕ) (xs : List A) → length xs ≤ n

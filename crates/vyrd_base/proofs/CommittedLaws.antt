@@ -50,8 +50,7 @@ Mutates c earlier = (called : Called) × (open_call c earlier ≡ Some called)
 
 goes_on : (c d : ℕ) (kind : Kind) (earlier : List Entry) → call_or_return kind ≡ None
     → Mutates c earlier → Mutates c (entry d kind ∷ earlier)
-goes_on c d kind earlier inside was =
-    (was.0, open_call-quiet c d kind earlier inside ∙ was.1, was.2)
+goes_on c d kind earlier inside was = (was.0, open_call-quiet c d _ _ inside ∙ was.1, was.2)
 
 -- an execution that has committed is open, and not an observer's
 own_runs : (h : Header) (c : ℕ) (kind : Kind) (earlier : List Entry)

@@ -65,5 +65,4 @@ no_write fits sink = record { counted = refl; stopped = refl; never = λ sure. r
 pub writes_in_row : (failed : Bool) (all rest : Type 0) (before between after : SinkKnown)
     → (all → rest) → AfterWrites false all before between
     → AfterWrites failed rest between after → AfterWrites failed all before after
-writes_in_row failed all rest before between after fits first then =
-    grind (arith, between, after, fits)
+writes_in_row failed all rest before between after fits first then = search arith

@@ -94,16 +94,13 @@ ahead_own c kind later = cc (same_number c)
 pub same_ahead_behind : (c : ℕ) (kind : Kind) (later : List Entry)
     → writes_ahead c (later ++ entry c kind ∷ []) ≡ writes_ahead c later
     → SameAhead later (later ++ entry c kind ∷ [])
-same_ahead_behind c kind later own d = by_same c d
-    (λ same. subst (λ x. writes_ahead x later ≡ writes_ahead x (later ++ entry c kind ∷ [])) same
-    (sym own))
-    (λ other. sym (ahead_other d c kind later other))
+same_ahead_behind c kind later own d = by_same c d (λ same. rw (← same) (sym own))
+    (λ other. sym (ahead_other d c _ _ other))
 
 pub same_behind : (earlier : List Entry) (c : ℕ) (kind : Kind) (later : List Entry)
     → writes_ahead c (later ++ entry c kind ∷ []) ≡ writes_ahead c later → SameEffects earlier later
     (later ++ entry c kind ∷ [])
-same_behind earlier c kind later own = same_by_ahead earlier later (later ++ entry c kind ∷ [])
-    (same_ahead_behind c kind later own)
+same_behind earlier c kind later own = same_by_ahead _ _ _ (same_ahead_behind c _ _ own)
 
 -- as does an entry that ends no block
 nothing_ahead : (kind : Kind) → ends_block kind ≡ false → ahead_at kind None ≡ None
@@ -124,8 +121,7 @@ ahead_of_no_end c d kind (x ∷ later) none = cc (ahead_of_no_end c d kind later
 pub same_without_end : (earlier : List Entry) (c : ℕ) (kind : Kind) (later : List Entry)
     → ends_block kind ≡ false
     → SameEffects earlier later (later ++ entry c kind ∷ [])
-same_without_end earlier c kind later none = same_behind earlier c kind later
-    (ahead_of_no_end c c kind later none)
+same_without_end earlier c kind later none = same_behind _ c _ _ (ahead_of_no_end c c _ _ none)
 
 -- whether the caller committed alone since its last open
 abbrev pub committed_since_open : ℕ → List Entry → Bool
@@ -157,20 +153,15 @@ same_on_other : (c : ℕ) (kind : Kind) (d : ℕ) (here : Kind) (earlier later :
     ≡ false
     → SameEffects earlier (entry d here ∷ later) (entry d here ∷ later ++ entry c kind ∷ [])
     → SameEffects (entry d here ∷ earlier) later (later ++ entry c kind ∷ [])
-same_on_other c kind d here earlier later other before = (
-  effects_by_ahead earlier d here later (later ++ entry c kind ∷ [])
-      (sym (ahead_other d c kind later (flipped d c other))),
-  before,
-)
+same_on_other c kind d here earlier later other before =
+    (effects_by_ahead _ d _ _ _ (sym (ahead_other d c _ _ (flipped d c other))), before)
 
 -- after an end of the caller's block nothing more is said of it
 same_from_end : (earlier : List Entry) (c : ℕ) (end kind : Kind) (later : List Entry)
     → ((o : Option (List (ℕ × ℕ))) → ahead_at end o ≡ Some [])
     → SameEffects earlier (entry c end ∷ later) (entry c end ∷ later ++ entry c kind ∷ [])
-same_from_end earlier c end kind later ends = same_behind earlier c kind (entry c end ∷ later)
-    (ahead_own c end (later ++ entry c kind ∷ [])
-    ∙ ends (writes_ahead c (later ++ entry c kind ∷ []))
-    ∙ sym (ends (writes_ahead c later)) ∙ sym (ahead_own c end later))
+same_from_end earlier c end kind later ends = same_behind _ c _ _
+    (ahead_own c _ _ ∙ ends _ ∙ sym (ends _) ∙ sym (ahead_own c _ _))
 
 -- if the caller's open block, if there is one, has no lone commit in it, what is said of its writes
 -- changes no effects
@@ -181,36 +172,21 @@ SameBehind c kind earlier = (later : List Entry) → has_inner_commit c earlier 
 same_on_own : (h : Header) (c : ℕ) (kind here : Kind) (earlier : List Entry)
     → broken_rule h earlier (entry c here) ≡ None
     → SameBehind c kind earlier → SameBehind c kind (entry c here ∷ earlier)
-same_on_own h c kind (Call method args) earlier kept before later none = (
-  refl,
-  before (entry c (Call method args) ∷ later) (sym (own_inner c (Call method args) earlier)
-      ∙ none),
-)
-same_on_own h c kind (Return reply) earlier kept before later none = (
-  refl,
-  before (entry c (Return reply) ∷ later) (sym (own_inner c (Return reply) earlier)
-      ∙ none),
-)
-same_on_own h c kind (Write word value) earlier kept before later none = (
-  refl,
-  before (entry c (Write word value) ∷ later) (sym (own_inner c (Write word value) earlier)
-      ∙ none),
-)
+same_on_own h c kind (Call method args) earlier kept before later none =
+    (refl, before _ (sym (own_inner c (Call method args) earlier) ∙ none))
+same_on_own h c kind (Return reply) earlier kept before later none =
+    (refl, before _ (sym (own_inner c (Return reply) earlier) ∙ none))
+same_on_own h c kind (Write word value) earlier kept before later none =
+    (refl, before _ (sym (own_inner c (Write word value) earlier) ∙ none))
 same_on_own h c kind Commit earlier kept before later none =
-    let outside : has_block c earlier ≡ false = and_true (has_block c earlier)
-    (sym (own_inner c Commit earlier) ∙ none) in (
-      cc,
-      before (entry c Commit ∷ later) (outside_inner c earlier outside),
-    )
-same_on_own h c kind BlockOpen earlier kept before later none = (
-  refl,
-  before (entry c BlockOpen ∷ later)
-      (outside_inner c earlier (open_kept h c earlier kept)),
-)
+    let outside : has_block c earlier ≡ false = and_true _ (sym (own_inner c Commit earlier)
+    ∙ none) in (cc, before _ (outside_inner c _ outside))
+same_on_own h c kind BlockOpen earlier kept before later none =
+    (refl, before _ (outside_inner c _ (open_kept h c _ kept)))
 same_on_own h c kind BlockClose earlier kept before later none =
-    (refl, same_from_end earlier c BlockClose kind later (λ o. refl))
+    (refl, same_from_end _ c _ _ _ (λ o. refl))
 same_on_own h c kind BlockCommit earlier kept before later none =
-    (refl, same_from_end earlier c BlockCommit kind later (λ o. refl))
+    (refl, same_from_end _ c _ _ _ (λ o. refl))
 
 pub same_without_inner : (h : Header) (c : ℕ) (kind : Kind) (earlier : List Entry)
     → WellFormed h earlier → SameBehind c kind earlier
@@ -271,8 +247,7 @@ never e f = absurd (no e f)
 
 pub has_block_of : (c : ℕ) (earlier : List Entry) → has_inner_commit c earlier ≡ true
     → has_block c earlier ≡ true
-has_block_of c earlier inner = first_true (has_block c earlier) (committed_since_open c earlier)
-    inner
+has_block_of c earlier inner = first_true _ (committed_since_open c _) inner
 
 -- a lone commit in an open block is one of the open execution
 abbrev InnerIsCommitted : ℕ → List Entry → Type 0
@@ -336,36 +311,34 @@ more_on_quiet : (c : ℕ) (kind here : Kind) (earlier : List Entry)
     → ((later : List Entry) → effects_at earlier c here later ≡ [])
     → MoreBehind c kind earlier → MoreBehind c kind (entry c here ∷ earlier)
 more_on_quiet c kind here earlier same_inner same_writes same_ahead alone no_effects before later
-    ahead inner none some =
-    own refl alone (no_effects later) (no_effects (later ++ entry c kind ∷ []))
+    ahead inner none some = own refl alone (no_effects _) (no_effects _)
     (subst (λ ws. MoreAtCommit c (ahead ++ ws) earlier (entry c here ∷ later)
     (entry c here ∷ later ++ entry c kind ∷ [])) (sym same_writes)
-    (before (entry c here ∷ later) ahead (sym same_inner ∙ inner)
-    (ahead_own c here later ∙ sym (same_ahead (writes_ahead c later)) ∙ none)
-    (ahead_own c here (later ++ entry c kind ∷ [])
-    ∙ sym (same_ahead (writes_ahead c (later ++ entry c kind ∷ []))) ∙ some)))
+    (before (entry c _ ∷ later) ahead (sym same_inner ∙ inner) (ahead_own c _ _ ∙ sym (same_ahead _)
+    ∙ none) (ahead_own c _ _ ∙ sym (same_ahead _) ∙ some)))
 
 more_on_own : (h : Header) (c : ℕ) (kind here : Kind) (earlier : List Entry) → WellFormed h earlier
     → broken_rule h earlier (entry c here) ≡ None → MoreBehind c kind earlier
     → MoreBehind c kind (entry c here ∷ earlier)
 more_on_own h c kind (Call method args) earlier wf kept before = more_on_quiet c kind
-    (Call method args) earlier
-    (own_inner c (Call method args) earlier) (own_writes c (Call method args) earlier)
-    (λ o. refl) refl (λ later. refl) before
-more_on_own h c kind (Return reply) earlier wf kept before = λ later ahead inner none some.
-    never (all_kept (checks_at h earlier (entry c (Return reply))) kept).1.1.0
+    (Call method args) earlier (own_inner c (Call method args) earlier)
+    (own_writes c (Call method args) earlier) (λ o. refl) refl (λ later. refl) before
+more_on_own h c kind (Return reply) earlier wf kept before = λ later ahead inner none some. never
+    (all_kept (checks_at h earlier (entry c (Return reply))) kept).1.1.0
     (has_block_of c earlier (sym (own_inner c (Return reply) earlier) ∙ inner))
 more_on_own h c kind (Write word value) earlier wf kept before = λ later ahead inner none some.
     let here : Entry = entry c (Write word value) in
     let inner' : has_inner_commit c earlier ≡ true = sym (own_inner c (Write word value) earlier)
     ∙ inner in
-    let no_effect : cond (has_block c earlier) [] ((word, value) ∷ []) ≡ [] =
-    cc (has_block_of c earlier inner') in
+    let no_effect : cond (has_block c earlier) [] ((word, value) ∷ [])
+    ≡ [] = cc (has_block_of c earlier inner') in
     own refl refl no_effect no_effect
     (subst (λ ws. MoreAtCommit c ws earlier (here ∷ later) (here ∷ later ++ entry c kind ∷ []))
-    (append_assoc ahead ((word, value) ∷ []) (block_writes c earlier)
-    ∙ ap (λ ws. ahead ++ ws) (sym (own_writes c (Write word value) earlier)))
-    (before (here ∷ later) (ahead ++ (word, value) ∷ []) inner'
+    (cc (
+      append_assoc ahead ((word, value) ∷ []) (block_writes c earlier),
+      own_writes c
+          (Write word value) earlier,
+    )) (before (here ∷ later) (ahead ++ (word, value) ∷ []) inner'
     (ahead_own c (Write word value) later ∙ ap (ahead_at (Write word value)) none)
     (ahead_own c (Write word value) (later ++ entry c kind ∷ [])
     ∙ ap (ahead_at (Write word value)) some)))
@@ -373,10 +346,8 @@ more_on_own h c kind Commit earlier wf kept before = λ later ahead inner none s
     let inside : has_block c earlier ≡ true = first_true (has_block c earlier) true
     (sym (own_inner c Commit earlier) ∙ inner) in
     let at_once : (l : List Entry) → effects_at earlier c Commit l
-    ≡ option_map_or (λ writes. writes ++ block_writes c earlier) (writes_ahead c l) [] =
-    λ l. cc in
-    at_commit refl refl
-    (cc (at_once later))
+    ≡ option_map_or (λ writes. writes ++ block_writes c earlier) (writes_ahead c l) [] = λ l. cc in
+    at_commit refl refl (cc (at_once later))
     (cc (at_once (later ++ entry c kind ∷ []), own_writes c Commit earlier))
     (same_without_inner h c kind earlier wf (entry c Commit ∷ later)
     (first_commit (has_inner_commit c earlier) refl))
@@ -399,16 +370,13 @@ more_behind h c kind (e ∷ earlier) wf = step (more_behind h c kind earlier wf.
   where
     on_other : MoreBehind c kind earlier → (e.caller == c) ≡ false → MoreBehind c kind (e ∷ earlier)
     on_other before apart later ahead inner none some =
-        let skip : (l : List Entry) → writes_ahead c (e ∷ l) ≡ writes_ahead c l =
-        λ l. ap (λ b. cond b (ahead_at e.kind (writes_ahead c l)) (writes_ahead c l)) apart in
+        let skip : (l : List Entry) → writes_ahead c (e ∷ l) ≡ writes_ahead c l = λ l. cc in
         other apart (effects_by_ahead earlier e.caller e.kind later (later ++ entry c kind ∷ [])
         (sym (ahead_other e.caller c kind later (flipped e.caller c apart))))
         (subst (λ ws. MoreAtCommit c (ahead ++ ws) earlier (e ∷ later)
-        (e ∷ later ++ entry c kind ∷ []))
-        (sym (other_writes c e.caller e.kind earlier apart))
+        (e ∷ later ++ entry c kind ∷ [])) (sym (other_writes c e.caller e.kind earlier apart))
         (before (e ∷ later) ahead (sym (other_inner c e.caller e.kind earlier apart) ∙ inner)
-        (skip later ∙ none)
-        (skip (later ++ entry c kind ∷ []) ∙ some)))
+        (skip later ∙ none) (skip (later ++ entry c kind ∷ []) ∙ some)))
 
     step : MoreBehind c kind earlier → MoreBehind c kind (e ∷ earlier)
     step before = by_same e.caller c
@@ -432,11 +400,9 @@ ahead_at_end BlockOpen ends o = never refl ends
 pub more_after : (h : Header) (earlier : List Entry) (e : Entry) → WellFormed h earlier
     → ends_committed_block earlier e ≡ true
     → MoreAtCommit e.caller (block_writes e.caller earlier) earlier [] (e ∷ [])
-more_after h earlier e wf ends = more_behind h e.caller e.kind earlier wf [] []
-    (second_true (ends_block e.kind) (has_inner_commit e.caller earlier) ends) refl
-    (ahead_own e.caller e.kind []
-    ∙ ahead_at_end e.kind (first_true (ends_block e.kind) (has_inner_commit e.caller earlier) ends)
-    None)
+more_after h earlier e wf ends = more_behind h _ _ _ wf [] [] (second_true (ends_block _) _ ends)
+    refl (ahead_own _ _ []
+    ∙ ahead_at_end e.kind (first_true _ (has_inner_commit e.caller earlier) ends) None)
 
 -- all effects together: the writes come right before those of other callers since the commit
 pub record MoreEffects (c : ℕ) (writes : List (ℕ × ℕ)) (earlier later later' : List Entry) : Type 0
@@ -462,43 +428,26 @@ more_effects c writes (e ∷ earlier) later later' = by_entry
     by_entry before (at_commit same alone none all same_before) =
         let owned : (e.caller == c) ≡ true = is_same e.caller c same in
         let lone : is_lone_commit e.kind ≡ true = ap is_lone_commit alone in
-        let last : effects_of_others c (e ∷ earlier) later ≡ [] =
-        λ i. cond (owned i) (cond (lone i) [] others) (effects_at earlier e.caller e.kind later
-        ++ others) in
+        let last : effects_of_others c (e ∷ earlier) later ≡ [] = λ i. cond (owned i)
+        (cond (lone i) [] others) (effects_at earlier e.caller e.kind later ++ others) in
         let before' = same_effects earlier (e ∷ later) (e ∷ later') same_before in
-        record {
-          rest = effects earlier (e ∷ later);
-          fewer = cc;
-          more = (λ i. all i ++ sym before' i)
-              ∙ ap (λ ws. ws ++ (writes ++ effects earlier (e ∷ later))) (sym last);
-        }
+        record { rest = effects earlier (e ∷ later); fewer = cc; more = cc }
     by_entry before (own same alone none none' more) =
         let owned : (e.caller == c) ≡ true = is_same e.caller c same in
-        let skipped : effects_of_others c (e ∷ earlier) later ≡ others =
-        λ i. cond (owned i) (cond (alone i) [] others) (effects_at earlier e.caller e.kind later
-        ++ others) in
+        let skipped : effects_of_others c (e ∷ earlier) later ≡ others = λ i. cond (owned i)
+        (cond (alone i) [] others) (effects_at earlier e.caller e.kind later ++ others) in
         let so = before more in
-        record {
-          rest = so.rest;
-          fewer = cc (so.fewer);
-          more = cc (so.more);
-        }
+        record { rest = so.rest; fewer = cc (so.fewer); more = cc (so.more) }
     by_entry before (other apart same more) =
         let taken : effects_of_others c (e ∷ earlier) later ≡ effects_at earlier e.caller e.kind
-        later ++ others =
-        cc in
+        later ++ others = cc in
         let so = before more in
         record {
           rest = so.rest;
-          fewer = cc (
-            so.fewer,
-            append_assoc (effects_at earlier e.caller e.kind later) others
-                so.rest,
-          );
-          more = (λ i. sym same i ++ so.more i)
-              ∙ sym (append_assoc (effects_at earlier e.caller e.kind later) others
-              (writes ++ so.rest))
-              ∙ ap (λ ws. ws ++ (writes ++ so.rest)) (sym taken);
+          fewer =
+              cc (so.fewer, append_assoc (effects_at earlier e.caller e.kind later) others so.rest);
+          more = cc (append_assoc (effects_at earlier e.caller e.kind later) others
+              (writes ++ so.rest));
         }
 
 -- what other callers' effects owe to it: a test that none of them passed, and none of the writes
@@ -512,8 +461,7 @@ NoneOfOthers p c d writes earlier later later' = MoreAtCommit d writes earlier l
 
 none_in : (p : ℕ × ℕ → Bool) (xs ys : List (ℕ × ℕ)) → list_any p (xs ++ ys) ≡ false
     → (list_any p xs ≡ false) × (list_any p ys ≡ false)
-none_in p xs ys none = neither_true (list_any p xs) (list_any p ys)
-    (sym (list_any-append p xs ys) ∙ none)
+none_in p xs ys none = neither_true _ _ (sym (list_any-append p _ _) ∙ none)
 
 pub none_of_both : (p : ℕ × ℕ → Bool) (xs ys : List (ℕ × ℕ)) → list_any p xs ≡ false → list_any p ys
     ≡ false → list_any p (xs ++ ys) ≡ false

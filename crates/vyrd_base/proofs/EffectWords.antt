@@ -23,29 +23,14 @@ pub map_set : (g new : ℕ → ℕ) (k n i v : ℕ) → new (k + i) ≡ v
     → ((q : ℕ) → ((k + i) == q) ≡ false → new q ≡ g q)
     → map new (numbers_from k n) ≡ set (map g (numbers_from k n)) i v
 map_set g new k zero i v at others = refl
-map_set g new k (suc n) zero v at others =
-    let here : k + 0 ≡ k = omega arith in
-    let first : new k ≡ v = ap new (sym here) ∙ at in
-    let rest = map_same g new (k + 1) n (k + 0) (omega arith) others in
-    λ j. first j ∷ rest j
+map_set g new k (suc n) zero v at others = search (map_same, arith)
 map_set g new k (suc n) (suc i) v at others =
     let there : k + suc i ≡ k + 1 + i = omega arith in
-    let first = others k (flipped k (k + suc i) (lower_isnt k (k + suc i) (omega arith))) in
-    let rest = map_set g new (k + 1) n i v (ap new (sym there) ∙ at)
-    (λ q apart. others q (ap (λ m. m == q) there ∙ apart)) in
+    let first = others k (flipped k _ (lower_isnt k _ (omega arith))) in
+    let rest = map_set g new (k + 1) n i v (ap new (sym there) ∙ at) (λ q apart. others q (cc)) in
     λ j. first j ∷ rest j
 
 -- one write more
 pub one_write : (h : Header) (starting : List StartWord) (effects : List (ℕ × ℕ)) (w v : ℕ)
     → set (words_with h starting effects) w v ≡ words_with h starting ((w, v) ∷ effects)
-one_write h starting effects w v =
-    sym (map_set (value_after starting effects) (value_after starting ((w, v) ∷ effects)) 0
-    (plain_words h) w v
-    (cc (is_same w (0 + w) (omega arith)))
-    (λ q apart. ap
-    (λ b. unwrap_or (option_or (cond b (Some v) None) (first_answer (given_to q) effects))
-    (value_at_start starting q))
-    (other_word q apart)))
-  where
-    other_word : (q : ℕ) → ((0 + w) == q) ≡ false → (w == q) ≡ false
-    other_word q apart = let e : 0 + w ≡ w = omega arith in cc
+one_write h starting effects w v = search (map_set, is_same, arith)

@@ -67,9 +67,8 @@ pub break_at : (h g : Header) (es : List Entry) (i : ℕ) (d : Entry) (rule : Ru
     → broken_rule g (newest_first (take i es)) (get_or es i d) ≡ Some rule → Some rule
     ≡ first_break h es
 break_at h g es i d rule same within kept here =
-    sym (ap (first_break h) (split_at_next es i d within) ∙ break_at_break h (take i es)
-    (drop (suc i) es) (get_or es i d) rule kept
-    (ap (λ k. broken_rule k (newest_first (take i es)) (get_or es i d)) (sym same) ∙ here))
+    sym (ap (first_break h) (split_at_next _ i d within) ∙ break_at_break h _ (drop (suc i) es)
+    (get_or _ i d) _ kept (cc))
 
 -- at the list's end the part that was gone through is the whole
 pub take_past : {A : Type 0} (es : List A) (i : ℕ) → i ≤ length es → length es ≤ i → take i es ≡ es

@@ -65,33 +65,11 @@ built_in_limited : (version size callers words : ℕ) → (size ≤ 1024 → wor
     → is_within version size callers ≡ true
     → AreLimited version size callers words
 built_in_limited version size callers words few e =
-    let sizes : is_sized size callers ≡ true = second_true (is_known_version version) _ e in
-    let low : size ≤ 1024 = at_most_of size 1024
-    (second_true (nat_le 1 size) _ (first_true _ _ (first_true _ _ sizes))) in
-    let many : callers ≤ 64 = at_most_of callers 64
-    (second_true (nat_le 1 size && nat_le size 1024 && nat_le 1 callers) _ sizes) in
-    record {
-      known = omega (arith, known_version version (first_true _ _ e));
-      sized = omega (arith, low);
-      some = at_most_of 1 callers
-          (second_true (nat_le 1 size && nat_le size 1024) _ (first_true _ _ sizes));
-      few = omega (arith, many);
-      short = omega (arith, few low);
-    }
+    search (second_true, at_most_of, first_true, known_version, sized, arith)
 
 own_limited : (version size callers : ℕ) → is_own_within version size callers ≡ true
     → AreLimited version size callers (size + 0)
-own_limited version size callers e =
-    let sizes : is_own_sized size callers ≡ true = second_true (version == 3) _ e in
-    let third : version ≡ 3 = same_of version 3 (first_true (version == 3) _ e) in
-    let low : size ≤ 65536 = at_most_of size 65536 (first_true _ _ (first_true _ _ sizes)) in
-    record {
-      known = omega (arith, third);
-      sized = low;
-      some = at_most_of 1 callers (second_true (nat_le size 65536) _ (first_true _ _ sizes));
-      few = at_most_of callers 256 (second_true (nat_le size 65536 && nat_le 1 callers) _ sizes);
-      short = omega (arith, low);
-    }
+own_limited version size callers e = grind arith
 
 limited : (subject : Subject) (version size callers : ℕ) → limits_of subject version size callers
     ≡ true

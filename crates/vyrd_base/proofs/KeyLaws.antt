@@ -15,8 +15,7 @@ lesser x k h = grind (arith, nat_tests)
 lesser_than_later : (x k a : ℕ) (s rest : Amounts) → T (below_all nat_cmp x (s ++ (k, a) ∷ rest))
     → x < k
 lesser_than_later x k a [] rest h = lesser x k (first_of_and _ _ h)
-lesser_than_later x k a (e ∷ s) rest h = lesser_than_later x k a s rest
-    (second_of_and (is_lt (nat_cmp x e.0)) _ h)
+lesser_than_later x k a (e ∷ s) rest h = lesser_than_later x k a s rest (second_of_and _ _ h)
 
 keys_before : (s : Amounts) (k a : ℕ) (rest : Amounts) → T (is_sorted nat_cmp (s ++ (k, a) ∷ rest))
     → AllByRecursion (λ p. p.0 < k) s

@@ -54,18 +54,14 @@ no_fault_beyond r starting states earlier (x ∷ xs) short =
     (slice_get_past states (commit_count earlier) short) in
     let grown : commit_count earlier ≤ commit_count (x ∷ earlier) =
     omega (arith, commit_count-cons x earlier) in
-    ap (λ o. option_or (option_map (Violation (line_of starting (position_of place))) o)
-    (first_answer (violation_at r starting states) (places_after (x ∷ earlier) xs))) here
-    ∙ no_fault_beyond r starting states (x ∷ earlier) xs (omega arith)
+    cc (no_fault_beyond r starting states (x ∷ earlier) xs (omega arith))
 
 -- one more commit, and how many there are then
 counted : (p : ℕ) (b : Bool) → b ≡ true → cond b 1 0 + p ≡ p + 1
-counted p true e = omega arith
-counted p false e = cc
+counted p b e = search arith
 
 uncounted : (p : ℕ) (b : Bool) → b ≡ false → cond b 1 0 + p ≡ p
-uncounted p true e = cc
-uncounted p false e = omega arith
+uncounted p b e = search arith
 
 -- If the first fault of some places is known, it is the first fault of these places as the front
 -- goes on. The states before these places are `pre`, and s is the state at the first of them.
@@ -100,10 +96,7 @@ first_fault_lasts r starting earlier (x ∷ xs) later pre states more s v settle
     new = fault_of_kind r starting (states ++ more) (with_later later place) x.kind
 
     known : slice_get states (commit_count earlier) ≡ Some s
-    known = ap (λ ss. slice_get ss (commit_count earlier)) are
-        ∙ slice_get_seam pre (states_from r s (commits_after earlier (x ∷ xs)))
-        (commit_count earlier) counts
-        ∙ states_begin r s (commits_after earlier (x ∷ xs))
+    known = search (slice_get_seam, states_begin, arith)
 
     -- the claim about the places after this one
     Onward : Type 0
@@ -114,20 +107,14 @@ first_fault_lasts r starting earlier (x ∷ xs) later pre states more s v settle
 
     -- a place without a fault leads on to the places after it
     lead_on : new ≡ None → new_rest ≡ Some v → option_or (with_line new) new_rest ≡ Some v
-    lead_on none onward = ap (λ o. option_or (with_line o) new_rest) none ∙ onward
+    lead_on none onward = cc
 
     at_commit : Onward → is_commit x.kind ≡ true → states ≡ pre
         ++ states_from r s (committed_at place ∷ commits_after (x ∷ earlier) xs)
         → fault_of_kind r starting states place x.kind ≡ None → rest ≡ Some v → (o : Option State)
         → state_after r s (committed_at place) ≡ o → option_or (with_line new) new_rest ≡ Some v
     at_commit onward is_one are' none found' None after =
-        let ended : states ≡ pre ++ s ∷ [] = are'
-        ∙ ap (λ o. pre ++ s ∷ (elim o as
-        (λ _. List State) [
-          | None ↦ []
-          | Some next ↦ states_from r next
-              (commits_after (x ∷ earlier) xs)
-        ])) after in
+        let ended : states ≡ pre ++ s ∷ [] = cc in
         let short : length states ≤ commit_count (x ∷ earlier) = omega (
           arith,
           ap length ended,
@@ -140,13 +127,7 @@ first_fault_lasts r starting earlier (x ∷ xs) later pre states more s v settle
     at_commit onward is_one are' none found' (Some next) after =
         let go_on : states ≡ (pre ++ s ∷ []) ++ states_from r next
         (commits_after (x ∷ earlier) xs) =
-        are' ∙ ap (λ o. pre
-        ++ s ∷ (elim o as (λ _. List State) [
-          | None ↦ []
-          | Some n ↦ states_from r n
-              (commits_after (x ∷ earlier) xs)
-        ])) after
-        ∙ sym (append_assoc pre (s ∷ []) (states_from r next (commits_after (x ∷ earlier) xs))) in
+        cc (append_assoc pre (s ∷ []) (states_from r next (commits_after (x ∷ earlier) xs))) in
         let long : length (pre ++ s ∷ []) ≡ commit_count (x ∷ earlier) = omega (
           arith,
           length-append pre (s ∷ []),
@@ -170,19 +151,15 @@ first_fault_lasts r starting earlier (x ∷ xs) later pre states more s v settle
         (onward pre s (settled_next x earlier xs is settled)
         (counts ∙ sym (commit_count-cons x earlier ∙ uncounted (commit_count earlier)
         (is_commit x.kind) isnt))
-        (are ∙ ap (λ b. pre
-        ++ states_from r s
-        (cons_option (then_some b (committed_at place)) (commits_after (x ∷ earlier) xs))) isnt)
+        (cc)
         found')
     by_kind onward none found' true is_one =
-        at_commit onward is_one (are ∙ ap (λ b. pre
-        ++ states_from r s
-        (cons_option (then_some b (committed_at place)) (commits_after (x ∷ earlier) xs))) is_one)
+        at_commit onward is_one (cc)
         none found' (state_after r s (committed_at place)) refl
 
     here : Onward → (o : Option Why) → fault_of_kind r starting states place x.kind ≡ o
         → option_or (with_line o) rest ≡ Some v
         → option_or (with_line new) new_rest ≡ Some v
-    here onward (Some why) e found' = ap (λ o. option_or (with_line o) new_rest)
-        (fault_stays r starting states more place later x.kind why settled e) ∙ found'
+    here onward (Some why) e found' =
+        cc (fault_stays r starting states more place later x.kind why settled e)
     here onward None e found' = by_kind onward e found' (is_commit x.kind) refl

@@ -38,8 +38,7 @@ below_64 : (n : ℕ) → nat_lt n (2 ^ 64) ≡ true → n < 2 ^ 64
 below_64 n e = grind (arith, nat_tests)
 
 or_false : (a b : Bool) → (a || b) ≡ true → b ≡ false → a ≡ true
-or_false true b e f = refl
-or_false false b e f = cc
+or_false a b e f = search arith
 
 -- the numbers of a call, in their ranges
 record Small (args : Args) : Type 0 where
@@ -49,8 +48,7 @@ record Small (args : Args) : Type 0 where
 
 args_1 : (args : Args) → are_padded 1 args ≡ true → Small args → args_from (decimal args.a ∷ [])
     ≡ args
-args_1 args e small =
-    grind (arith, small, same_of, or_false, first_true, second_true, number_of_decimal)
+args_1 args e small = search (same_of, or_false, first_true, second_true, number_of_decimal, arith)
 
 args_2 : (args : Args) → are_padded 2 args ≡ true → Small args
     → args_from (decimal args.a ∷ decimal args.b ∷ []) ≡ args
@@ -65,13 +63,7 @@ module _ (same padded : Bool) (args : Args)
     (e : (same && padded && nat_lt args.a (2 ^ 32) && nat_lt args.b (2 ^ 32) && nat_lt args.c
     (2 ^ 32)) ≡ true) where
   small_of : Small args
-  small_of = record {
-    a = below_32 args.a (second_true (same && padded) _ (first_true _ _ (first_true _ _ e)));
-    b = below_32 args.b
-        (second_true (same && padded && nat_lt args.a (2 ^ 32)) _ (first_true _ _ e));
-    c = below_32 args.c
-        (second_true (same && padded && nat_lt args.a (2 ^ 32) && nat_lt args.b (2 ^ 32)) _ e);
-  }
+  small_of = search (below_32, second_true, first_true, arith)
 
   padded_of : padded ≡ true
   padded_of = second_true same _ (first_true _ _ (first_true _ _ (first_true _ _ e)))
@@ -129,18 +121,17 @@ plain_args method args small = grind (arith, small, plain_take, both_true, plain
 
 plain_kind : (subject : Subject) (kind : Kind) → is_kind_of subject kind ≡ true
     → list_all is_plain_field (kind_fields kind) ≡ true
-plain_kind subject kind e =
-    grind (
-      arith,
-      both_true,
-      plain_method,
-      plain_args,
-      plain_number,
-      below_64,
-      below_32,
-      first_true,
-      second_true,
-    )
+plain_kind subject kind e = search (
+  both_true,
+  plain_method,
+  plain_args,
+  plain_number,
+  below_64,
+  below_32,
+  first_true,
+  second_true,
+  arith,
+)
 
 pub plain_entry : (subject : Subject) (e : Entry) → is_entry_of subject e ≡ true
     → list_all is_plain_field (decimal e.caller ∷ kind_fields e.kind) ≡ true
@@ -166,9 +157,7 @@ entry_in-entry_line subject e is =
     (kind_guess subject e.kind (second_true (nat_lt e.caller (2 ^ 32)) _ is))
     ∙ ap (λ c. Some (record { caller = c; kind = e.kind }))
     (number_of_decimal e.caller (below_32 e.caller (first_true _ _ is))) in
-    ap (option_and_then (λ x. cond (is_entry_of subject x && bytes_eq (entry_line x) (entry_line e))
-    (Some x) None)) guess
-    ∙ ap (λ b. cond b (Some e) None) (both_true _ _ is (bytes_same (entry_line e)))
+    cc (both_true _ _ is (bytes_same (entry_line e)))
 
 -- a list with a space isn't the line `end`
 pub spaced_isnt_end : (xs ys : List ℕ) → lacks 32 (xs ++ 32 ∷ ys) ≡ false
@@ -226,9 +215,7 @@ start_in-start_line s is =
       value = number_of_decimal s.value
           (below_64 s.value (second_true (nat_lt s.word (2 ^ 32)) _ is)) i;
     })) in
-    ap (option_and_then (λ x. cond (is_start x && bytes_eq (start_line x) (start_line s))
-    (Some x) None)) guess
-    ∙ ap (λ b. cond b (Some s) None) (both_true _ _ is (bytes_same (start_line s)))
+    cc (both_true _ _ is (bytes_same (start_line s)))
 
 -- a starting word that is read is spelled by the line, and its numbers are in the text's ranges
 pub start_in_sound : (line : List ℕ) (s : StartWord) → start_in line ≡ Some s

@@ -10,8 +10,7 @@ use Rattle.std.specs.List.{cons_option, AllByRecursion}
 
 cons_front : {A : Type 0} (o : Option A) (xs ys : List A) → cons_option o (xs ++ ys)
     ≡ cons_option o xs ++ ys
-cons_front None xs ys = refl
-cons_front (Some x) xs ys = refl
+cons_front o xs ys = search arith
 
 -- what a function gives of one element more, if it gives something
 pub filter_map_more : {A B : Type 0} (f : A → Option B) (xs : List A) (i : ℕ) (d : A)
@@ -28,13 +27,11 @@ filter_map_more f (x ∷ xs) (suc i) d low =
 
 -- nothing else is found
 pub or_none : {A : Type 0} (o : Option A) → option_or o None ≡ o
-or_none None = refl
-or_none (Some x) = refl
+or_none o = search arith
 
 -- neither answers
 pub both_none : {A : Type 0} (a b : Option A) → option_or a b ≡ None → (a ≡ None) × (b ≡ None)
-both_none None b e = (refl, e)
-both_none (Some a) b e = cc
+both_none a b e = search arith
 
 -- zeros alone
 pub zeros : (n i : ℕ) → get_or (replicate n zero) i zero ≡ zero
@@ -71,16 +68,13 @@ take_one_more xs n x here =
 
 -- an option that has no value
 pub is_none : {A : Type 0} (o : Option A) → ((x : A) → o ≡ Some x → ⊥) → o ≡ None
-is_none None not = refl
-is_none (Some x) not = absurd (not x refl)
+is_none o not = search arith
 
 pub isnt_some : {A : Type 0} (o : Option A) → is_some o ≡ false → o ≡ None
-isnt_some None e = refl
-isnt_some (Some x) e = cc
+isnt_some o e = search arith
 
 pub none_isnt_some : {A : Type 0} (o : Option A) → o ≡ None → IsSome o → ⊥
-none_isnt_some None e some = cc
-none_isnt_some (Some x) e some = cc
+none_isnt_some o e some = search arith
 
 -- the last element of a list, and the element at a place within it
 pub slice_get-last : {A : Type 0} (xs : List A) (x : A) → slice_get (xs ++ x ∷ []) (length xs)

@@ -35,8 +35,7 @@ Longer (p ∷ next ∷ ps) [] = ⊥
 Longer (p ∷ next ∷ ps) (q ∷ qs) = (q ≡ p) × Longer (next ∷ ps) qs
 
 longer_cons : (ps qs : List (List ℕ)) → Longer ps qs → Longer ([] ∷ ps) ([] ∷ qs)
-longer_cons [] qs h = absurd h
-longer_cons (p ∷ ps) qs h = (refl, h)
+longer_cons ps qs h = search arith
 
 longer_onto : (x : ℕ) (ps qs : List (List ℕ)) → Longer ps qs → Longer (onto_first x ps)
     (onto_first x qs)
@@ -44,8 +43,7 @@ longer_onto x ps qs h = grind arith
 
 -- no text has no part
 longer_nothing : (qs : List (List ℕ)) → 0 < length qs → Longer ([] ∷ []) qs
-longer_nothing [] h = absurd (omega arith)
-longer_nothing (q ∷ qs) h = (q, refl)
+longer_nothing qs h = search arith
 
 pub some_parts : (p : ℕ → Bool) (xs : List ℕ) → 0 < length (slice_split p xs)
 some_parts p [] = omega arith
@@ -78,38 +76,23 @@ no_more [] = refl
 no_more (x ∷ xs) = ap (λ ys. x ∷ ys) (no_more xs)
 
 same_grown : (r : Reading) → Grown r r
-same_grown r = record {
-  fault = λ f e. refl;
-  entries = λ e. ([], no_more r.entries);
-  ended = λ e is. (refl, is);
-  starting = λ e. ([], no_more r.starting);
-  begun = λ e is. refl;
-}
+same_grown r = search (no_more, ended, arith)
 
 -- one more entry before both, with the same starting words
 entry_grown : (n : ℕ) (o : Option Entry) (old new : Reading) → new.starting ≡ old.starting
     → Grown old new
     → Grown (entry_before n o old) (entry_before n o new)
-entry_grown n None old new same g = same_grown (stopped n (Some BadEntry))
-entry_grown n (Some e) old new same g = grind (arith, g.starting)
+entry_grown n o old new same g = search (same_grown, arith)
 
 -- one more starting word before both, or the rule that it breaks
 start_grown : (n : ℕ) (o : Option Rule) (s : StartWord) (old new : Reading) → Grown old new
     → Grown (start_before n o s old) (start_before n o s new)
-start_grown n (Some rule) s old new g = same_grown (stopped n (Some rule))
-start_grown n None s old new g = grind (arith, g.entries, g.ended)
+start_grown n o s old new g = search (same_grown, arith)
 
 -- a reading that stopped with nothing read
 stopped_grown : (n : ℕ) (o : Option Rule) (new : Reading)
     → ((rule : Rule) → o ≡ Some rule → new ≡ stopped n o) → Grown (stopped n o) new
-stopped_grown n None new same = grind arith
-stopped_grown n (Some rule) new same = record {
-  fault = λ f e. same rule refl;
-  entries = λ none. cc;
-  ended = λ none is. cc;
-  starting = λ none. cc;
-  begun = λ none is. cc;
-}
+stopped_grown n o new same = search (ended, arith)
 
 -- bytes that may go on, and bytes that are the whole input or may go on
 abbrev pub so_far : ℕ → Input
@@ -124,16 +107,13 @@ data Known (max n : ℕ) (bad rule : Rule) (rest : List ℕ) : Type 0 where
   long : 64 < length rest → nat_lt max n ≡ false → rule ≡ bad → Known max n bad rule rest
 
 some_bytes : (xs : List ℕ) (b : Bool) → (has_any xs && b) ≡ true → (0 < length xs) × (b ≡ true)
-some_bytes [] b e = cc
-some_bytes (x ∷ xs) b e = (omega arith, e)
+some_bytes xs b e = search arith
 
 many_bytes : (xs : List ℕ) (b : Bool) → (has_any xs && b) ≡ false → 64 < length xs → b ≡ false
-many_bytes [] b e h = absurd (omega arith)
-many_bytes (x ∷ xs) b e h = e
+many_bytes xs b e h = search arith
 
 is_some_length : (xs : List ℕ) (b : Bool) → 0 < length xs → b ≡ true → (has_any xs && b) ≡ true
-is_some_length [] b h e = absurd (omega arith)
-is_some_length (x ∷ xs) b h e = e
+is_some_length xs b h e = search arith
 
 no_first : (xs : List ℕ) (b : Bool) → b ≡ false → (has_any xs && b) ≡ false
 no_first xs b e = ap (λ x. has_any xs && x) e ∙ and-false (has_any xs)
@@ -143,20 +123,8 @@ no_rule o e f = absurd (let x : ⊥ = cc in x)
 
 unfinished_known : (max n : ℕ) (bad rule : Rule) (rest : List ℕ)
     → unfinished_rule (so_far max) n bad rest ≡ Some rule → Known max n bad rule rest
-unfinished_known max n bad rule rest e = by_first (has_any rest && nat_lt max n) refl e
-  where
-    others : Option Rule
-    others = cond (has_any rest && false) (Some NoLineFeed) (cond false (Some NoEnd) None)
-
-    by_second : (has_any rest && nat_lt max n) ≡ false → (b : Bool) → nat_lt 64 (length rest) ≡ b
-        → cond b (Some bad) others ≡ Some rule → Known max n bad rule rest
-    by_second first b is f = search (below_of, long, many_bytes, no_rule, arith)
-
-    by_first : (a : Bool) → (has_any rest && nat_lt max n) ≡ a
-        → cond a (Some TooManyLines) (cond (nat_lt 64 (length rest)) (Some bad) others) ≡ Some rule
-        → Known max n bad rule rest
-    by_first true is f = let parts = some_bytes rest (nat_lt max n) is in past parts.0 parts.1 cc
-    by_first false is f = by_second is (nat_lt 64 (length rest)) refl f
+unfinished_known max n bad rule rest e = search
+    (has_any, below_of, many_bytes, no_rule, some_bytes, arith)
 
 -- the rule stays, as the unfinished line goes on
 unfinished_stays : (max n : ℕ) (whole : Bool) (bad rule : Rule) (rest more : List ℕ)
@@ -192,14 +160,7 @@ line_grown n false false end end' onward onward' g h = h
 
 end_grown : (n : ℕ) (o o' : Option Rule) → ((rule : Rule) → o ≡ Some rule → o' ≡ Some rule)
     → Grown (ended n o) (ended n o')
-end_grown n None o' stays = grind arith
-end_grown n (Some rule) o' stays = record {
-  fault = λ f e. ap (ended n) (stays rule refl);
-  entries = λ none. cc;
-  ended = λ none is. cc;
-  starting = λ none. cc;
-  begun = λ none is. cc;
-}
+end_grown n o o' stays = search (ended, arith)
 
 -- entries and `end` come without starting words
 pub no_starting : (input : Input) (subject : Subject) (n : ℕ) (lines : List (List ℕ))
@@ -221,8 +182,7 @@ no_starting input subject n (line ∷ next ∷ lines) =
     by_tests false false (Some x) e = e
 
 no_parts : (p : List ℕ) (ps : List (List ℕ)) → Longer (p ∷ ps) [] → ⊥
-no_parts p [] h = h
-no_parts p (x ∷ ps) h = h
+no_parts p ps h = search arith
 
 -- the lines that more bytes make
 pub lines_grow : (max : ℕ) (whole : Bool) (subject : Subject) (n : ℕ) (ps qs : List (List ℕ))

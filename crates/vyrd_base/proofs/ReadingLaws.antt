@@ -85,15 +85,7 @@ module _ (input : Input) (subject : Subject) where
       → lines_read input subject n (entry_line e ∷ next ∷ lines) ≡ entry_before n (Some e)
       (lines_read input subject (n + 1) (next ∷ lines))
   one_line n e next lines within is =
-      let rest = lines_read input subject (n + 1) (next ∷ lines) in
-      let end : Reading = ended (n + 1) (after_end_rule input (n + 1) next lines) in
-      ap (λ b. cond b (stopped n (Some TooManyLines))
-      (cond (bytes_eq (entry_line e) end_line) end
-      (entry_before n (entry_in subject (entry_line e)) rest)))
-      (within_lines n input.max_lines within)
-      ∙ ap (λ b. cond b end (entry_before n (entry_in subject (entry_line e)) rest))
-      (entry_line_isnt_end e)
-      ∙ ap (λ o. entry_before n o rest) (entry_in-entry_line subject e is)
+      search (ended, within_lines, entry_line_isnt_end, entry_in-entry_line, arith)
 
   -- the lines of entries and of `end`
   pub tail_read : (n : ℕ) (entries : List Entry) → n + length entries ≤ input.max_lines
@@ -132,10 +124,7 @@ pub record DoesFollow (h : Header) (last : Option StartWord) (s : StartWord) : T
 pub first_follows : (h : Header) (last : Option StartWord) (s : StartWord)
     (starting : List StartWord)
     → do_follow h last (s ∷ starting) ≡ true → DoesFollow h last s
-first_follows h last s starting e =
-    let kept = neither_true (is_out_of_range h s) (is_out_of_order last s)
-    (not-true _ (first_true _ _ e)) in
-    record { in_range = kept.0; in_order = kept.1 }
+first_follows h last s starting e = search (neither_true, first_true, arith)
 
 pub no_start_rule : (h : Header) (last : Option StartWord) (s : StartWord) → DoesFollow h last s
     → start_rule h last s ≡ None
@@ -147,13 +136,7 @@ module _ (input : Input) (h : Header) where
       → start_in line ≡ None
       → starts_read input h last n (line ∷ next ∷ lines) ≡ lines_read input h.subject n
       (line ∷ next ∷ lines)
-  no_start_line last n line next lines none =
-      ap (λ o. elim o as (λ _. Reading) [
-        | None ↦ lines_read input h.subject n (line ∷ next ∷ lines)
-        | Some s ↦ cond (nat_lt input.max_lines n) (stopped n (Some TooManyLines))
-            (start_before n (start_rule h last s) s
-            (starts_read input h (Some s) (n + 1) (next ∷ lines)))
-      ]) none
+  no_start_line last n line next lines none = search arith
 
   -- one line that spells a starting word
   pub one_start_line : (last : Option StartWord) (n : ℕ) (line next : List ℕ)
@@ -161,13 +144,7 @@ module _ (input : Input) (h : Header) where
       → starts_read input h last n (line ∷ next ∷ lines) ≡ cond (nat_lt input.max_lines n)
       (stopped n (Some TooManyLines))
       (start_before n (start_rule h last s) s (starts_read input h (Some s) (n + 1) (next ∷ lines)))
-  one_start_line last n line next lines s is =
-      ap (λ o. elim o as (λ _. Reading) [
-        | None ↦ lines_read input h.subject n (line ∷ next ∷ lines)
-        | Some x ↦ cond (nat_lt input.max_lines n) (stopped n (Some TooManyLines))
-            (start_before n (start_rule h last x) x
-            (starts_read input h (Some x) (n + 1) (next ∷ lines)))
-      ]) is
+  one_start_line last n line next lines s is = search arith
 
   -- the lines of entries and of `end`, where starting words may stand
   tail_started : (last : Option StartWord) (n : ℕ) (entries : List Entry) → n + length entries
@@ -214,18 +191,8 @@ module _ (input : Input) (h : Header) where
       + length entries + 2 ≤ input.max_lines
       → may_start h starting ≡ true → AllOf h.subject entries
       → body_read input h (body_lines starting entries) ≡ complete starting entries
-  body_tail [] entries within may all = by_version (h.version == 2)
-    where
-      by_version : (b : Bool) → cond b (starts_read input h None 2 (tail_lines entries))
-          (lines_read input h.subject 2 (tail_lines entries))
-          ≡ complete [] entries
-      by_version true = tail_started None 2 entries (omega arith) all
-      by_version false = tail_read input h.subject 2 entries (omega arith) all
-  body_tail (s ∷ starting) entries within may all =
-      ap (λ b. cond b (starts_read input h None 2 (body_lines (s ∷ starting) entries))
-      (lines_read input h.subject 2 (body_lines (s ∷ starting) entries))) (first_true _ _ may)
-      ∙ starts_tail None 2 (s ∷ starting) entries (omega arith) (second_true (h.version == 2) _ may)
-      all
+  body_tail starting entries within may all = search
+      (tail_started, tail_read, first_true, starts_tail, second_true, arith)
 
 -- a line with its line feed before more
 pub regrouped : (line rest more : List ℕ) → (ended_line line ++ rest) ++ more ≡ line
@@ -408,9 +375,4 @@ pub text_verdict-log_text : (max : ℕ) (h : Header) (starting : List StartWord)
     → text_verdict max (log_text h starting entries) ≡ verdict (rules_of h) starting entries
 unfolding text_verdict verdict
 text_verdict-log_text max h starting entries built within may all =
-    ap (λ read. unwrap_or (known_verdict read) (accepted read.entries))
-    (reading-log_text (record { max_lines = max; is_whole = true }) h starting entries built within
-    may all)
-    ∙ ap (λ o. unwrap_or o (accepted entries))
-    (or_none (option_or (verdict_so_far (rules_of h) starting entries)
-    (end_verdict (rules_of h) starting entries)))
+    search (reading-log_text, or_none, arith)

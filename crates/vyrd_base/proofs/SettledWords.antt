@@ -44,10 +44,9 @@ block_is_a_callers h c (e ∷ earlier) wf = step (block_is_a_callers h c earlier
   where
     step : (has_block c earlier ≡ true → c < h.callers) → has_block c (e ∷ earlier) ≡ true
         → c < h.callers
-    step before inside = by_same e.caller c
-        (λ same. rw (← same) (caller_kept h earlier e wf.0))
-        (λ other. before
-        (sym (cc (other_answer c e.caller open_or_close e.kind earlier other)) ∙ inside))
+    step before inside = by_same _ c (λ same. rw (← same) (caller_kept h earlier e wf.0))
+        (λ other. before (sym (cc (other_answer c e.caller open_or_close e.kind earlier other))
+        ∙ inside))
 
 -- what a caller holds after its own entry
 pub own_holds : (c w : ℕ) (kind : Kind) (earlier : List Entry)
@@ -73,8 +72,7 @@ held_by_own : (w a : ℕ) (kind : Kind) (earlier : List Entry)
     → HeldBefore w a kind earlier
 held_by_own w a kind earlier own c holding = by_same a c
     (λ same. subst (λ x. holds_word x w (entry a kind ∷ earlier) ≡ true → holds_word x w earlier
-    ≡ true) same own holding)
-    (λ other. sym (holds_other c a w kind earlier other) ∙ holding)
+    ≡ true) same own holding) (λ other. sym (holds_other c a w _ _ other) ∙ holding)
 
 one_by_before : (w a : ℕ) (kind : Kind) (earlier : List Entry) → HeldBefore w a kind earlier
     → OneHolds w earlier
@@ -100,34 +98,32 @@ one_step : (h : Header) (w a : ℕ) (kind : Kind) (earlier : List Entry) → Wel
     → broken_rule h earlier (entry a kind) ≡ None
     → OneHolds w earlier → OneHolds w (entry a kind ∷ earlier)
 one_step h w a (Call method args) earlier wf kept one = one_by_before w a (Call method args) earlier
-    (held_by_own w a (Call method args) earlier
-    (λ holding. sym (own_holds a w (Call method args) earlier) ∙ holding)) one
+    (held_by_own w a (Call method args) _ (λ holding. sym (own_holds a w (Call method args) earlier)
+    ∙ holding)) one
 one_step h w a (Return reply) earlier wf kept one = one_by_before w a (Return reply) earlier
-    (held_by_own w a (Return reply) earlier (λ holding. sym (own_holds a w (Return reply) earlier)
+    (held_by_own w a (Return reply) _ (λ holding. sym (own_holds a w (Return reply) earlier)
     ∙ holding)) one
 one_step h w a Commit earlier wf kept one = one_by_before w a Commit earlier
-    (held_by_own w a Commit earlier (λ holding. sym (own_holds a w Commit earlier) ∙ holding)) one
+    (held_by_own w a Commit _ (λ holding. sym (own_holds a w Commit earlier) ∙ holding)) one
 one_step h w a BlockOpen earlier wf kept one = one_by_before w a BlockOpen earlier
-    (held_by_own w a BlockOpen earlier
-    (never (own_edge a w BlockOpen earlier true refl (λ _. refl)))) one
+    (held_by_own w a BlockOpen _ (never (own_edge a w BlockOpen earlier true refl (λ _. refl)))) one
 one_step h w a BlockClose earlier wf kept one = one_by_before w a BlockClose earlier
-    (held_by_own w a BlockClose earlier
+    (held_by_own w a BlockClose _
     (never (own_edge a w BlockClose earlier false refl (λ e. never refl e)))) one
 one_step h w a BlockCommit earlier wf kept one = one_by_before w a BlockCommit earlier
-    (held_by_own w a BlockCommit earlier
+    (held_by_own w a BlockCommit _
     (never (own_edge a w BlockCommit earlier false refl (λ e. never refl e)))) one
 one_step h w a (Write word value) earlier wf kept one = by_same word w
     (λ same. subst (λ x. broken_rule h earlier (entry a (Write x value)) ≡ None
     → OneHolds w (entry a (Write x value) ∷ earlier)) (sym same)
     (λ kept'. one_by_write h w a value earlier wf kept') kept)
-    (λ other. one_by_before w a (Write word value) earlier
-    (λ c holding. sym (other_write c a w word value earlier other) ∙ holding) one)
+    (λ other. one_by_before w a (Write _ value) earlier
+    (λ c holding. sym (other_write c a w _ value _ other) ∙ holding) one)
 
 pub one_holds : (h : Header) (w : ℕ) (earlier : List Entry) → WellFormed h earlier
     → OneHolds w earlier
 one_holds h w [] wf = λ c d holds_c holds_d. never refl holds_c
-one_holds h w (e ∷ earlier) wf = one_step h w e.caller e.kind earlier wf.1 wf.0
-    (one_holds h w earlier wf.1)
+one_holds h w (e ∷ earlier) wf = one_step h w _ _ _ wf.1 wf.0 (one_holds h w earlier wf.1)
 
 -- whether a write is to the word
 abbrev pub is_to : ℕ → ℕ × ℕ → Bool
@@ -189,22 +185,19 @@ own_isnt_passed : (h : Header) (c w : ℕ) (kind : Kind) (earlier : List Entry)
     → broken_rule h earlier (entry c kind) ≡ None
     → HeldIsntPassed c w earlier → HeldIsntPassed c w (entry c kind ∷ earlier)
 own_isnt_passed h c w (Call method args) earlier kept before = λ inner holding. quiet_isnt_passed c
-    w (Call method args) earlier refl refl
-    (before (sym (own_inner c (Call method args) earlier) ∙ inner)
+    w (Call _ _) earlier refl refl (before (sym (own_inner c (Call method args) earlier) ∙ inner)
     (sym (own_holds c w (Call method args) earlier) ∙ holding))
 own_isnt_passed h c w (Return reply) earlier kept before = λ inner holding. quiet_isnt_passed c w
-    (Return reply) earlier refl refl
+    (Return _) earlier refl refl
     (before (sym (own_inner c (Return reply) earlier) ∙ inner)
     (sym (own_holds c w (Return reply) earlier) ∙ holding))
 own_isnt_passed h c w (Write word value) earlier kept before = λ inner holding.
     let inner' : has_inner_commit c earlier ≡ true = sym (own_inner c (Write word value) earlier)
     ∙ inner in
-    quiet_isnt_passed c w (Write word value) earlier refl refl (by_same word w
-    (λ same. rw (← same)
-    (not_passed h c word value earlier kept inner'))
-    (λ other. before inner' (sym (other_write c c w word value earlier other) ∙ holding)))
-own_isnt_passed h c w Commit earlier kept before = λ inner holding.
-    cc (same_number c)
+    quiet_isnt_passed c w (Write _ _) earlier refl refl
+    (by_same word w (λ same. rw (← same) (not_passed h c word value earlier kept inner'))
+    (λ other. before inner' (sym (other_write c c w _ value _ other) ∙ holding)))
+own_isnt_passed h c w Commit earlier kept before = λ inner holding. cc (same_number c)
 own_isnt_passed h c w BlockOpen earlier kept before = λ inner holding. never
     (own_inner c BlockOpen earlier) inner
 own_isnt_passed h c w BlockClose earlier kept before = λ inner holding. never
@@ -216,13 +209,12 @@ own_isnt_passed h c w BlockCommit earlier kept before = λ inner holding. never
 block_has_none : (h : Header) (c d w : ℕ) (earlier : List Entry) → WellFormed h earlier → (d == c)
     ≡ false → holds_word c w earlier ≡ true
     → has_block d earlier ≡ true → list_any (is_to w) (block_writes d earlier) ≡ false
-block_has_none h c d w earlier wf other holding inside = by_held (holds_word d w earlier) refl
+block_has_none h c d w earlier wf other holding inside = by_held (holds_word d w _) refl
   where
     by_held : (b : Bool) → holds_word d w earlier ≡ b → list_any (is_to w) (block_writes d earlier)
         ≡ false
-    by_held true e = never other (sym (ap (λ x. d == x) (one_holds h w earlier wf d c e holding))
-        ∙ same_number d)
-    by_held false e = sym (holds_is d w earlier inside) ∙ e
+    by_held true e = never other (sym (cc (one_holds h w earlier wf d c e holding)) ∙ same_number d)
+    by_held false e = sym (holds_is d w _ inside) ∙ e
 
 here_has_none : (h : Header) (c d w : ℕ) (kind : Kind) (earlier : List Entry) → WellFormed h earlier
     → broken_rule h earlier (entry d kind) ≡ None → (d == c) ≡ false → holds_word c w earlier ≡ true
@@ -245,8 +237,7 @@ here_has_none h c d w (Write word value) earlier wf kept other holding = by_bloc
     another_word : (word == w) ≡ false
     another_word = by_same word w
         (λ same. never ((write_kept h d word value earlier kept).free c low (flipped d c other))
-        (subst (λ x. holds_word c x earlier ≡ true) (sym same) holding))
-        (λ apart. apart)
+        (rw same holding)) (λ apart. apart)
 
     by_block : (b : Bool) → list_any (is_to w) (cond b [] ((word, value) ∷ [])) ≡ false
     by_block true = refl
@@ -274,13 +265,12 @@ before_has_none h c w earlier e wf other holding none = by_end (ends_committed_b
     by_end : (b : Bool) → ends_committed_block earlier e ≡ b
         → list_any (is_to w) (effects_of_others c earlier (e ∷ [])) ≡ false
     by_end true ends = none_of_others (is_to w) c e.caller (block_writes e.caller earlier) earlier
-        [] (e ∷ []) other
-        (more_after h earlier e wf ends)
+        [] (e ∷ []) other (more_after h earlier e wf ends)
         (block_has_none h c e.caller w earlier wf other holding
         (has_block_of e.caller earlier
         (second_true (ends_block e.kind) (has_inner_commit e.caller earlier) ends))) none
-    by_end false ends = ap (list_any (is_to w))
-        (sym (same_effects_of_others c earlier [] (e ∷ []) (same_after h earlier e wf ends))) ∙ none
+    by_end false ends =
+        cc (same_effects_of_others c earlier [] (e ∷ []) (same_after h earlier e wf ends))
 
 other_isnt_passed : (h : Header) (c d w : ℕ) (kind : Kind) (earlier : List Entry)
     → WellFormed h earlier
@@ -422,6 +412,4 @@ pub words_settled : (h : Header) (starting : List StartWord) (earlier : List Ent
     → WellFormed h earlier
     → words_after h starting earlier ≡ settled_words h starting earlier
 unfolding words_after
-words_settled h starting earlier wf = map_same (value_after starting (effects earlier []))
-    (settled_value starting earlier) 0 (plain_words h)
-    (λ w. ap (λ o. unwrap_or o (value_at_start starting w)) (settled h w earlier wf))
+words_settled h starting earlier wf = map_same _ _ 0 _ (λ w. cc (settled h w earlier wf))

@@ -58,12 +58,10 @@ all_kept (check ∷ checks) e =
     split false f = (refl, f)
 
 or_false_left : (a b : Bool) → (a || b) ≡ false → a ≡ false
-or_false_left true b e = e
-or_false_left false b e = refl
+or_false_left a b e = search arith
 
 pub or_false_right : (a b : Bool) → (a || b) ≡ false → b ≡ false
-or_false_right true b e = cc
-or_false_right false b e = e
+or_false_right a b e = search arith
 
 apart : (k d : ℕ) → (k == d) ≡ false → k ≤ d → k + 1 ≤ d
 apart k d e low = grind (arith, nat_tests)
@@ -71,13 +69,11 @@ apart k d e low = grind (arith, nat_tests)
 none_of : (p : ℕ → Bool) (k n d : ℕ) → list_any p (numbers_from k n) ≡ false → k ≤ d → d < k + n
     → p d ≡ false
 none_of p k zero d e low high = absurd (omega arith)
-none_of p k (suc n) d e low high = by_same k d
-    (λ same. ap p (sym same) ∙ or_false_left (p k) _ e)
-    (λ other. none_of p (k + 1) n d (or_false_right (p k) _ e) (apart k d other low) (omega arith))
+none_of p k (suc n) d e low high = by_same k d (λ same. ap p (sym same) ∙ or_false_left _ _ e)
+    (λ other. none_of p (k + 1) n d (or_false_right _ _ e) (apart k d other low) (omega arith))
 
 pub held_false : (same held : Bool) → (not same && held) ≡ false → same ≡ false → held ≡ false
-held_false true held e f = cc
-held_false false held e f = e
+held_false same held e f = search arith
 
 -- what the rules say of a write, of an open and of a close
 pub record WriteKept (h : Header) (c word : ℕ) (earlier : List Entry) : Type 0 where
@@ -88,13 +84,12 @@ pub write_kept : (h : Header) (c word value : ℕ) (earlier : List Entry)
     → broken_rule h earlier (entry c (Write word value)) ≡ None
     → WriteKept h c word earlier
 write_kept h c word value earlier e =
-    let kept = all_kept (checks_at h earlier (entry c (Write word value))) e in
+    let kept = all_kept (checks_at h earlier (entry c (Write _ _))) e in
     record {
-      caller = above_of h.callers c kept.0;
-      free = λ d low other. held_false (d == c) (holds_word d word earlier)
+      caller = above_of _ c kept.0;
+      free = λ d low other. held_false (d == c) _
           (none_of (λ x. not (x == c) && holds_word x word earlier) 0 h.callers d
-          (or_false_left (is_held_by_other h c word earlier) (is_passed c word earlier)
-          kept.1.1.1.1.0) (omega arith) (omega arith)) other;
+          (or_false_left _ (is_passed c _ _) kept.1.1.1.1.0) (omega arith) (omega arith)) other;
     }
 
 pub open_kept : (h : Header) (c : ℕ) (earlier : List Entry)
@@ -168,8 +163,7 @@ quiet_sound h w c kind earlier quiet sound = record {
     last = cc (quiet.logged)
 
 outside_holds : (a b : Bool) → a ≡ false → (a && b) ≡ false
-outside_holds true b e = cc
-outside_holds false b e = refl
+outside_holds a b e = search arith
 
 -- after its own open or close a caller holds no word
 pub own_edge : (c w : ℕ) (kind : Kind) (earlier : List Entry) (opens : Bool) → open_or_close kind
@@ -281,44 +275,9 @@ write_own_sound : (h : Header) (w c value : ℕ) (earlier : List Entry) → Writ
     → Sound h w (entry c (Write w value) ∷ earlier)
 write_own_sound h w c value earlier kept = by_block (has_block c earlier) refl
   where
-    last : last_logged w (entry c (Write w value) ∷ earlier) ≡ value
-    last = cc (same_number w)
-
-    not_held : (d : ℕ) → d < h.callers → (c == d) ≡ false
-        → holds_word d w (entry c (Write w value) ∷ earlier) ≡ false
-    not_held d low other = search (holds_other, flipped, arith)
-
-    own_block_is : has_block c (entry c (Write w value) ∷ earlier) ≡ has_block c earlier
-    own_block_is = cc (no_answer c c open_or_close (Write w value) earlier refl)
-
-    own_wrote_is : wrote c w (entry c (Write w value) ∷ earlier) ≡ true
-    own_wrote_is = cc (own_wrote c w (Write w value) earlier, same_number w)
-
     by_block : (b : Bool) → has_block c earlier ≡ b → Sound h w (entry c (Write w value) ∷ earlier)
-    by_block true inside = record {
-      free = λ none. absurd
-          (never (none c kept.caller) ((λ i. own_block_is i && own_wrote_is i)
-          ∙ ap (λ b. b && true) inside));
-      held = λ d low holding. by_same c d
-          (λ same. subst (λ x. block_value x w (entry c (Write w value) ∷ earlier)
-          ≡ Some (last_logged w (entry c (Write w value) ∷ earlier))) same
-          (own_value c w (Write w value) earlier
-          ∙ ap (λ b. option_or (cond b (Some value) None) (block_value c w earlier)) (same_number w)
-          ∙ ap Some (sym last)))
-          (λ other. absurd (never (not_held d low other) holding));
-    }
-    by_block false outside = record {
-      free = λ none. ap
-          (λ b. old_value_after (cond b [] ((w, value) ∷ []) ++ old_effects earlier) w) outside
-          ∙ ap (λ b. unwrap_or
-          (option_or (cond b (Some value) None) (first_answer (given_to w) (old_effects earlier)))
-          0) (same_number w) ∙ sym last;
-      held = λ d low holding. by_same c d
-          (λ same. absurd (never (subst (λ x. holds_word x w (entry c (Write w value) ∷ earlier)
-          ≡ false) same (ap (λ b. b && wrote c w (entry c (Write w value) ∷ earlier))
-          (own_block_is ∙ outside))) holding))
-          (λ other. absurd (never (not_held d low other) holding));
-    }
+    by_block true inside = search (never, by_same, own_value, same_number, arith)
+    by_block false outside = search (same_number, by_same, never, arith)
 
 -- the range that the rules give each caller
 pub caller_kept : (h : Header) (earlier : List Entry) (e : Entry) → broken_rule h earlier e ≡ None
@@ -351,25 +310,14 @@ abbrev pub BlockInCall : ℕ → List Entry → Type 0
 BlockInCall c earlier = has_block c earlier ≡ true → is_some (open_call c earlier) ≡ true
 
 is_some_of : {A : Type 0} (o : Option A) → is_none o ≡ false → is_some o ≡ true
-is_some_of None e = cc
-is_some_of (Some a) e = refl
+is_some_of o e = search arith
 
 -- an open block stands in a call, with one more entry of its caller
 own_in_call : (h : Header) (c : ℕ) (kind : Kind) (earlier : List Entry)
     → broken_rule h earlier (entry c kind) ≡ None
     → BlockInCall c earlier → BlockInCall c (entry c kind ∷ earlier)
-own_in_call h c (Call method args) earlier kept so = search (is_some, own_answer, arith)
-own_in_call h c (Return reply) earlier kept so = search (never, all_kept, kept, no_answer, arith)
-own_in_call h c (Write word value) earlier kept so =
-    search (is_some, open_call-quiet, is_some_of, all_kept, kept, arith)
-own_in_call h c Commit earlier kept so =
-    search (is_some, open_call-quiet, is_some_of, all_kept, kept, arith)
-own_in_call h c BlockOpen earlier kept so =
-    search (is_some, open_call-quiet, is_some_of, all_kept, kept, arith)
-own_in_call h c BlockClose earlier kept so =
-    search (is_some, open_call-quiet, is_some_of, all_kept, kept, arith)
-own_in_call h c BlockCommit earlier kept so =
-    search (is_some, open_call-quiet, is_some_of, all_kept, kept, arith)
+own_in_call h c kind earlier kept so = search
+    (is_some, own_answer, never, all_kept, no_answer, open_call-quiet, is_some_of, arith)
 
 pub block_in_call : (h : Header) (c : ℕ) (earlier : List Entry) → WellFormed h earlier
     → BlockInCall c earlier
@@ -377,14 +325,7 @@ block_in_call h c [] wf = λ inside. cc
 block_in_call h c (e ∷ earlier) wf = step (block_in_call h c earlier wf.1)
   where
     step : BlockInCall c earlier → BlockInCall c (e ∷ earlier)
-    step so = by_same e.caller c
-        (λ same. subst (λ d. broken_rule h earlier (entry d e.kind) ≡ None
-        → BlockInCall c (entry d e.kind ∷ earlier)) (sym same)
-        (λ kept. own_in_call h c e.kind earlier kept so) wf.0)
-        (λ other. λ inside.
-        ap (λ o. is_some (option_flatten o))
-        (other_answer c e.caller call_or_return e.kind earlier other)
-        ∙ so (sym (cc (other_answer c e.caller open_or_close e.kind earlier other)) ∙ inside))
+    step so = search (by_same, own_in_call, is_some, other_answer, arith)
 
 -- with no call open, each word has the value logged last
 pub words_at_rest : (h : Header) (w : ℕ) (earlier : List Entry) → WellFormed h earlier

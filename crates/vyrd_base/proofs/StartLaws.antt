@@ -47,8 +47,7 @@ chunk_same : (v w : List ℕ) → SameWords v w → (h : ℕ) → chunk_at v h �
 chunk_same v w same h = grind arith
 
 buffer_same : (v w : List ℕ) → SameWords v w → (b : ℕ) → buffer_at v b ≡ buffer_at w b
-buffer_same v w same b =
-    λ i. record { count = same (8 * b) i; character = λ k. same (8 * b + (1 + k)) i }
+buffer_same v w same b = search arith
 
 entries_same : (v w : List ℕ) → SameWords v w → (n : ℕ) → entries_of v n ≡ entries_of w n
 entries_same v w same n = grind arith
@@ -115,20 +114,7 @@ node_parts_same v w same n = ap (flat_map entry_parts) (entries_same v w same n)
 
 chain_same : (v w : List ℕ) → SameWords v w → (size left : ℕ) (seen : List ℕ) (n : ℕ)
     → chain_parts_from size v left seen n ≡ chain_parts_from size w left seen n
-chain_same v w same size zero seen n = refl
-chain_same v w same size (suc left) seen n =
-    let right : right_of v n ≡ right_of w n = same (12 * n + 3) in
-    let onward : chain_parts_from size v left (n ∷ seen) (right_of v n)
-    ≡ chain_parts_from size w left (n ∷ seen) (right_of w n)
-    = chain_same v w same size left (n ∷ seen) (right_of v n)
-    ∙ ap (chain_parts_from size w left (n ∷ seen)) right in
-    λ i. node_parts_same v w same n i ++ (elim (right i == 0) [
-      | true ↦ []
-      | false ↦ elim (nat_le size (right i) || list_any (λ m. m == right i) (n ∷ seen)) [
-        | true ↦ damage
-        | false ↦ onward i
-      ]
-    ])
+chain_same v w same size left seen n = search (node_parts_same, arith)
 
 pub parts_same : (v w : List ℕ) → SameWords v w → (subject : Subject) (size : ℕ)
     → parts_of subject size v ≡ parts_of subject size w

@@ -46,8 +46,7 @@ stops_at : (n : ℕ) (rule : Rule) → Stops n (stopped n (Some rule))
 stops_at n rule = grind arith
 
 fault_line : (n : ℕ) (o : Option Rule) (f : TextFault) → fault_on n o ≡ Some f → f.line ≡ n
-fault_line n None f e = cc
-fault_line n (Some rule) f e = cc
+fault_line n o f e = search arith
 
 stops_after_end : (n : ℕ) (o : Option Rule) → Stops n (ended (n + 1) o)
 stops_after_end n o = grind (arith, fault_line)
@@ -55,24 +54,15 @@ stops_after_end n o = grind (arith, fault_line)
 -- what stands after the last line feed of a whole input is always at fault
 stops_unfinished : (max n : ℕ) (bad : Rule) (rest : List ℕ)
     → Stops n (stopped n (unfinished_rule (input_of max true) n bad rest))
-stops_unfinished max n bad rest = by_tests (has_any rest && nat_lt max n) (nat_lt 64 (length rest))
-    (has_any rest && true)
-  where
-    by_tests : (past long some : Bool)
-        → Stops n (stopped n
-        (first_broken ((past breaks TooManyLines) ∷ (long breaks bad) ∷ (some breaks NoLineFeed)
-        ∷ (true breaks NoEnd) ∷ [])))
-    by_tests past long some = search (long, stops_at, arith)
+stops_unfinished max n bad rest = search (has_any, stops_at, arith)
 
 stops_with_entry : (n : ℕ) (o : Option Entry) (read : Reading) → Stops (n + 1) read
     → Stops n (entry_before n o read)
-stops_with_entry n None read s = stops_at n BadEntry
-stops_with_entry n (Some e) read s = grind arith
+stops_with_entry n o read s = search (stops_at, arith)
 
 stops_with_start : (n : ℕ) (o : Option Rule) (s : StartWord) (read : Reading) → Stops (n + 1) read
     → Stops n (start_before n o s read)
-stops_with_start n (Some rule) s read st = stops_at n rule
-stops_with_start n None s read st = grind arith
+stops_with_start n o s read st = search (stops_at, arith)
 
 lines_stop : (max : ℕ) (subject : Subject) (n : ℕ) (line : List ℕ) (lines : List (List ℕ))
     → Stops n (lines_read (input_of max true) subject n (line ∷ lines))
@@ -147,13 +137,11 @@ text_stop max (line ∷ next ∷ lines) some = by_header (header_in line)
 
 pub reading_stops : (max : ℕ) (bytes : List ℕ) → TextStops (reading (input_of max true) bytes)
 unfolding reading
-reading_stops max bytes = text_stop max (slice_split (λ b. b == 10) bytes)
-    (some_parts (λ b. b == 10) bytes)
+reading_stops max bytes = search (text_stop, some_parts, arith)
 
 unwrap_or-or_some : {A : Type 0} (o : Option A) (a d : A) → unwrap_or (option_or o (Some a)) d
     ≡ unwrap_or o a
-unwrap_or-or_some None a d = refl
-unwrap_or-or_some (Some x) a d = refl
+unwrap_or-or_some o a d = search arith
 
 -- whether a fault stands after an `end`
 is_behind : (line n : ℕ) → line ≡ 2 + n + 1 → (line == n + 2 + 1) ≡ true
@@ -174,37 +162,8 @@ by_stop : (h : Header) (starting : List StartWord) (entries : List Entry) (is_en
     (option_map (λ f. Malformed f.line f.rule) fault)) (accepted entries)
     ≡ verdict_at (rules_of h) starting entries (option_map_or (λ f. Text f.line f.rule) fault End)
 unfolding verdict_at verdict
-by_stop h starting entries true None behind at =
-    ap (λ o. unwrap_or o (accepted entries))
-    (or_none (option_or (verdict_so_far (rules_of h) starting entries)
-    (end_verdict (rules_of h) starting entries)))
-by_stop h starting entries true (Some f) behind at =
-    unwrap_or-or_some
-    (option_or (verdict_so_far (rules_of h) starting entries)
-    (end_verdict (rules_of h) starting entries)) (Malformed f.line f.rule) (accepted entries)
-    ∙ ap (λ b. unwrap_or
-    (option_or (verdict_so_far (rules_of h) starting entries)
-    (cond b (end_verdict (rules_of h) starting entries) None)) (Malformed f.line f.rule))
-    (sym (is_behind f.line (length starting + length entries) (behind refl f refl)))
-by_stop h starting entries false None behind at = let found = at refl in absurd
-    (none_is_some found.1)
-  where
-    none_is_some : {f : TextFault} → None ≡ Some f → ⊥
-    none_is_some e = cc
-by_stop h starting entries false (Some f) behind at =
-    let found = at refl in
-    let same : found.0 ≡ f = the_same found.1 in
-    let line : f.line ≡ 2 + (length starting + length entries) = ap (λ g. g.line) (sym same)
-    ∙ found.2 in
-    unwrap_or-or_some (option_or (verdict_so_far (rules_of h) starting entries) None)
-    (Malformed f.line f.rule) (accepted entries)
-    ∙ ap (λ b. unwrap_or
-    (option_or (verdict_so_far (rules_of h) starting entries)
-    (cond b (end_verdict (rules_of h) starting entries) None)) (Malformed f.line f.rule))
-    (sym (isnt_behind f.line (length starting + length entries) line))
-  where
-    the_same : {g : TextFault} → Some f ≡ Some g → g ≡ f
-    the_same e = cc
+by_stop h starting entries is_ended fault behind at = search
+    (or_none, unwrap_or-or_some, is_behind, isnt_behind, arith)
 
 with_header : (read : Reading) (h : Header) → read.header ≡ Some h → Stops 2 read
     → unwrap_or (known_verdict read) (accepted read.entries) ≡ verdict_at (rules_of h) read.starting
@@ -241,5 +200,4 @@ pub text_verdict-no_header : (max : ℕ) (bytes : List ℕ) (f : TextFault)
     → (reading (input_of max true) bytes).fault ≡ Some f → text_verdict max bytes
     ≡ Malformed f.line f.rule
 unfolding text_verdict
-text_verdict-no_header max bytes f none at = without_header (reading (input_of max true) bytes) f
-    none at
+text_verdict-no_header max bytes f none at = search (without_header, reading, arith)

@@ -88,11 +88,9 @@ pub one_name : (a b : Subject) (r s : List ℕ) → subject_name a ++ 32 ∷ r �
     → r ≡ s
 one_name a b r s e =
     let parts : subject_name a ∷ slice_split (λ x. x == 32) r ≡ subject_name b ∷ slice_split
-    (λ x. x == 32) s =
-    sym (split_at 32 (subject_name a) r (first_true _ _ (plain_subject a)))
+    (λ x. x == 32) s = sym (split_at 32 (subject_name a) r (first_true _ _ (plain_subject a)))
     ∙ ap (slice_split (λ x. x == 32)) e ∙ split_at 32 (subject_name b) s
     (first_true _ _ (plain_subject b)) in
     let same : subject_name a ≡ subject_name b = cc in
-    let tails : 32 ∷ r ≡ 32 ∷ s = append_cancel_left (subject_name a) (32 ∷ r) (32 ∷ s)
-    (e ∙ ap (λ t. t ++ 32 ∷ s) (sym same)) in
+    let tails : 32 ∷ r ≡ 32 ∷ s = append_cancel_left (subject_name a) (32 ∷ r) (32 ∷ s) (cc) in
     cc

@@ -59,31 +59,25 @@ above_then a b e = grind (arith, nat_tests)
 
 -- both of two truths
 pub both_true : (a b : Bool) → a ≡ true → b ≡ true → (a && b) ≡ true
-both_true true b e f = f
-both_true false b e f = e
+both_true a b e f = search arith
 
 pub first_true : (a b : Bool) → (a && b) ≡ true → a ≡ true
-first_true true b e = refl
-first_true false b e = e
+first_true a b e = search arith
 
 pub second_true : (a b : Bool) → (a && b) ≡ true → b ≡ true
-second_true true b e = e
-second_true false b e = cc
+second_true a b e = search arith
 
 pub both_of : (a b : Bool) → (a && b) ≡ true → (a ≡ true) × (b ≡ true)
 both_of a b e = (first_true a b e, second_true a b e)
 
 -- neither of two truths
 pub neither_true : (a b : Bool) → (a || b) ≡ false → (a ≡ false) × (b ≡ false)
-neither_true true b e = cc
-neither_true false b e = (refl, e)
+neither_true a b e = search arith
 
 -- what a test gives, if it gives something
 pub then_some_true : {A : Type 0} (b : Bool) (x y : A) → then_some b x ≡ Some y → (b ≡ true)
     × (x ≡ y)
-then_some_true true x y e = (refl, cc)
-then_some_true false x y e = cc
+then_some_true b x y e = search arith
 
 pub then_some_false : {A : Type 0} (b : Bool) (x : A) → then_some b x ≡ None → b ≡ false
-then_some_false true x e = cc
-then_some_false false x e = refl
+then_some_false b x e = search arith

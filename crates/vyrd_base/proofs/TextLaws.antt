@@ -43,19 +43,16 @@ all_characters f (suc n) each =
     (is_below (f n) 255 (each n (omega arith)))
 
 and_again : (a b c : Bool) → ((a && b) && c) ≡ (a && (b && c))
-and_again true b c = refl
-and_again false b c = refl
+and_again a b c = search arith
 
 -- characters, and those after them
 pub characters_split : (f : ℕ → ℕ) (n m : ℕ) → are_characters f (n + m)
     ≡ (are_characters f n && are_characters (λ i. f (n + i)) m)
-characters_split f n zero =
-    let none : n + 0 ≡ n = omega arith in
-    ap (are_characters f) none ∙ sym (and-true (are_characters f n))
+characters_split f n zero = grind arith
 characters_split f n (suc m) =
     let one : n + suc m ≡ suc (n + m) = omega arith in
     ap (are_characters f) one ∙ ap (λ b. b && nat_lt (f (n + m)) 255) (characters_split f n m)
-    ∙ and_again (are_characters f n) (are_characters (λ i. f (n + i)) m) (nat_lt (f (n + m)) 255)
+    ∙ and_again (are_characters f n) (are_characters _ m) (nat_lt _ _)
 
 pub text_split : (f : ℕ → ℕ) (n m : ℕ) → text_of f (n + m) ≡ text_of f n
     + text_of (λ i. f (n + i)) m * 256 ^ n
@@ -71,10 +68,9 @@ text_split f n (suc m) =
 pub text_below : (f : ℕ → ℕ) (n : ℕ) → are_characters f n ≡ true → text_of f n < 256 ^ n
 text_below f zero e = omega arith
 text_below f (suc n) e =
-    let before = text_below f n (first_true (are_characters f n) _ e) in
-    let low = below_of (f n) 255 (second_true (are_characters f n) _ e) in
-    let digit : (f n + 1) * 256 ^ n ≤ 255 * 256 ^ n = mul-le-mul_right (256 ^ n)
-    (omega (arith, low)) in
+    let before = text_below f n (first_true _ _ e) in
+    let low = below_of (f n) 255 (second_true _ _ e) in
+    let digit : (f n + 1) * 256 ^ n ≤ 255 * 256 ^ n = mul-le-mul_right _ (omega (arith, low)) in
     omega (arith, before, digit, pow-suc 256 n)
 
 -- how many powers of 256 are at most a text that has n characters
@@ -90,8 +86,7 @@ powers_counted text n (suc k) below each = by_power (powers_counted text n k bel
     by_power before false high =
         let k_high = not_below_of k n high in
         let power : 256 ^ n ≤ 256 ^ k = pow-le-pow_right (omega arith) k_high in
-        let here : nat_le (256 ^ k) text ≡ false = isnt_at_most (256 ^ k) text
-        (omega (arith, below, power)) in
+        let here : nat_le (256 ^ k) text ≡ false = isnt_at_most _ _ (omega (arith, below, power)) in
         ap (λ b. powers_within k text + cond b 1 0) here ∙ omega (arith, before, k_high)
 
 -- a character makes a text no less than the power at its place
@@ -128,15 +123,13 @@ joined_characters f n m few e = joined_texts f (λ i. f (n + i)) n m few e ∙ s
 
 pub cut_text : (f : ℕ → ℕ) (n k : ℕ) → n ≤ 7 → are_characters f n ≡ true → k < n
     → cut_to k (text_of f n) ≡ text_of f k
-cut_text f n k few e low =
-    ap (λ l. cond (nat_lt k l) (text_of f n % 256 ^ k) (text_of f n)) (length_of_text f n few e)
-    ∙ ap (λ b. cond b (text_of f n % 256 ^ k) (text_of f n)) (is_below k n low)
-    ∙ ap (λ t. t % 256 ^ k) (ap (text_of f) whole ∙ text_split f k (n - k))
-    ∙ add-mul-mod_self_right (text_of f k) (text_of (λ i. f (k + i)) (n - k)) (256 ^ k)
+cut_text f n k few e low = ap (λ l. cond (nat_lt k l) (text_of f n % 256 ^ k) (text_of f n))
+    (length_of_text f n few e) ∙ ap (λ b. cond b (text_of f n % 256 ^ k) (text_of f n))
+    (is_below k n low) ∙ ap (λ t. t % 256 ^ k) (ap (text_of f) whole ∙ text_split f k _)
+    ∙ add-mul-mod_self_right _ _ _
     ∙ mod-eq_of_lt
     (text_below f k
-    (first_true (are_characters f k) _ (sym (characters_split f k (n - k))
-    ∙ ap (are_characters f) (sym whole) ∙ e)))
+    (first_true _ _ (sym (characters_split f k _) ∙ ap (are_characters f) (sym whole) ∙ e)))
   where
     whole : n ≡ k + (n - k)
     whole = omega (arith, low)

@@ -32,8 +32,7 @@ sound_start r starting state stands = cc
 sound_begun : (r : Rules) (starting : List StartWord) (entries : List Entry)
     → start_verdict r starting ≡ None
     → begun_verdict r starting entries ≡ None
-sound_begun r starting [] sound = refl
-sound_begun r starting (e ∷ entries) sound = sound
+sound_begun r starting entries sound = search arith
 
 -- without starting words the lines are counted from 2
 pub line_without : (n : ℕ) → line_of [] n ≡ n + 2
@@ -44,13 +43,7 @@ pub verdict_standing : (r : Rules) (starting : List StartWord) (entries : List E
     (v : Verdict)
     → verdict_so_far r starting entries ≡ Some v → v ≡ verdict_at r starting entries stop
 unfolding verdict_at verdict
-verdict_standing r starting entries End v stands =
-    sym (ap (λ o. unwrap_or (option_or o (end_verdict r starting entries)) (accepted entries))
-    stands)
-verdict_standing r starting entries (Text line rule) v stands =
-    sym (ap (λ o. unwrap_or
-    (option_or o (cond (line == line_of starting (length entries) + 1)
-    (end_verdict r starting entries) None)) (Malformed line rule)) stands)
+verdict_standing r starting entries stop v stands = search arith
 
 -- what stands so far, by a fault in the front and a break of shape
 so_far_by : (r : Rules) (starting : List StartWord) (entries kept : List Entry)
@@ -58,13 +51,7 @@ so_far_by : (r : Rules) (starting : List StartWord) (entries kept : List Entry)
     → verdict_so_far r starting entries
     ≡ option_or (first_fault r starting kept) (shape_verdict r.header starting entries)
 unfolding verdict_so_far
-so_far_by r starting entries kept sound is_front =
-    ap (λ o. option_or o
-    (option_or (first_fault r starting (front r.header entries))
-    (shape_verdict r.header starting entries)))
-    (sound_begun r starting entries sound)
-    ∙ ap (λ es. option_or (first_fault r starting es) (shape_verdict r.header starting entries))
-    (sym is_front)
+so_far_by r starting entries kept sound is_front = search (front, sound_begun, arith)
 
 -- of entries that keep all rules
 pub so_far_kept : (r : Rules) (starting : List StartWord) (entries : List Entry)
@@ -100,10 +87,7 @@ pub so_far_break : (r : Rules) (starting : List StartWord) (entries kept : List 
     → verdict_so_far r starting entries ≡ Some (Malformed (line_of starting n) rule)
 unfolding shape_verdict
 so_far_break r starting entries kept n rule sound is_front long none broken =
-    so_far_by r starting entries kept sound is_front
-    ∙ ap (λ o. option_or o (shape_verdict r.header starting entries)) none
-    ∙ ap (option_map (Malformed (line_of starting (length (front r.header entries))))) broken
-    ∙ ap (λ k. Some (Malformed (line_of starting k) rule)) (ap length (sym is_front) ∙ long)
+    cc (so_far_by r starting entries kept sound is_front)
 
 pub so_far_none : (r : Rules) (starting : List StartWord) (entries kept : List Entry)
     → start_verdict r starting ≡ None
@@ -111,9 +95,7 @@ pub so_far_none : (r : Rules) (starting : List StartWord) (entries kept : List E
     → first_break r.header entries ≡ None → verdict_so_far r starting entries ≡ None
 unfolding shape_verdict
 so_far_none r starting entries kept sound is_front none kept_all =
-    so_far_by r starting entries kept sound is_front
-    ∙ ap (λ o. option_or o (shape_verdict r.header starting entries)) none
-    ∙ ap (option_map (Malformed (line_of starting (length (front r.header entries))))) kept_all
+    cc (so_far_by r starting entries kept sound is_front)
 
 -- what `end` would say, by whether a call is open
 abbrev open_fault : List StartWord → List Entry → Bool → Option Verdict
@@ -125,10 +107,7 @@ end_by : (r : Rules) (starting : List StartWord) (entries : List Entry) (is_open
     → is_call_open r.header (newest_first entries) ≡ is_open
     → end_verdict r starting entries ≡ open_fault starting entries is_open
 unfolding end_verdict
-end_by r starting entries is_open sound opened =
-    ap (λ o. option_or o
-    (open_fault starting entries (is_call_open r.header (newest_first entries))))
-    sound ∙ ap (open_fault starting entries) opened
+end_by r starting entries is_open sound opened = search arith
 
 -- the verdict at `end`, by what stands so far and whether a call is open
 abbrev end_answer : List StartWord → List Entry → Option Verdict → Bool → Verdict
@@ -141,24 +120,20 @@ at_end : (r : Rules) (starting : List StartWord) (entries : List Entry) (is_open
     ≡ is_open
     → end_answer starting entries None is_open ≡ verdict_at r starting entries End
 unfolding verdict_at verdict
-at_end r starting entries is_open sound none opened =
-    sym (ap (λ o. unwrap_or (option_or o (end_verdict r starting entries)) (accepted entries)) none
-    ∙ ap (λ o. unwrap_or o (accepted entries)) (end_by r starting entries is_open sound opened))
+at_end r starting entries is_open sound none opened = search (end_by, arith)
 
 pub at_end_open : (r : Rules) (starting : List StartWord) (entries : List Entry)
     → start_verdict r starting ≡ None
     → verdict_so_far r starting entries ≡ None → is_call_open r.header (newest_first entries) ≡ true
     → Malformed (line_of starting (length entries)) CallOpen ≡ verdict_at r starting entries End
-at_end_open r starting entries sound none is_open =
-    at_end r starting entries true sound none is_open
+at_end_open r starting entries sound none is_open = at_end r _ _ true sound none is_open
 
 pub at_end_accepted : (r : Rules) (starting : List StartWord) (entries : List Entry)
     → start_verdict r starting ≡ None
     → verdict_so_far r starting entries ≡ None → is_call_open r.header (newest_first entries)
     ≡ false
     → accepted entries ≡ verdict_at r starting entries End
-at_end_accepted r starting entries sound none closed =
-    at_end r starting entries false sound none closed
+at_end_accepted r starting entries sound none closed = at_end r _ _ false sound none closed
 
 -- the verdict at a fault of text, by what stands so far, whether it comes after an `end`, and
 -- whether a call is open
@@ -175,14 +150,7 @@ at_text : (r : Rules) (starting : List StartWord) (entries : List Entry) (line :
     → text_answer starting entries line rule None behind is_open
     ≡ verdict_at r starting entries (Text line rule)
 unfolding verdict_at
-at_text r starting entries line rule behind is_open sound none there opened =
-    sym (ap (λ o. unwrap_or
-    (option_or o (cond (line == line_of starting (length entries) + 1)
-    (end_verdict r starting entries) None)) (Malformed line rule)) none
-    ∙ ap (λ o. unwrap_or (cond (line == line_of starting (length entries) + 1) o None)
-    (Malformed line rule))
-    (end_by r starting entries is_open sound opened)
-    ∙ ap (λ b. text_answer starting entries line rule None b is_open) there)
+at_text r starting entries line rule behind is_open sound none there opened = grind (arith, end_by)
 
 pub at_text_open : (r : Rules) (starting : List StartWord) (entries : List Entry) (line : ℕ)
     (rule : Rule) → start_verdict r starting ≡ None
@@ -199,20 +167,16 @@ pub at_text_before : (r : Rules) (starting : List StartWord) (entries : List Ent
     → verdict_so_far r starting entries ≡ None
     → (line == line_of starting (length entries) + 1) ≡ false
     → Malformed line rule ≡ verdict_at r starting entries (Text line rule)
-at_text_before r starting entries line rule sound none before =
-    at_text r starting entries line rule false (is_call_open r.header (newest_first entries)) sound
-    none
-    before refl
+at_text_before r starting entries line rule sound none before = at_text r _ _ _ _ false
+    (is_call_open r.header (newest_first entries)) sound none before refl
 
 pub at_text_closed : (r : Rules) (starting : List StartWord) (entries : List Entry) (line : ℕ)
     (rule : Rule) → start_verdict r starting ≡ None
     → verdict_so_far r starting entries ≡ None
     → is_call_open r.header (newest_first entries) ≡ false
     → Malformed line rule ≡ verdict_at r starting entries (Text line rule)
-at_text_closed r starting entries line rule sound none closed =
-    either (line == line_of starting (length entries) + 1)
-    ∙ at_text r starting entries line rule (line == line_of starting (length entries) + 1) false
-    sound none refl closed
+at_text_closed r starting entries line rule sound none closed = either
+    (line == line_of starting (length _) + 1) ∙ at_text r _ _ _ _ _ false sound none refl closed
   where
     either : (b : Bool) → Malformed line rule ≡ text_answer starting entries line rule None b false
     either b = search arith

@@ -33,5 +33,4 @@ lines_more verdicts i d within =
 
 -- what holds anyway holds on an error
 pub on_error : {A E P : Type 0} (r : Result A E) → P → OnErr r P
-on_error (Ok a) p = tt
-on_error (Err e) p = p
+on_error r p = search arith

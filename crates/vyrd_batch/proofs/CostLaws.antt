@@ -78,8 +78,7 @@ pub left_short : (place : ℕ) (left fresh : List ℕ) (span : Span) → log_at 
     → log_at place (left ++ fresh) ≡ Some span
     → place + length left < span.past
 left_short place left fresh span none found =
-    by_cut (first_line left) (first_line (left ++ fresh)) (first_longer left fresh)
-    (cut_len left) none found
+    by_cut (first_line left) (first_line (left ++ fresh)) (first_longer _ _) (cut_len _) none found
   where
     at_cut : Option Cut → Option Span
     at_cut o = elim o as (λ _. Option Span) [
@@ -104,8 +103,8 @@ left_short place left fresh span none found =
         grind (
           arith,
           len cut refl,
-          by_size (place + length cut.line + 1) cut.rest fresh (size_in
-              cut.line) none (sym (ap at_cut (is.same cut refl)) ∙ found),
+          by_size (place + length cut.line + 1) cut.rest fresh
+              (size_in cut.line) none (sym (ap at_cut (is.same cut refl)) ∙ found),
         )
 
 -- The line of what a round leaves is short, since a longer one would show that no log comes.
@@ -155,30 +154,7 @@ pub more_for : (bytes : List ℕ) (place logs taken old new next : ℕ) (span : 
     → log_at (place + taken) (drop taken bytes) ≡ Some span
     → next ≡ new + line_look (drop taken bytes)
     → AreFoundFor bytes place (logs + 1) (span.past - place) old next
-more_for bytes place logs taken old new next span for found is = record {
-  none = λ e. absurd (omega (arith, e));
-  some = λ _. by_logs logs for.none for.some;
-}
-  where
-    f : IsFramed (place + taken) (drop taken bytes) span
-    f = framed (place + taken) (drop taken bytes) span found
-
-    by_logs : (logs : ℕ) → (logs ≡ 0 → (taken ≡ 0) × (new ≡ old))
-        → (0 < logs → (span : Span) × (log_at place bytes ≡ Some span)
-        × (new + (span.past - place) ≤ old + 13 + taken)
-        × (6 * logs + (span.past - place) ≤ 6 + taken))
-        → (first : Span) × (log_at place bytes ≡ Some first)
-        × (next + (first.past - place) ≤ old + 13 + (span.past - place))
-        × (6 * (logs + 1) + (first.past - place) ≤ 6 + (span.past - place))
-    by_logs zero none some =
-        let start = none refl in
-        let here : place + taken ≡ place = omega (arith, start.0) in
-        let same : log_at place bytes ≡ Some span =
-        (λ i. log_at (sym here i) (drop (sym start.0 i) bytes)) ∙ found in
-        (span, same, omega (arith, is, start.1, f.short), omega arith)
-    by_logs (suc n) none some =
-        let s = some (omega arith) in
-        (s.0, s.1, omega (arith, s.2, is, f.past), omega (arith, s.3, f.past, f.long))
+more_for bytes place logs taken old new next span for found is = search (framed, arith)
 
 -- the same, by the spans themselves
 pub more_spans : (bytes rest : List ℕ) (place taken old new next : ℕ) (spans grown : List Span)
@@ -188,18 +164,11 @@ pub more_spans : (bytes rest : List ℕ) (place taken old new next : ℕ) (spans
     → grown ≡ spans ++ from_place place span ∷ [] → next ≡ new + line_look rest
     → AreFoundFor bytes place (length grown) (span.past - place) old next
 more_spans bytes rest place taken old new next spans grown span for found rest_is is steps =
-    let here : log_at (place + taken) (drop taken bytes) ≡ Some span = ap (log_at (place + taken))
-    (sym rest_is) ∙ found in
-    let count : length spans + 1 ≡ length grown =
-    sym (ap length is ∙ count_more spans (from_place place span)) in
-    subst (λ n. AreFoundFor bytes place n (span.past - place) old next) count
-    (more_for bytes place (length spans) taken old new next span for here
-    (omega (arith, steps, ap line_look rest_is)))
+    search (count_more, from_place, more_for, arith)
 
 -- the bytes that stay are moved at most once
 moved_few : (taken len : ℕ) → moved taken len ≤ len - taken
-moved_few zero len = omega arith
-moved_few (suc n) len = omega arith
+moved_few taken len = search arith
 
 -- what a round costs, where these logs were found and no more
 pub found_cost : (bytes left fresh : List ℕ) (log place logs taken old new next : ℕ)
@@ -328,9 +297,8 @@ whole_ever None log place first bytes behind left fresh old new begun behind_is 
     ∙ length-drop first bytes in
     omega (arith, ever [] behind (none_left log place) refl, short, all, begun.0)
 whole_ever (Some n) log place first bytes behind left fresh old new begun behind_is spent is ever =
-    let all : behind ≡ bytes = behind_is ∙ ap (λ n. drop n bytes) begun.0 in
-    ever left fresh (subst (λ n. IsLeft log n left) begun.1 (spent.0, spent_look n log left spent))
-    (all ∙ is)
+    let all : behind ≡ bytes = cc begun.0 in
+    ever left fresh (rw (← begun.1) (spent.0, spent_look n log left spent)) (all ∙ is)
 
 -- before the first round nothing is left
 pub none_spent : IsSpentBy false None 0 []

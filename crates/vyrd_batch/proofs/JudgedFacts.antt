@@ -65,16 +65,12 @@ pub all_parts : {Q X : Type 0} (P : X → Type 0) (part : Q → List X) (ps : Li
     → AllByRecursion P (flat_map part ps)
     → AllByRecursion (λ p. AllByRecursion P (part p)) ps
 all_parts P part [] all = tt
-all_parts P part (p ∷ ps) all = (
-  all_front P (part p) (flat_map part ps) all,
-  all_parts P part ps
-      (all_back P (part p) (flat_map part ps) all),
-)
+all_parts P part (p ∷ ps) all =
+    (all_front P _ (flat_map part ps) all, all_parts P part ps (all_back P (part p) _ all))
 
 pub where_all : {V Y E : Type 0} (items : V → List Y) (a b : List Y) → a ≡ b → (r : Result V E)
     → IfOk r (λ v. items v ≡ a) → IfOk r (λ v. items v ≡ b)
-where_all items a b same (Ok v) is = is ∙ same
-where_all items a b same (Err e) is = tt
+where_all items a b same r is = search arith
 
 -- the verdicts about all parts, one part after the other
 pub flat_verdicts : (bytes : List ℕ) (spans : List Span) (parts : List (Bor (List Span)))
@@ -83,12 +79,10 @@ pub flat_verdicts : (bytes : List ℕ) (spans : List Span) (parts : List (Bor (L
     → map (λ verdicts. verdicts.items) judged
     ≡ map (λ part. verdicts_of (map (bytes_of bytes) part.now)) parts
     → flat_map (λ verdicts. verdicts.items) judged ≡ verdicts_of (map (bytes_of bytes) spans)
-flat_verdicts bytes spans parts judged all right =
-    flat_same (λ (verdicts : Vec Verdict Global). verdicts.items)
-    (λ (part : Bor (List Span)). verdicts_of (map (bytes_of bytes) part.now)) judged parts right
-    ∙ map_parts (log_verdict most_lines) (λ (part : Bor (List Span)). map (bytes_of bytes) part.now)
-    parts
-    ∙ ap verdicts_of (map_parts (bytes_of bytes) (λ (part : Bor (List Span)). part.now) parts)
+flat_verdicts bytes spans parts judged all right = flat_same
+    (λ (verdicts : Vec Verdict Global). verdicts.items) (λ (part : Bor (List Span)). verdicts_of _)
+    judged parts right ∙ map_parts (log_verdict _) (λ (part : Bor (List Span)). map _ _) parts
+    ∙ ap verdicts_of (map_parts (bytes_of _) (λ (part : Bor (List Span)). part.now) parts)
     ∙ ap (λ spans. verdicts_of (map (bytes_of bytes) spans)) all
 
 -- the first parts have no more than all of them

@@ -33,8 +33,7 @@ size_of_word n small = grind (arith, small, number_of_decimal)
 
 pub size_within : (n : ℕ) (line : List ℕ) → n < 2 ^ 32 → line ≡ log_word n → n ≤ most_bytes
     → Some n ≡ size_in line
-size_within n line small is few =
-    grind (arith, small, few, size_of_word, both_true, is_at_most, bytes_same)
+size_within n line small is few = search (size_of_word, both_true, is_at_most, bytes_same, arith)
 
 pub size_too_high : (n : ℕ) (line : List ℕ) → n < 2 ^ 32 → line ≡ log_word n → most_bytes < n
     → ◌≡◌ {A = Option ℕ} None (size_in line)
@@ -58,8 +57,7 @@ no_size place bytes line rest e is none = cc (behind_line place bytes line rest 
 pub too_long : (place size : ℕ) (bytes line rest : List ℕ) → is_one_line line ≡ true → bytes ≡ line
     ++ 10 ∷ rest → Some size ≡ size_in line
     → length rest < size → log_at place bytes ≡ None
-too_long place size bytes line rest e is some long =
-    cc (behind_line place bytes line rest e is, isnt_at_most size (length rest) long)
+too_long place size bytes line rest e is some long = search (behind_line, isnt_at_most, arith)
 
 pub too_far : (place size : ℕ) (bytes line rest : List ℕ) → is_one_line line ≡ true → bytes ≡ line
     ++ 10 ∷ rest → Some size ≡ size_in line
@@ -72,10 +70,7 @@ pub is_log : (place size : ℕ) (bytes line rest : List ℕ) → is_one_line lin
     → log_at place bytes
     ≡ Some (record { first = place + length line + 1; past = place + length line + 1 + size })
 is_log place size bytes line rest e is some fits near =
-    behind_line place bytes line rest e is ∙ ap (span_of (place + length line + 1) rest) (sym some)
-    ∙ ap (λ t. cond t
-    (Some (record { first = place + length line + 1; past = place + length line + 1 + size })) None)
-    (both_true _ _ (is_at_most size (length rest) fits) (is_at_most _ logs_end_within near))
+    search (behind_line, both_true, is_at_most, arith)
 
 -- what stands after the log's bytes
 pub behind_log : (place size : ℕ) (bytes line rest next : List ℕ) → bytes ≡ line ++ 10 ∷ rest

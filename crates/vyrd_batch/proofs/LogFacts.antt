@@ -29,32 +29,23 @@ spans_after spans (Ok more) = Ok (spans ++ more)
 spans_after spans (Err log) = Err log
 
 none_before : (r : Result (List Span) ℕ) → spans_after [] r ≡ r
-none_before (Ok spans) = refl
-none_before (Err log) = refl
+none_before r = search arith
 
 one_before : (spans : List Span) (span : Span) (r : Result (List Span) ℕ)
     → spans_after spans (span_before span r) ≡ spans_after (spans ++ span ∷ []) r
-one_before spans span (Ok more) = ap Ok (sym (append_assoc spans (span ∷ []) more))
-one_before spans span (Err log) = refl
+one_before spans span r = search (append_assoc, arith)
 
 -- at the last line
 pub logs_end : (more log place : ℕ) (bytes : List ℕ) → bytes ≡ last_line
     → logs_from more log place bytes ≡ Ok []
 unfolding logs_from
-logs_end zero log place bytes e = ap (λ t. cond t (Ok []) (Err log)) (same_bytes bytes last_line e)
-logs_end (suc more) log place bytes e =
-    ap (λ t. cond t (Ok []) (elim (log_at place bytes) as (λ _. Result (List Span) ℕ) [
-      | None ↦ Err log
-      | Some span ↦ span_before span
-          (logs_from more (log + 1) span.past (drop (span.past - place) bytes))
-    ])) (same_bytes bytes last_line e)
+logs_end more log place bytes e = search (same_bytes, arith)
 
 -- where no more logs may come
 pub logs_full : (log place : ℕ) (bytes : List ℕ) → (bytes ≡ last_line → ⊥)
     → logs_from zero log place bytes ≡ Err log
 unfolding logs_from
-logs_full log place bytes apart = ap (λ t. cond t (Ok []) (Err log))
-    (other_bytes bytes last_line apart)
+logs_full log place bytes apart = cc (other_bytes bytes last_line apart)
 
 -- at a line that isn't the last
 pub at_line : (more log place : ℕ) (bytes : List ℕ) (o : Option Span) → (bytes ≡ last_line → ⊥)
@@ -65,17 +56,7 @@ pub at_line : (more log place : ℕ) (bytes : List ℕ) (o : Option Span) → (b
           (logs_from more (log + 1) span.past (drop (span.past - place) bytes))
     ]
 unfolding logs_from
-at_line more log place bytes o apart is =
-    ap (λ t. cond t (Ok []) (elim (log_at place bytes) as (λ _. Result (List Span) ℕ) [
-      | None ↦ Err log
-      | Some span ↦ span_before span
-          (logs_from more (log + 1) span.past (drop (span.past - place) bytes))
-    ])) (other_bytes bytes last_line apart)
-    ∙ ap (λ o. elim o as (λ _. Result (List Span) ℕ) [
-      | None ↦ Err log
-      | Some span ↦ span_before span
-          (logs_from more (log + 1) span.past (drop (span.past - place) bytes))
-    ]) is
+at_line more log place bytes o apart is = search (other_bytes, arith)
 
 -- What stands from a place on, after the spans that were found, is what all bytes say.
 pub record HasFound (whole : Result (List Span) ℕ) (limit : ℕ) (spans : List Span) (place : ℕ)
@@ -118,14 +99,13 @@ pub found_more : (whole : Result (List Span) ℕ) (limit : ℕ) (spans new : Lis
     → new ≡ spans ++ span ∷ [] → HasFound whole limit new span.past next
 found_more whole limit spans new span place rest next found room apart is behind ordered place_next
     grown =
-    subst (λ new. HasFound whole limit new span.past next) (sym grown) (record {
+    rw grown (record {
       few = omega (arith, len, room);
-      goes_on = one_more whole spans span (length spans) place rest next refl room found.goes_on
-          apart is behind
+      goes_on = one_more whole spans span
+          (length spans) place rest next refl room found.goes_on apart is behind
           ∙ ap (λ n. spans_after (spans ++ span ∷ []) (logs_from (most_logs - n) n span.past next))
           (sym len);
-      within = all_more (LiesWithin limit) spans span found.within
-          (ordered, omega (arith, place_next, found.place_is));
+      within = all_more _ _ _ found.within (ordered, omega (arith, place_next, found.place_is));
       place_is = place_next ∙ found.place_is;
     })
   where
@@ -148,8 +128,7 @@ pub found_too_many : (whole : Result (List Span) ℕ) (limit : ℕ) (spans : Lis
     (rest : List ℕ)
     → HasFound whole limit spans place rest → (rest ≡ last_line → ⊥) → length spans ≡ most_logs
     → length spans ≡ log → whole ≡ Err log
-found_too_many whole limit spans place log rest found apart full is =
-    grind (arith, whole, found, apart, logs_full)
+found_too_many whole limit spans place log rest found apart full is = search (logs_full, arith)
 
 pub found_no_log : (whole : Result (List Span) ℕ) (limit : ℕ) (spans : List Span) (place log : ℕ)
     (rest : List ℕ)
@@ -170,8 +149,7 @@ pub reading_at : (bytes : List ℕ) (o : Option Cut) → first_line bytes ≡ o 
       | Some cut ↦ logs_behind cut
     ]
 unfolding batch_reading
-reading_at bytes o is =
-    ap (λ o. elim o as (λ _. Result (List Span) ℕ) [ None ↦ Err 0 | Some cut ↦ logs_behind cut ]) is
+reading_at bytes o is = search arith
 
 pub no_first_line : (bytes : List ℕ) → is_one_line bytes ≡ true → batch_reading bytes ≡ Err 0
 no_first_line bytes e = reading_at bytes None (no_line bytes e)

@@ -28,17 +28,14 @@ use Rattle.vyrd_batch.proofs.TextLaws.{log_isnt_end, span_at, text_stands, text_
 -- a log before those of the rest
 span_first : (input : List ℕ) (span : Span) (r : Result (List Span) ℕ)
     → logs_of input (span_before span r) ≡ logs_before (bytes_of input span ∷ []) (logs_of input r)
-span_first input span (Ok spans) = refl
-span_first input span (Err log) = refl
+span_first input span r = search arith
 
 logs_joined : (a b : List (List ℕ)) (r : Result (List (List ℕ)) ℕ) → logs_before a (logs_before b r)
     ≡ logs_before (a ++ b) r
-logs_joined a b (Ok more) = ap Ok (sym (append_assoc a b more))
-logs_joined a b (Err log) = refl
+logs_joined a b r = search (append_assoc, arith)
 
 none_first : (r : Result (List (List ℕ)) ℕ) → r ≡ logs_before [] r
-none_first (Ok more) = refl
-none_first (Err log) = refl
+none_first r = search arith
 
 -- the logs from a place on, where a log's text stands
 one_log : (front log more : List ℕ) (n place : ℕ) → length front ≡ place → n < most_logs
@@ -48,22 +45,20 @@ one_log : (front log more : List ℕ) (n place : ℕ) → length front ≡ place
     ≡ logs_before (log ∷ [])
     (logs_on (front ++ (log_text log ++ more)) (n + 1) (span_at place log).past more)
 one_log front log more n place len room small near =
-    let bytes = log_text log ++ more in
+    let bytes = log_text _ ++ more in
     let whole = front ++ bytes in
-    let span = span_at place log in
-    let s = text_stands place log more small near in
+    let span = span_at _ _ in
+    let s = text_stands _ _ _ small near in
     let count : most_logs - n ≡ suc (most_logs - (n + 1)) = omega arith in
-    let behind : drop (span.past - place) bytes ≡ more = next_bytes bytes place span s
-    ∙ drop-append_seam log more in
-    let here : bytes_of whole span ≡ log = log_bytes front bytes place span s len
-    ∙ take-append_seam log more in
-    ap (λ m. logs_of whole (logs_from m n place bytes)) count
-    ∙ ap (logs_of whole)
-    (at_line (most_logs - (n + 1)) n place bytes (Some span) (log_isnt_end log more)
-    (text_found place log more small near))
-    ∙ span_first whole span
-    (logs_from (most_logs - (n + 1)) (n + 1) span.past (drop (span.past - place) bytes))
-    ∙ (λ i. logs_before (here i ∷ []) (logs_on whole (n + 1) span.past (behind i)))
+    let behind : drop (span.past - place) bytes ≡ more = next_bytes _ _ _ s
+    ∙ drop-append_seam log _ in
+    let here : bytes_of whole span ≡ log = log_bytes _ _ _ _ s len ∙ take-append_seam _ _ in
+    cc (
+      at_line (most_logs - (n + 1)) n place bytes (Some span) (log_isnt_end log more)
+          (text_found place log more small near),
+      span_first whole span
+          (logs_from (most_logs - (n + 1)) (n + 1) span.past (drop (span.past - place) bytes)),
+    )
 
 -- a span, counted from a place on
 abbrev pub from_place : ℕ → Span → Span
@@ -85,7 +80,7 @@ pub cut_more : (bytes : List ℕ) (log place : ℕ) (spans new : List Span) (spa
     → new ≡ spans ++ from_place place span ∷ []
     → IsCut bytes log place new (span.past - place)
 cut_more bytes log place spans new span taken cut room found grown =
-    subst (λ new. IsCut bytes log place new (span.past - place)) (sym grown) (record {
+    rw grown (record {
       few = omega (arith, count_more spans here, room);
       near = omega (arith, s.near, s.first_is, s.past_is);
       within = within;
@@ -135,8 +130,7 @@ cut_more bytes log place spans new span taken cut room found grown =
           first_is = omega (arith, s.first_is);
           past_is = omega (arith, s.first_is, s.past_is);
         } in
-        ap (λ all. bytes_of all here) (sym (take-append-drop taken bytes))
-        ∙ log_bytes (take taken bytes) rest taken here stands short
+        cc (take-append-drop taken bytes, log_bytes (take taken bytes) rest taken here stands short)
 
     body : List ℕ
     body = take s.size s.rest
@@ -154,8 +148,7 @@ cut_more bytes log place spans new span taken cut room found grown =
         ap (take (length word + suc s.size)) s.is ∙ take-append-add word (10 ∷ s.rest) (suc s.size)
         ∙ sym (append_assoc word (10 ∷ []) body) ∙ ap (λ n. (log_word n ++ 10 ∷ []) ++ body)
         (sym size) in
-        ap (λ n. take n bytes) count ∙ take-add taken (length word + suc s.size) bytes
-        ∙ ap (λ t. take taken bytes ++ t) text
+        cc (take-add taken (length word + suc s.size) bytes)
 
     text_len : length (log_text body) ≡ length (log_word s.size) + 1 + s.size
     text_len =
@@ -200,37 +193,28 @@ cut_more bytes log place spans new span taken cut room found grown =
         (moved_len front bytes place taken len cut.within) room
         (omega (arith, size, s.small)) (omega (arith, text_len, s.near, s.first_is, s.past_is))
         ∙ (λ i. logs_before (sym log_is i ∷ []) (logs_on (parted i) (count i) (past i) more)) in
-        ap (λ xs. logs_on (front ++ xs) log place xs) all ∙ cut.goes_on front next len
-        ∙ ap (logs_before logs) one ∙ logs_joined logs (bytes_of bytes here ∷ []) behind
-        ∙ ap (λ logs. logs_before logs behind) (sym (map-append (bytes_of bytes) spans (here ∷ [])))
-        ∙ ap (λ xs. logs_before (map (bytes_of bytes) (spans ++ here ∷ []))
-        (logs_on (front ++ xs) (log + length (spans ++ here ∷ [])) (place + (span.past - place))
-        more)) (sym all)
+        cc (
+          cut.goes_on front next len,
+          logs_joined logs (bytes_of bytes here ∷ [])
+              behind,
+          map-append (bytes_of bytes) spans (here ∷ []),
+        )
 
 -- what comes after the logs
 pub cut_rest : (bytes rest next : List ℕ) (place taken : ℕ) (span : Span)
     → log_at (place + taken) rest ≡ Some span → rest ≡ drop taken bytes
     → next ≡ drop (span.past - (place + taken)) rest → next ≡ drop (span.past - place) bytes
 cut_rest bytes rest next place taken span found is behind =
-    let s = stands_at (place + taken) rest span found in
+    let s = stands_at _ rest span found in
     let count : taken + (span.past - (place + taken)) ≡ span.past - place =
     omega (arith, s.first_is, s.past_is) in
-    behind ∙ ap (drop (span.past - (place + taken))) is
-    ∙ drop-drop (span.past - (place + taken)) taken bytes ∙ ap (λ n. drop n bytes) count
+    cc (drop-drop (span.past - (place + taken)) taken bytes)
 
 -- more bytes come
 judged_more : (input rest more : List ℕ) (verdicts : List Verdict) (place : Option ℕ)
     → AreJudgedTo place input verdicts rest
     → AreJudgedTo place (input ++ more) verdicts (rest ++ more)
-judged_more input rest more verdicts None j = (ap (λ all. all ++ more) j.0, j.1)
-judged_more input rest more verdicts (Some place) j = record {
-  front = j.front;
-  logs = j.logs;
-  input_is = ap (λ all. all ++ more) j.input_is ∙ append_assoc j.front rest more;
-  place_is = j.place_is;
-  verdicts_are = j.verdicts_are;
-  goes_on = j.goes_on;
-}
+judged_more input rest more verdicts place j = search (append_assoc, arith)
 
 pub judged_longer : (refused : Bool) (input rest more : List ℕ) (verdicts : List Verdict)
     (place : Option ℕ)
@@ -245,8 +229,7 @@ judged_longer true input rest more verdicts place r = record {
 
 -- the first line wasn't read yet
 pub none_there : (place : Option ℕ) → is_some place ≡ false → place ≡ None
-none_there None none = refl
-none_there (Some n) none = cc
+none_there place none = search arith
 
 -- the first line was read
 pub judged_begun : (input bytes rest : List ℕ) (verdicts : List Verdict)
@@ -326,8 +309,7 @@ pub judged_refused : (input rest : List ℕ) (verdicts : List Verdict) (place : 
     → AreJudged input verdicts place rest
     → (rest ≡ last_line → ⊥) → IsNoLog (length verdicts) place rest → batch_logs input
     ≡ Err (length verdicts)
-judged_refused input rest verdicts place j apart why =
-    grind (arith, apart, refused_from, length-map)
+judged_refused input rest verdicts place j apart why = search (refused_from, length-map, arith)
 
 -- there is no first line
 pub judged_unbegun : (input bytes : List ℕ) → input ≡ bytes
@@ -356,11 +338,9 @@ judged_never place input rest verdicts j never = grind (arith, lasts place j nev
     lasts : (place : Option ℕ) → AreJudgedTo place input verdicts rest
         → IsNothingEver place (length verdicts) rest
         → (more : List ℕ) → batch_logs (input ++ more) ≡ Err (length verdicts)
-    lasts None j never more =
-        judged_unbegun (input ++ more) (rest ++ more) (ap (λ bytes. bytes ++ more) j.0) (never more)
+    lasts None j never more = judged_unbegun (input ++ more) (rest ++ more) (cc j.0) (never more)
         ∙ ap Err (sym (ap length j.1))
-    lasts (Some place) j never more =
-        judged_refused (input ++ more) (rest ++ more) verdicts place
+    lasts (Some place) j never more = judged_refused (input ++ more) (rest ++ more) verdicts place
         (judged_more input rest more verdicts (Some place) j) (never more).0 (never more).1
 
 pub refused_at_end : (place : Option ℕ) (input : List ℕ) (verdicts : List Verdict)
@@ -372,18 +352,15 @@ refused_at_end place input verdicts r = ap batch_logs (sym (append-nil input)) �
 pub not_refused : (refused : Bool) (place : Option ℕ) (input rest : List ℕ)
     (verdicts : List Verdict) → refused ≡ false
     → IsJudgedBy refused place input verdicts rest → AreJudgedTo place input verdicts rest
-not_refused false place input rest verdicts e j = j
-not_refused true place input rest verdicts e j = cc
+not_refused refused place input rest verdicts e j = search arith
 
 pub nothing_more : (refused : Bool) (place : Option ℕ) (log : ℕ) (rest : List ℕ) → refused ≡ false
     → IsSpentBy refused place log rest
     → IsNothingMore place log rest
-nothing_more false place log rest e spent = spent.0
-nothing_more true place log rest e spent = cc
+nothing_more refused place log rest e spent = search arith
 
 -- and once it is
 pub is_refused : (refused : Bool) (place : Option ℕ) (input rest : List ℕ) (verdicts : List Verdict)
     → refused ≡ true
     → IsJudgedBy refused place input verdicts rest → IsRefused place input verdicts
-is_refused false place input rest verdicts e j = cc
-is_refused true place input rest verdicts e r = r
+is_refused refused place input rest verdicts e j = search arith

@@ -22,9 +22,7 @@ pub record IsLonger (bytes more : List ℕ) (o all : Option Cut) : Type 0 where
 
 next_byte : (b : ℕ) (bytes more : List ℕ) (o all : Option Cut) → IsLonger bytes more o all
     → IsLonger (b ∷ bytes) more (option_map (longer b) o) (option_map (longer b) all)
-next_byte b bytes more None None is = record { same = λ cut e. cc; other = λ e cut f. cc }
-next_byte b bytes more None (Some whole) is = grind arith
-next_byte b bytes more (Some cut) all is = grind arith
+next_byte b bytes more o all is = search arith
 
 pub first_longer : (bytes more : List ℕ) → IsLonger bytes more (first_line bytes)
     (first_line (bytes ++ more))
@@ -61,30 +59,11 @@ pub record IsNear (place len : ℕ) (span : Span) : Type 0 where
 span_near : (place first : ℕ) (rest : List ℕ) (o : Option ℕ) (span : Span) → place ≤ first
     → span_of first rest o ≡ Some span
     → IsNear place (first - place + length rest) span
-span_near place first rest None span low e = cc
-span_near place first rest (Some size) span low e = search arith
+span_near place first rest o span low e = search arith
 
 log_near : (place : ℕ) (bytes : List ℕ) (span : Span) → log_at place bytes ≡ Some span
     → IsNear place (length bytes) span
-log_near place bytes span e = by_cut (first_line bytes) (cut_len bytes) e
-  where
-    by_cut : (o : Option Cut)
-        → ((cut : Cut) → o ≡ Some cut → length bytes ≡ length cut.line + 1 + length cut.rest)
-        → elim o as (λ _. Option Span) [
-          | None ↦ None
-          | Some cut ↦ span_of
-              (place + length cut.line + 1) cut.rest (size_in cut.line)
-        ] ≡ Some span
-        → IsNear place (length bytes) span
-    by_cut None len e = cc
-    by_cut (Some cut) len e =
-        let near = span_near place (place + length cut.line + 1) cut.rest (size_in cut.line) span
-        (omega arith) e in
-        record {
-          later = near.later;
-          near = near.near;
-          within = omega (arith, near.within, len cut refl);
-        }
+log_near place bytes span e = search (first_line, cut_len, span_near, arith)
 
 -- where the bytes are long, more of them change no span
 span_settled : (first : ℕ) (rest more : List ℕ) (o : Option ℕ) → logs_end_within ≤ first
@@ -109,8 +88,7 @@ span_settled first rest more (Some size) long =
 
 span_far : (first : ℕ) (rest : List ℕ) (o : Option ℕ) → logs_end_within < first
     → span_of first rest o ≡ None
-span_far first rest None far = refl
-span_far first rest (Some size) far = search (isnt_at_most, arith)
+span_far first rest o far = search (isnt_at_most, arith)
 
 log_settled : (place : ℕ) (bytes more : List ℕ) → longest_batch_input ≤ place + length bytes
     → log_at place (bytes ++ more) ≡ log_at place bytes
@@ -193,13 +171,9 @@ batch_settled bytes more long = by_cut (first_line bytes) (first_line (bytes ++ 
         → ((cut : Cut) → o ≡ Some cut → length bytes ≡ length cut.line + 1 + length cut.rest)
         → at_cut all ≡ at_cut o
     by_cut None None is len = refl
-    by_cut None (Some cut) is len =
-        ap (λ t. cond t (logs_from most_logs 0 (length cut.line + 1) cut.rest) (Err 0))
-        (other_bytes cut.line first_word (λ e. let five : length cut.line ≡ 5 = ap length e in
-        omega (arith, is.other refl cut refl, five, long)))
+    by_cut None (Some cut) is len = search (other_bytes, arith)
     by_cut (Some cut) all is len =
-        ap at_cut (is.same cut refl) ∙ by_word (bytes_eq cut.line first_word)
-        (bytes_eq_word cut.line)
+        cc (is.same cut refl, by_word (bytes_eq cut.line first_word) (bytes_eq_word cut.line))
       where
         bytes_eq_word : (line : List ℕ) → bytes_eq line first_word ≡ true → length line ≡ 5
         bytes_eq_word line e = ap length (word_of line e)
@@ -207,8 +181,7 @@ batch_settled bytes more long = by_cut (first_line bytes) (first_line (bytes ++ 
         by_word : (t : Bool) → (t ≡ true → length cut.line ≡ 5)
             → cond t (logs_from most_logs 0 (length cut.line + 1) (cut.rest ++ more)) (Err 0)
             ≡ cond t (logs_from most_logs 0 (length cut.line + 1) cut.rest) (Err 0)
-        by_word true five = logs_settled most_logs 0 (length cut.line + 1) cut.rest more
-            (omega (arith, five refl)) (omega (arith, len cut refl, long))
+        by_word true five = search (logs_settled, arith)
         by_word false five = refl
 
 -- long bytes are refused somewhere
@@ -216,21 +189,16 @@ logs_refused : (n log place : ℕ) (bytes : List ℕ) → place ≤ logs_end_wit
     ≤ place + length bytes
     → (at : ℕ) × (logs_from n log place bytes ≡ Err at)
 unfolding logs_from
-logs_refused zero log place bytes near long =
-    (log, ap (λ t. cond t (Ok []) (Err log)) (longer_isnt_last bytes (omega arith)))
+logs_refused zero log place bytes near long = (log, cc (longer_isnt_last bytes (omega arith)))
 logs_refused (suc n) log place bytes near long =
     let found = by_log (λ rest p near long. logs_refused n (log + 1) p rest near long)
-    (log_at place bytes) refl in (
-      found.0,
-      ap (λ t. cond t (Ok []) (at_log (log_at place bytes)))
-          (longer_isnt_last bytes (omega arith)) ∙ found.1,
-    )
+    (log_at place bytes) refl in (found.0, cc (longer_isnt_last bytes (omega arith), found.1))
   where
     at_log : Option Span → Result (List Span) ℕ
     at_log o = elim o as (λ _. Result (List Span) ℕ) [
       | None ↦ Err log
-      | Some span ↦ span_before span
-          (logs_from n (log + 1) span.past (drop (span.past - place) bytes))
+      | Some span ↦ span_before
+          span (logs_from n (log + 1) span.past (drop (span.past - place) bytes))
     ]
 
     by_log : ((rest : List ℕ) (p : ℕ) → p ≤ logs_end_within → longest_batch_input ≤ p + length rest
@@ -246,7 +214,7 @@ logs_refused (suc n) log place bytes near long =
 pub batch_refused : (bytes : List ℕ) → longest_batch_input ≤ length bytes → (log : ℕ)
     × (batch_reading bytes ≡ Err log)
 unfolding batch_reading
-batch_refused bytes long = by_cut (first_line bytes) (cut_len bytes)
+batch_refused bytes long = by_cut (first_line bytes) (cut_len _)
   where
     by_cut : (o : Option Cut)
         → ((cut : Cut) → o ≡ Some cut → length bytes ≡ length cut.line + 1 + length cut.rest)
@@ -256,14 +224,12 @@ batch_refused bytes long = by_cut (first_line bytes) (cut_len bytes)
               cut
         ] ≡ Err log)
     by_cut None len = (0, refl)
-    by_cut (Some cut) len = by_word (bytes_eq cut.line first_word)
-        (λ e. ap length (word_of cut.line e))
+    by_cut (Some cut) len = by_word (bytes_eq cut.line _) (λ e. ap length (word_of _ e))
       where
         by_word : (t : Bool) → (t ≡ true → length cut.line ≡ 5)
             → (log : ℕ) × (cond t (logs_from most_logs 0 (length cut.line + 1) cut.rest) (Err 0)
             ≡ Err log)
-        by_word true five = logs_refused most_logs 0 (length cut.line + 1) cut.rest
-            (omega (arith, five refl)) (omega (arith, len cut refl, long))
+        by_word true five = search (logs_refused, arith)
         by_word false five = (0, refl)
 
 -- what a long input says as logs

@@ -127,9 +127,7 @@ log_bytes front bytes place span s len =
     let first : span.first ≡ length front + (length word + 1) = omega (arith, s.first_is, len) in
     let here : drop (length word + 1) bytes ≡ s.rest = ap (drop (length word + 1)) s.is
     ∙ drop-append-add word (10 ∷ s.rest) 1 in
-    ap (λ n. take n (drop span.first (front ++ bytes))) count
-    ∙ ap (λ n. take s.size (drop n (front ++ bytes))) first
-    ∙ ap (take s.size) (drop-append-add front bytes (length word + 1) ∙ here)
+    cc (drop-append-add front bytes (length word + 1))
 
 pub next_bytes : (bytes : List ℕ) (place : ℕ) (span : Span) (s : StandsAt place bytes span)
     → drop (span.past - place) bytes ≡ drop s.size s.rest
@@ -137,8 +135,7 @@ next_bytes bytes place span s =
     let word = log_word s.size in
     let count : span.past - place ≡ length word + suc s.size =
     omega (arith, s.first_is, s.past_is) in
-    ap (λ n. drop n bytes) count ∙ ap (drop (length word + suc s.size)) s.is
-    ∙ drop-append-add word (10 ∷ s.rest) (suc s.size)
+    cc (s.is, drop-append-add word (10 ∷ s.rest) (suc s.size))
 
 -- bytes that begin with such a log
 split_at : (bytes : List ℕ) (place : ℕ) (span : Span) (s : StandsAt place bytes span)
@@ -168,12 +165,10 @@ logs_text zero log place front bytes spans len e = by_test (bytes_eq bytes last_
   where
     by_test : (t : Bool) → bytes_eq bytes last_line ≡ t → cond t (Ok []) (Err log) ≡ Ok spans
         → bytes ≡ flat_map log_text (map (bytes_of (front ++ bytes)) spans) ++ last_line
-    by_test true is e = (bytes_eq-Decides bytes last_line).0 is
-        ∙ ap (λ spans. flat_map log_text (map (bytes_of (front ++ bytes)) spans) ++ last_line)
-        (no_logs spans e)
+    by_test true is e = cc ((bytes_eq-Decides bytes last_line).0 is, no_logs spans e)
     by_test false is e = cc
-logs_text (suc n) log place front bytes spans len e =
-    by_test (λ place front bytes spans len e. logs_text n (log + 1) place front bytes spans len e)
+logs_text (suc n) log place front bytes spans len e = by_test
+    (λ place front bytes spans len e. logs_text n (log + 1) place front bytes spans len e)
     (bytes_eq bytes last_line) refl (log_at place bytes) refl e
   where
     text_of : List Span → List ℕ
@@ -192,14 +187,15 @@ logs_text (suc n) log place front bytes spans len e =
         let next = drop s.size s.rest in
         let whole = front ++ bytes in
         let split = split_at bytes place span s in
-        let all : (front ++ log_text here) ++ next ≡ whole =
-        append_assoc front (log_text here) next ∙ ap (λ bytes. front ++ bytes) (sym split) in
+        let all : (front ++ log_text here) ++ next
+        ≡ whole = cc (append_assoc front (log_text here) next) in
         let short : length here ≡ s.size = omega (arith, length-take s.size s.rest, s.fits) in
         let past : length (front ++ log_text here) ≡ span.past =
         omega (
           arith,
           length-append front (log_text here),
-          length-append (ended_line (log_word (length here))) here,
+          length-append
+              (ended_line (log_word (length here))) here,
           length-append (log_word (length here)) (10 ∷ []),
           ap (λ n. length (log_word n)) short,
           short,
@@ -210,31 +206,27 @@ logs_text (suc n) log place front bytes spans len e =
         let found : logs_from n (log + 1) span.past next ≡ Ok more =
         ap (logs_from n (log + 1) span.past) (sym (next_bytes bytes place span s)) ∙ is in
         let rest = read span.past (front ++ log_text here) next more past found in
-        let rest_whole : next ≡ flat_map log_text (map (bytes_of whole) more) ++ last_line =
-        rest ∙ ap (λ w. flat_map log_text (map (bytes_of w) more) ++ last_line) all in
+        let rest_whole : next ≡ flat_map log_text (map (bytes_of whole) more) ++ last_line = cc in
         let log_is : here ≡ bytes_of whole span = sym (log_bytes front bytes place span s len) in
-        split ∙ ap (λ rest. log_text here ++ rest) rest_whole
-        ∙ sym (append_assoc (log_text here) (flat_map log_text (map (bytes_of whole) more))
-        last_line)
-        ∙ ap (λ log. (log_text log ++ flat_map log_text (map (bytes_of whole) more)) ++ last_line)
-        log_is
-        ∙ ap text_of (some_logs span more spans e)
+        cc (
+          append_assoc (log_text here) (flat_map log_text (map (bytes_of whole) more))
+              last_line,
+          some_logs span more spans e,
+        )
 
     at_log : Option Span → Result (List Span) ℕ
     at_log o = elim o as (λ _. Result (List Span) ℕ) [
       | None ↦ Err log
-      | Some span ↦ span_before span
-          (logs_from n (log + 1) span.past (drop (span.past - place) bytes))
+      | Some span ↦ span_before
+          span (logs_from n (log + 1) span.past (drop (span.past - place) bytes))
     ]
 
     by_test : Read → (t : Bool) → bytes_eq bytes last_line ≡ t → (o : Option Span)
         → log_at place bytes ≡ o → cond t (Ok []) (at_log o) ≡ Ok spans
         → bytes ≡ text_of spans
-    by_test read true is o at e = (bytes_eq-Decides bytes last_line).0 is
-        ∙ ap text_of (no_logs spans e)
+    by_test read true is o at e = cc ((bytes_eq-Decides bytes last_line).0 is, no_logs spans e)
     by_test read false is None at e = cc
-    by_test read false is (Some span) at e =
-        by_log read span (stands_at place bytes span at)
+    by_test read false is (Some span) at e = by_log read span (stands_at place bytes span at)
         (logs_from n (log + 1) span.past (drop (span.past - place) bytes)) refl e
 
 -- the whole input
@@ -265,19 +257,13 @@ spans_text bytes spans e = by_cut (first_line bytes) (cut_is bytes) e
             ∙ sym (is cut refl) in
             let read = logs_text most_logs 0 (length cut.line + 1) front cut.rest spans
             (length-append cut.line (10 ∷ [])) e in
-            sym whole ∙ ap (λ rest. front ++ rest) read
-            ∙ sym (append_assoc front (flat_map log_text (map (bytes_of (front ++ cut.rest)) spans))
+            cc (append_assoc front (flat_map log_text (map (bytes_of (front ++ cut.rest)) spans))
             last_line)
-            ∙ ap (λ w. (front ++ flat_map log_text (map (bytes_of w) spans)) ++ last_line) whole
-            ∙ ap (λ line. (ended_line line ++ flat_map log_text (map (bytes_of bytes) spans))
-            ++ last_line) word
         by_word false t e = cc
 
 pub read_batch_is_text : (bytes : List ℕ) (logs : List (List ℕ)) → batch_logs bytes ≡ Ok logs
     → bytes ≡ batch_of logs
-read_batch_is_text bytes logs e =
-    let found = found_logs bytes (batch_reading bytes) logs refl e in
-    spans_text bytes found.0 found.1 ∙ ap batch_of found.2
+read_batch_is_text bytes logs e = search (found_logs, spans_text, arith)
 
 -- the line before a log has no line feed
 pub one_line_word : (n : ℕ) → n ≤ most_bytes → is_one_line (log_word n) ≡ true
@@ -324,10 +310,8 @@ pub text_found : (place : ℕ) (log next : List ℕ) → length log ≤ most_byt
     → log_at place (log_text log ++ next) ≡ Some (span_at place log)
 text_found place log next small near =
     let s = text_stands place log next small near in
-    is_log place (length log) (log_text log ++ next) (log_word (length log)) (log ++ next)
-    (one_line_word (length log) small) (text_is log next)
-    (size_within (length log) (log_word (length log)) (omega (arith, small)) refl small) s.fits
-    s.near
+    is_log _ (length _) (log_text _ ++ next) (log_word _) (log ++ next) (one_line_word _ small)
+    (text_is _ _) (size_within _ (log_word _) (omega (arith, small)) refl small) s.fits s.near
 
 -- the spans of logs in their text
 pub record AreFound (n log place : ℕ) (front : List ℕ) (logs : List (List ℕ)) : Type 0 where
@@ -339,11 +323,10 @@ text_logs : (n log place : ℕ) (front : List ℕ) (logs : List (List ℕ)) → 
     → length logs ≤ n
     → AllByRecursion (λ log. length log ≤ most_bytes) logs → place + length (flat_map log_text logs)
     ≤ logs_end_within → AreFound n log place front logs
-text_logs n log place front [] len few short near =
-    record { spans = []; found = logs_end n log place last_line refl; are = refl }
+text_logs n log place front [] len few short near = search (logs_end, arith)
 text_logs zero log place front (x ∷ logs) len few short near = absurd (omega arith)
-text_logs (suc n) log place front (x ∷ logs) len few short near =
-    with_rest (text_logs n (log + 1) (span_at place x).past (front ++ log_text x) logs past
+text_logs (suc n) log place front (x ∷ logs) len few short near = with_rest
+    (text_logs n (log + 1) (span_at place x).past (front ++ log_text x) logs past
     (omega arith) short.1 near_rest)
   where
     next : List ℕ

@@ -87,8 +87,7 @@ long_line line long = grind (arith, long, says_few)
 pub never_ended : (place : ℕ) (bytes : List ℕ) → first_line bytes ≡ None
     → longest_line < length bytes
     → (more : List ℕ) → log_at place (bytes ++ more) ≡ None
-never_ended place bytes none long more = by_cut (first_line (bytes ++ more))
-    (first_longer bytes more)
+never_ended place bytes none long more = by_cut (first_line (bytes ++ more)) (first_longer _ _)
   where
     at_cut : Option Cut → Option Span
     at_cut o = elim o as (λ _. Option Span) [
@@ -127,9 +126,8 @@ pub never_near : (place size : ℕ) (bytes line rest : List ℕ) → is_one_line
     → bytes ≡ line ++ 10 ∷ rest → Some size ≡ size_in line
     → logs_end_within < place + length line + 1 + size → (more : List ℕ)
     → log_at place (bytes ++ more) ≡ None
-never_near place size bytes line rest e is some far more =
-    too_far place size (bytes ++ more) line (rest ++ more) e (longer_is bytes line rest more is)
-    some far
+never_near place size bytes line rest e is some far more = too_far place size (bytes ++ more) line
+    (rest ++ more) e (longer_is bytes _ rest more is) some far
 
 -- a log that isn't whole is short
 pub short_of_whole : (place size : ℕ) (bytes line rest : List ℕ) → is_one_line line ≡ true

@@ -27,18 +27,12 @@ use Rattle.vyrd_buffers.specs.Laws.Alone.Done.{Appends}
 -- reply
 without_room : (state : Amounts) (b more : ℕ) → IsSome (after_append 0 state b more)
     → has_room (amount_of state b) more ≡ false
-without_room state b more some = by_room (has_room (amount_of state b) more) some
-  where
-    by_room : (room : Bool) → IsSome (then_some (not room) state) → room ≡ false
-    by_room room some = search (none_isnt_some, arith)
+without_room state b more some = search (has_room, none_isnt_some, arith)
 
 only_zero : (reply : ℕ) (state : Amounts) (b more : ℕ) → has_room (amount_of state b) more ≡ false
     → IsSome (after_append reply state b more)
     → reply ≡ 0
-only_zero zero state b more full some = refl
-only_zero (suc zero) state b more full some = cc
-only_zero (suc (suc zero)) state b more full some = search (none_isnt_some, arith)
-only_zero (suc (suc (suc reply))) state b more full some = search (none_isnt_some, arith)
+only_zero reply state b more full some = search (none_isnt_some, arith)
 
 -- so it gives up exactly when there is no room
 append_meets : (h : Header) (op : Op) (script : Script) (c : ℕ) (memory : Memory) (state : Amounts)
@@ -56,14 +50,11 @@ full_length text x low = ap (λ n. nat_le (text_length text + n) 7) (one_charact
 pub append_gives_up : (h : Header) (memory : Memory) (state : Amounts) (c b x : ℕ)
     → h.subject ≡ Buffers → b < h.size → x < 255 → state_in h memory ≡ Some state
     → GivesUpWhere (text_length (amount_of state b) ≡ 7) (alone c (append h b x) memory)
-append_gives_up h memory state c b x is low small e =
-    append_meets h op (append h b x) c memory state b (x + 1) (λ reply. refl)
-    (append_alone h op c b x memory state is (represents h memory state e) low small
-    (λ reply. refl))
-    (text_length (amount_of state b) ≡ 7)
-    (λ full. seven (text_length (amount_of state b)) (length_at_most (amount_of state b))
-    (sym (full_length (amount_of state b) x small) ∙ full))
-    (λ all. full_length (amount_of state b) x small ∙ ap (λ n. nat_le (n + 1) 7) all)
+append_gives_up h memory state c b x is low small e = append_meets h op (append h b x) c memory
+    state b (x + 1) (λ reply. refl) (append_alone h _ c b x _ _ is (represents h _ _ e) low small
+    (λ reply. refl)) (text_length _ ≡ 7)
+    (λ full. seven (text_length _) (length_at_most _) (sym (full_length _ x small) ∙ full))
+    (λ all. cc (full_length (amount_of state b) x small))
   where
     op : Op
     op = record { method = OfBuffers Append; args = record { a = b; b = x; c = 0 } }
@@ -76,11 +67,9 @@ pub append_from_gives_up : (h : Header) (memory : Memory) (state : Amounts) (c b
     → GivesUpWhere (has_room (amount_of state b) (amount_of state s) ≡ false)
     (alone c (append_from h Correct b s) memory)
 append_from_gives_up h memory state c b s is low low_s e =
-    append_meets h op (append_from h Correct b s) c memory state b (amount_of state s)
-    (λ reply. refl)
-    (append_from_alone h op c b s memory state is (represents h memory state e) low low_s
-    (λ reply. refl))
-    (has_room (amount_of state b) (amount_of state s) ≡ false) (λ full. full) (λ full. full)
+    append_meets h op (append_from h Correct b s) c memory state b (amount_of _ s) (λ reply. refl)
+    (append_from_alone h _ c b s _ _ is (represents h _ _ e) low low_s (λ reply. refl))
+    (has_room _ _ ≡ false) (λ full. full) (λ full. full)
   where
     op : Op
     op = record { method = OfBuffers AppendFrom; args = record { a = b; b = s; c = 0 } }

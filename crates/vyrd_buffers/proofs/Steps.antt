@@ -55,16 +55,13 @@ cell_there h s act is may = grind (arith, plain_low, first_true, lock_low)
 next_there : (h : Header) (script : Script) → h.subject ≡ Buffers → (s : Situation)
     × IsSound h s script
     → nat_lt (cell_in (next_act script)) (2 ^ 32) ≡ true
-next_there h stop is sound = refl
-next_there h (step act rest) is sound = cell_there h sound.0 act is sound.1.0
+next_there h script is sound = search (step, cell_there, arith)
 
 pub next_low : (h : Header) (script : Script) (act : Act) → h.subject ≡ Buffers
     → IsSoundSomewhere h script → next_act script ≡ act
     → cell_in act < 2 ^ 32
 next_low h script act is sound next =
-    below_of (cell_in act) (2 ^ 32)
-    (subst (λ a. nat_lt (cell_in a) (2 ^ 32) ≡ true) next
-    (∥∥₁_elim sound (Bool-set _ _) (next_there h script is)))
+    below_of _ _ (rw (← next) (∥∥₁_elim sound (Bool-set _ _) (next_there h _ is)))
 
 -- one character fewer is left
 one_fewer : (of done : ℕ) → done < of → of - done ≡ suc (of - (done + 1))
@@ -113,8 +110,7 @@ pub load_next : (h : Header) (task : Task) (count : ℕ) (held next : Held) (cha
     → next.of ≡ held.of
     → joining_rest h task (joining.Load count next)
     ≡ after_answer (joining_rest h task (joining.Load count held)) character
-load_next h task count held next character some holds loaded of =
-    cc (one_fewer held.of held.loaded some)
+load_next h task count held next character some holds loaded of = search (one_fewer, arith)
 
 -- powers of 256 that are below 2^64
 pub low_power : (read of : ℕ) → read < of → of ≤ 7 → 256 ^ read ≤ 256 ^ 6

@@ -39,15 +39,12 @@ pub never_gives_up : (h : Header) (memory : Memory) (state : Amounts) (c : ℕ) 
     → are_args h.size op.method op.args ≡ true → are_small op.args ≡ true
     → state_in h memory ≡ Some state
     → GivesUpWhere ⊥ (alone c (cache_procedure h Correct op) memory)
-never_gives_up h memory state c op is of changes fit small e =
-    subst (GivesUpWhere ⊥) (sym m.ends) (refuses, λ none. absurd none)
+never_gives_up h memory state c op is of changes fit small e = subst (GivesUpWhere ⊥) (sym m.ends)
+    (refuses, λ none. absurd none)
   where
     m : MeetsSpecification h op (cache_procedure h Correct op) c memory state
     m = cache_is_right_alone h op is of fit small c memory state e
 
     refuses : m.outcome.reply ≡ 0 → ⊥
-    refuses zero =
-        none_isnt_some (state_in h m.outcome.memory)
-        (m.after ∙ ap (λ b. state_after b op m.outcome.reply state) changes
-        ∙ ap (λ reply. next_state op.method op.args reply state) zero
-        ∙ refused op.method op.args state of changes) m.goes_on
+    refuses zero = none_isnt_some (state_in h m.outcome.memory)
+        (cc (m.after, refused op.method op.args state of changes)) m.goes_on

@@ -41,8 +41,7 @@ spelled_built_in line version (Some subject) size callers known =
     by_test : (b : Bool)
         → of_built_in (cond b (ok_or (header_of version subject size callers) UnknownVersion)
         (Err BadHeader)) ≡ true
-    by_test true = made_built_in version subject size callers
-        (limits_of subject version size callers) refl (known subject refl)
+    by_test true = made_built_in _ subject _ _ _ _ (known _ refl)
     by_test false = refl
 
 from_built_in : (line : List ℕ) (fields : List (List ℕ)) → of_built_in (header_from line fields)

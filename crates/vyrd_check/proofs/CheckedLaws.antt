@@ -18,8 +18,7 @@ so_far_is c bytes checked = grind (arith, checked)
 pub checked_longer : (c : CheckerState) (bytes more : List ℕ) → IsLimit c.kept.reader.max_lines
     → is_some c.so_far ≡ true
     → HasChecked c bytes → HasChecked c (bytes ++ more)
-checked_longer c bytes more limit there checked =
-    grind (arith, more, there, checked, is_some, text_verdict_lasts)
+checked_longer c bytes more limit there checked = search (is_some, text_verdict_lasts, arith)
 
 -- and of the whole input
 pub checked_whole : (c : CheckerState) (bytes : List ℕ) (v : Verdict)
@@ -27,10 +26,9 @@ pub checked_whole : (c : CheckerState) (bytes : List ℕ) (v : Verdict)
     → HasChecked c bytes → v ≡ text_verdict c.kept.reader.max_lines bytes
 checked_whole c bytes v limit there checked =
     let max = c.kept.reader.max_lines in
-    let here : text_verdict_so_far max bytes ≡ Some v = subst (FollowsBy c.kept bytes) there
+    let here : text_verdict_so_far max bytes ≡ Some v = subst (FollowsBy _ _) there
     checked.follows in
-    sym (ap (text_verdict max) (sym (append-nil bytes)) ∙ text_verdict_stands max bytes
-    [] v limit.low here)
+    sym (ap (text_verdict _) (sym (append-nil _)) ∙ text_verdict_stands _ _ [] v limit.low here)
 
 pub empty_of : (xs : List ℕ) → true ≡ (length xs == 0) → xs ≡ []
 empty_of xs e = let none : length xs ≡ 0 = grind (arith, nat_tests) in by_length xs none

@@ -26,8 +26,7 @@ cost_of o starting entries ended =
     starting_cost o starting + entries_cost o entries + end_cost o ended
 
 no_end : (o : Option Header) → end_cost o false ≡ 0
-no_end None = refl
-no_end (Some h) = refl
+no_end o = search arith
 
 -- further starting words cost what they cost
 starting_more : (o : Option Header) (ss more : List StartWord)
@@ -104,51 +103,22 @@ piece_paid (Some j) after old new more done judging g none going ready begun =
     let h = header_of_charter old.header j.kept.charter judging.charter in
     let header : old.header ≡ new.header = h.1 ∙ sym (g.header h.0 h.1) in
     let starting : old.starting ≡ new.starting = sym (g.grown.begun none judging.begun) in
-    let was : reading_cost old
-    ≡ starting_cost new.header new.starting + entries_cost new.header old.entries + 0 =
-    (λ i. cost_of (header i) (starting i) old.entries (going i))
-    ∙ ap (λ n. starting_cost new.header new.starting + entries_cost new.header old.entries + n)
-    (no_end new.header) in
+    let was : reading_cost old ≡ starting_cost new.header new.starting
+    + entries_cost new.header old.entries + 0 = cc (no_end new.header) in
     let is : reading_cost new ≡ starting_cost new.header new.starting
     + (entries_cost new.header old.entries + entries_cost new.header more)
-    + end_cost new.header done =
-    (λ i. cost_of new.header new.starting (here.entries i) (here.ended i))
-    ∙ ap (λ n. starting_cost new.header new.starting + n + end_cost new.header done)
-    (entries_more new.header old.entries more) in
-    subst (λ o. judge_owes o new old.entries + following_cost o more done + reading_cost old
-    ≤ judge_owes (Some j) old old.entries + reading_cost new) (sym begun)
-    (paid_on (judge_debt price_by (λ charter. 2) j old.entries) _ _ _ _ _ _ _
+    + end_cost new.header done = cc (entries_more new.header old.entries more) in
+    rw begun (paid_on (judge_debt price_by (λ charter. 2) j old.entries) _ _ _ _ _ _ _
     (following_is j new old.entries more done here.before) was is)
-piece_paid None after old new more done judging g none going ready begun =
-    by_judge after ready begun
+piece_paid None after old new more done judging g none going ready begun = search arith
   where
     was : reading_cost old ≡ starting_cost old.header old.starting + 0 + 0
     was = grind arith
 
-    still : (s a b c n : ℕ) → n ≡ s + 0 + 0 → a + 0 + n ≤ s + (a + b + c)
-    still s a b c n e = omega (arith, e)
-
-    made : (d f s a m n was now : ℕ) → d ≡ a → f ≡ m + n → was ≡ s + 0 + 0 → now ≡ a + m + n
-        → d + f + was ≤ s + now
-    made d f s a m n was now owed costs e is = omega (arith, owed, costs, e, is)
-
-    by_judge : (o : Option JudgeView) → IsReady o new old.entries more done
-        → IsBegun (has_any more || new.ended) new.header new.starting None o
-        → judge_owes o new old.entries + following_cost o more done + reading_cost old
-        ≤ judge_owes None old old.entries + reading_cost new
-    by_judge None r b = still (starting_cost old.header old.starting) _ _ _ (reading_cost old) was
-    by_judge (Some j) r b = made _ _ _ _ _ _ (reading_cost old) (reading_cost new)
-        (ap (judge_debt price_by (λ charter. 2) j) judging.0
-        ∙ made_owes (has_any more || new.ended) new.header new.starting j b)
-        (following_is j new old.entries more done r.before) was
-        (λ i. cost_of new.header new.starting
-        ((r.entries ∙ ap (λ es. es ++ more) judging.0) i) (r.ended i))
-
 -- what is owed once a verdict stands, or none
 pub after_at_most : (o : Option Verdict) (k : CheckerKept) (bytes : List ℕ)
     → debt_after o k bytes ≤ kept_debt k bytes
-after_at_most None k bytes = omega arith
-after_at_most (Some v) k bytes = omega arith
+after_at_most o k bytes = search arith
 
 -- once a verdict stands nothing is owed
 pub stands_owes : (c : CheckerState) (v : Verdict) (bytes : List ℕ) → c.so_far ≡ Some v
@@ -162,8 +132,7 @@ unread max = refl
 
 pub nothing_owed : (k : CheckerKept) → k.judge ≡ None → kept_debt k [] ≡ 0
 unfolding reading
-nothing_owed k none =
-    ap (λ judge. kept_debt (record { reader = k.reader; judge = judge }) []) none
+nothing_owed k none = search arith
 
 more_held : (a b c d : ℕ) → a ≤ b + c → a ≤ b + (c + d)
 more_held a b c d paid = omega (arith, paid)
@@ -189,8 +158,7 @@ pub open_paid : (j k : JudgeView) (read : Reading) (log more : List Entry) (done
     ≤ m + judge_debt price_by (λ charter. 2) j log + log_cost price_by (λ charter. 2) j.kept more
     → last + judge_owes (Some k) read read.entries
     ≤ m + judge_owes (Some j) read log + following_cost (Some j) more done
-open_paid j k read log more done m n last ready is rules one paid =
-    grind (arith, read, more, paid, asked)
+open_paid j k read log more done m n last ready is rules one paid = search (asked, arith)
 
 -- without a judge nothing costs a step
 pub still_none : (o : Option JudgeView) (read : Reading) (log more : List Entry) (done : Bool)
@@ -228,8 +196,7 @@ pub parts_paid : (first before after : CheckerState) (bytes read part all : List
     + bytes_cost before.kept.reader.max_lines ((bytes ++ read) ++ part)
     → n + checker_debt after (bytes ++ all) + bytes_cost first.kept.reader.max_lines bytes
     ≤ l + checker_debt first bytes + bytes_cost first.kept.reader.max_lines (bytes ++ all)
-parts_paid first before after bytes read part all l m n limit parted one two =
-    grind (arith, after, read, parted, two_parts)
+parts_paid first before after bytes read part all l m n limit parted one two = grind arith
 
 settled : (l m a b c x y z : ℕ) → m + b + x ≤ l + a + y → y ≤ z → c ≡ 0 → m + c + x ≤ l + a + z
 settled l m a b c x y z paid more none = omega (arith, paid, more, none)
@@ -242,12 +209,7 @@ pub stands_paid : (first now : CheckerState) (v : Verdict) (bytes read rest piec
     → m + checker_debt now (bytes ++ piece) + bytes_cost first.kept.reader.max_lines bytes
     ≤ l + checker_debt first bytes + bytes_cost first.kept.reader.max_lines (bytes ++ piece)
 stands_paid first now v bytes read rest piece l m low stands parted paid =
-    settled l m _ (checker_debt now (bytes ++ read)) _ _ _ _ paid
-    (subst (λ xs. bytes_cost first.kept.reader.max_lines (bytes ++ read)
-    ≤ bytes_cost first.kept.reader.max_lines xs)
-    (append_assoc bytes read rest ∙ ap (λ xs. bytes ++ xs) (sym parted))
-    (bytes_more first.kept.reader.max_lines (bytes ++ read) rest low))
-    (stands_owes now v (bytes ++ piece) stands)
+    search (settled, append_assoc, bytes_more, stands_owes, arith)
 
 no_more : (n a b x y : ℕ) → a ≡ b → x ≡ y → n + a + x ≤ n + b + y
 no_more n a b x y owed cost = omega (arith, owed, cost)

@@ -58,18 +58,15 @@ pub fed_start : (old : CheckerKept) (reader : ReaderState) (piece : List ℕ)
     → (h : Header) → reader.header ≡ Some h → may_start h reader.start ≡ true
 fed_start old reader piece reads somewhere h has = ∥∥₁_elim somewhere (Bool-set _ _) (λ s.
     let read = reads s.0 s.1.read in
-    ap (may_start h) read.start
-    ∙ (reading_writable (input_of reader.max_lines false) (s.0 ++ piece) h
-    (sym read.header ∙ has)).may)
+    ap (may_start h) read.start ∙ (reading_writable _ _ h (sym read.header ∙ has)).may)
 
 -- the header that the reader keeps is that of a built-in subject
 pub fed_built_in : (old : CheckerKept) (reader : ReaderState) (piece : List ℕ)
     → ((bytes : List ℕ) → HasRead old.reader bytes → HasRead reader (bytes ++ piece))
     → IsSomewhere old
     → (h : Header) → reader.header ≡ Some h → is_built_in h.subject ≡ true
-fed_built_in old reader piece reads somewhere h has = ∥∥₁_elim somewhere (Bool-set _ _) (λ s.
-    reading_built_in (input_of reader.max_lines false) (s.0 ++ piece) h
-    (sym (reads s.0 s.1.read).header ∙ has))
+fed_built_in old reader piece reads somewhere h has = ∥∥₁_elim somewhere (Bool-set _ _)
+    (λ s. reading_built_in (input_of _ _) (s.0 ++ piece) h (sym (reads _ s.1.read).header ∙ has))
 
 -- what the reader keeps is what the bytes with the piece say, up to the old limit
 record IsReadTo (reader : ReaderState) (bytes : List ℕ) (max : ℕ) : Type 0 where
@@ -94,8 +91,7 @@ fed_ready old reader begun piece entries fault fed limit bytes u =
     let is = read_so_far max (bytes ++ piece) in
     let read = read_to reader (bytes ++ piece) max fed.limit (fed.read bytes u.read) in
     let grown = fed.grown bytes u.read in
-    let all : is.entries ≡ was.entries ++ entries =
-    grown.other ∙ ap (λ more. was.entries ++ more) (sym grown.one) in
+    let all : is.entries ≡ was.entries ++ entries = cc (grown.other, grown.one) in
     let more = reading_grows max false bytes piece limit.low in
     let judge : IsBegun (has_any entries || is.ended) is.header is.starting old.judge begun =
     rw (← read.ended, ← read.header, ← read.start) fed.judge in
@@ -179,12 +175,9 @@ fed_paid old reader begun after piece entries fault fed limit going bytes u m n 
     paid_then (judge_owes after is is.entries) (judge_owes begun is was.entries)
     (following_cost begun entries reader.ended) (kept_debt old bytes) (bytes_cost max bytes)
     (bytes_cost max (bytes ++ piece)) n n m
-    (kept_debt (record { reader = reader; judge = after }) (bytes ++ piece))
-    (ap (λ l. judge_owes after (read_so_far l (bytes ++ piece))
-    (read_so_far l (bytes ++ piece)).entries) fed.limit)
+    (kept_debt (record { reader = reader; judge = after }) (bytes ++ piece)) (cc fed.limit)
     (piece_paid old.judge begun was is entries reader.ended u.judging more
-    (text_right max bytes u.nothing) (sym u.read.ended ∙ going) ready judge)
-    taken
+    (text_right max bytes u.nothing) (sym u.read.ended ∙ going) ready judge) taken
 
 -- what was read is the same, except for a fault of text
 pub record IsSameLog (old new : Reading) : Type 0 where
@@ -237,20 +230,11 @@ same_wrong old new s = grind arith
 -- and the judge has followed them
 same_judging : (judge : Option JudgeView) (old new : Reading) → IsSameLog old new
     → IsJudging judge old → IsJudging judge new
-same_judging None old new s judging = (s.entries ∙ judging.0, s.ended ∙ judging.1)
-same_judging (Some j) old new s judging = record {
-  charter = ap (option_map built_in) s.header ∙ judging.charter;
-  shows = judging.shows;
-  followed = subst (HasFollowed j new.starting) (sym s.entries)
-      (subst (λ ss. HasFollowed j ss old.entries) (sym s.starting) judging.followed);
-  so_far = judging.so_far;
-  begun = (λ i. has_any (s.entries i) || s.ended i) ∙ judging.begun;
-}
+same_judging judge old new s judging = search (has_any, arith)
 
 same_owes : (judge : Option JudgeView) (old new : Reading) → IsSameLog old new
     → judge_owes judge new new.entries ≡ judge_owes judge old old.entries
-same_owes None old new s = λ i. starting_cost (s.header i) (s.starting i)
-same_owes (Some j) old new s = ap (judge_debt price_by (λ charter. 2) j) s.entries
+same_owes judge old new s = search arith
 
 -- the answer after `end` is the fault of text
 pub ended_answer : (old : CheckerKept) (bytes piece : List ℕ) (fault : Option Verdict)

@@ -39,20 +39,17 @@ counted j starting log none f = (faultless_of none f).taken_in.entries
 
 -- more entries after some
 any_more : (xs more : List Entry) → has_any xs ≡ true → has_any (xs ++ more) ≡ true
-any_more [] more e = cc
-any_more (x ∷ xs) more e = refl
+any_more xs more e = search arith
 
 -- what is said of the rules of a header
 of_charter : {B : Type 0} (f : Charter → Option B) (o : Option Header)
     → option_and_then f (option_map built_in o) ≡ option_and_then (λ h. f (built_in h)) o
-of_charter f None = refl
-of_charter f (Some h) = refl
+of_charter f o = search arith
 
 -- a header that was read stays
 still_read : (old new : Option Header) (l : Charter) → ((h : Header) → old ≡ Some h → new ≡ Some h)
     → option_map built_in old ≡ Some l → option_map built_in new ≡ Some l
-still_read None new l stays is = cc
-still_read (Some h) new l stays is = ap (option_map built_in) (stays h refl) ∙ is
+still_read old new l stays is = search arith
 
 -- the header that was read, by the name of its rules
 pub header_of_charter : (o : Option Header) (l : Charter) → option_map built_in o ≡ Some l
@@ -63,19 +60,7 @@ header_of_charter (Some h) l is = (h, refl, cc)
 -- what has begun goes on
 pub begun_on : (old new : Reading) → TextGrown old new → old.fault ≡ None → has_begun old ≡ true
     → has_begun new ≡ true
-begun_on old new g none begun = by_end old.ended refl begun
-  where
-    by_end : (b : Bool) → old.ended ≡ b → (has_any old.entries || b) ≡ true → has_begun new ≡ true
-    by_end true e f = or_right (has_any new.entries) new.ended (g.grown.ended none e).1
-    by_end false e f = by_entries (has_any old.entries) refl f
-      where
-        by_entries : (a : Bool) → has_any old.entries ≡ a → (a || false) ≡ true
-            → has_begun new ≡ true
-        by_entries false is h = cc
-        by_entries true is h =
-            let more = g.grown.entries none in
-            or_left (has_any new.entries) new.ended
-            (ap has_any more.1 ∙ any_more old.entries more.0 is)
+begun_on old new g none begun = search (has_any, any_more, arith)
 
 -- the judge that was made, if one was
 pub made_from : (h : Header) (starting : List StartWord) (made : Option JudgeView)
@@ -103,13 +88,12 @@ pub judge_before : (before after : Option JudgeView) (old new : Reading) (more :
     → new.entries ≡ old.entries ++ more
     → IsBegun (has_any more || new.ended) new.header new.starting before after
     → IsBefore after new old.entries
-judge_before (Some j) after old new more judging g none headed all begun =
-    search (begun_on, begun, still_read, arith)
-judge_before None after old new more judging g none headed all begun =
-    by_test (has_any more || new.ended) refl begun
+judge_before (Some j) after old new more judging g none headed all begun = grind arith
+judge_before None after old new more judging g none headed all begun = by_test
+    (has_any _ || new.ended) refl begun
   where
     same : has_begun new ≡ (has_any more || new.ended)
-    same = ap (λ es. has_any es || new.ended) (all ∙ ap (λ es. es ++ more) judging.0)
+    same = cc judging.0
 
     by_made : (h : Header) (o : Option JudgeView) → new.header ≡ Some h → has_begun new ≡ true
         → IsMade h new.starting o → IsBefore o new old.entries
@@ -126,7 +110,7 @@ judge_before None after old new more judging g none headed all begun =
 
     by_test : (b : Bool) → (has_any more || new.ended) ≡ b
         → IsBegun b new.header new.starting None after → IsBefore after new old.entries
-    by_test false e b = subst (λ o. IsBefore o new old.entries) (sym b) (judging.0, λ f. cc)
+    by_test false e b = rw b (judging.0, λ f. cc)
     by_test true e b = by_header new.header refl (same ∙ e) b
 
 -- there is room for the entries of a log that keeps the limit of lines
@@ -152,8 +136,7 @@ pub judging_on : (old new : JudgeView) (read : Reading) (log more : List Entry) 
     → new.kept.charter ≡ old.kept.charter → new.kept.views.shows ≡ old.kept.views.shows
     → HasFollowed new read.starting (log ++ more)
     → new.so_far ≡ None → IsJudging (Some new) read
-judging_on old new read log more done ready same shows followed none =
-    grind (arith, ready.before.charter, ready.before.shows, ready.entries, ready.before.begun)
+judging_on old new read log more done ready same shows followed none = search arith
 
 -- If the starting words stand for no state, that is what is wrong once an entry or `end` was read.
 start_wrong : (h : Header) (starting : List StartWord) (entries : List Entry) (done : Bool)
@@ -163,23 +146,12 @@ start_wrong : (h : Header) (starting : List StartWord) (entries : List Entry) (d
     (cond done (end_verdict (rules_of h) starting entries) None)
     ≡ Some (Malformed 2 StartState)
 unfolding verdict_so_far end_verdict
-start_wrong h starting [] false stands begun = cc
-start_wrong h starting [] true stands begun =
-    ap (λ o. option_or o (end_verdict (rules_of h) starting [])) (nothing_so_far h starting)
-    ∙ ap (λ b. option_or (then_some b (Malformed 2 StartState))
-    (then_some (is_call_open h (newest_first []))
-    (Malformed (line_of starting (length {A = Entry} [])) CallOpen))) stands
-start_wrong h starting (e ∷ entries) done stands begun =
-    ap (λ b. option_or (option_or (then_some b (Malformed 2 StartState))
-    (option_or (first_fault (rules_of h) starting (front h (e ∷ entries)))
-    (shape_verdict h starting (e ∷ entries))))
-    (cond done (end_verdict (rules_of h) starting (e ∷ entries)) None)) stands
+start_wrong h starting entries done stands begun = search (nothing_so_far, front, arith)
 
 -- nothing was read
 unread : (entries : List Entry) (done : Bool) → (has_any entries || done) ≡ false
     → (entries ≡ []) × (done ≡ false)
-unread [] done e = (refl, e)
-unread (x ∷ entries) done e = cc
+unread entries done e = search arith
 
 -- without a judge all that was read since is the last entries
 only_last : (read : Reading) (log more : List Entry) (done : Bool) → IsReady None read log more done
@@ -194,19 +166,8 @@ nothing_wrong read e = grind (arith, read, unread, nothing_so_far)
 pub wrong_without : (read : Reading) (log more : List Entry) (done : Bool)
     → IsReady None read log more done
     → then_some (has_any more || done) (Malformed 2 StartState) ≡ wrong_in read
-wrong_without read log more done ready = by_test (has_any more || done) refl
-  where
-    same : has_begun read ≡ (has_any more || done)
-    same = only_last read log more done ready
-
-    by_test : (b : Bool) → (has_any more || done) ≡ b
-        → then_some b (Malformed 2 StartState) ≡ wrong_in read
-    by_test false e = sym (nothing_wrong read (same ∙ e))
-    by_test true e =
-        let begun = same ∙ e in
-        let stands = ready.before.1 begun in
-        sym (ap (option_and_then (entries_verdict read)) stands.1
-        ∙ start_wrong stands.0 read.starting read.entries read.ended stands.2 begun)
+wrong_without read log more done ready = search
+    (has_any, only_last, nothing_wrong, start_wrong, arith)
 
 pub still_without : (read : Reading) (log more : List Entry) (done : Bool)
     → IsReady None read log more done

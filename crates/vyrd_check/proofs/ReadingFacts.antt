@@ -132,12 +132,10 @@ unfolding text_verdict_so_far
 known_so_far max bytes wrong fault wrong_is fault_is = λ i. option_or (wrong_is i) (fault_is i)
 
 pub first_none : {A : Type 0} (a b : Option A) → option_or a b ≡ None → a ≡ None
-first_none None b e = refl
-first_none (Some x) b e = cc
+first_none a b e = search arith
 
 pub second_none : {A : Type 0} (a b : Option A) → option_or a b ≡ None → b ≡ None
-second_none None b e = e
-second_none (Some x) b e = cc
+second_none a b e = search arith
 
 -- what is wrong with the entries of bytes about which nothing is known
 pub entries_right : (max : ℕ) (bytes : List ℕ) → text_verdict_so_far max bytes ≡ None
@@ -155,12 +153,7 @@ header_right max bytes h nothing has = cc (entries_right max bytes nothing)
 pub text_right : (max : ℕ) (bytes : List ℕ) → text_verdict_so_far max bytes ≡ None
     → (read_so_far max bytes).fault ≡ None
 unfolding text_verdict_so_far
-text_right max bytes nothing = by_fault (read_so_far max bytes).fault (second_none _ _ nothing)
-  where
-    by_fault : (o : Option TextFault)
-        → option_map (λ fault. Malformed fault.line fault.rule) o ≡ None → o ≡ None
-    by_fault None e = refl
-    by_fault (Some fault) e = cc
+text_right max bytes nothing = search (second_none, arith)
 
 -- if `end` was read and nothing is wrong, the log is accepted
 pub ended_right : (max : ℕ) (bytes : List ℕ) (h : Header) → text_verdict_so_far max bytes ≡ None
@@ -173,10 +166,8 @@ ended_right max bytes h nothing has done =
     let r = read_so_far max bytes in
     let wrong = header_right max bytes h nothing has in
     let none : option_or (verdict_so_far (rules_of h) r.starting r.entries)
-    (end_verdict (rules_of h) r.starting r.entries) ≡ None =
-    ap (λ b. option_or (verdict_so_far (rules_of h) r.starting r.entries)
-    (cond b (end_verdict (rules_of h) r.starting r.entries) None)) (sym done) ∙ wrong in
-    ap (λ o. unwrap_or o (accepted r.entries)) none
+    (end_verdict (rules_of h) r.starting r.entries) ≡ None = cc in
+    cc
 
 -- If nothing is known of the bytes, the verdict about them as the whole input is their fault of
 -- text, or otherwise acceptance.

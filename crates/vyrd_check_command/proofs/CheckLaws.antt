@@ -23,12 +23,9 @@ module _ (max : ℕ) (within : IsLimit max) where
   verdict_of_told : (input taken left : List ℕ) (v : Verdict) → input ≡ taken ++ left
       → ((left ≡ []) × (v ≡ log_verdict max taken)) ⊎ (log_verdict_so_far max taken ≡ Some v)
       → v ≡ log_verdict max input
-  verdict_of_told input taken left v whole (inl ended) =
-      ended.1 ∙ ap (log_verdict max)
-      (sym (whole ∙ ap (λ xs. taken ++ xs) ended.0 ∙ no_more_bytes taken))
+  verdict_of_told input taken left v whole (inl ended) = cc (ended.1, ended.0, no_more_bytes taken)
   verdict_of_told input taken left v whole (inr there) =
-      sym (ap (log_verdict max) whole
-      ∙ log_verdict_stands max taken left v within.low within.high there)
+      cc (log_verdict_stands max taken left v within.low within.high there)
 
   -- the same, if they are told
   verdict_of_rest : (before after : Option (List ℕ)) (taken : List ℕ) (v : Verdict)

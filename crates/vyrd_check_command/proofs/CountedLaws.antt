@@ -19,10 +19,8 @@ use Rattle.vyrd_check_command.proofs.PieceLaws.{checking_starts, checking_goes_o
 pub counting_starts : (max : ℕ) (before : SourceKnown) (checker : LogCheckerState) (first : ℕ)
     → checker.max_lines ≡ max → HasChecked checker [] → checker_debt checker [] ≡ 0
     → before.ended ≡ false → IsCounting max before before checker 0 first first
-counting_starts max before checker first limit checked owed unended = record {
-  checking = checking_starts max before checker limit checked unended;
-  paid = omega (arith, owed);
-}
+counting_starts max before checker first limit checked owed unended =
+    record { checking = checking_starts _ _ _ limit checked unended; paid = omega (arith, owed) }
 
 -- the steps for a piece are paid by what it costs
 paid_on : (first m l before after was now : ℕ) → m + before ≤ first + was
@@ -76,11 +74,4 @@ module _ (max : ℕ) (before now after : SourceKnown) (old : LogCheckerState) (b
   pub end_counted : (l : ℕ) → Gives now 0 buffer after
       → l ≤ m + finish_cost old.max_lines r.checking.taken
       → IsCounted max before after first l
-  end_counted l gives ended = record {
-    taken = r.checking.taken;
-    told = subst (λ bytes. IsTaken before.rest bytes after.rest) (no_more_bytes r.checking.taken)
-        (taken_more before.rest now.rest after.rest r.checking.taken [] r.checking.told
-        gives.bytes);
-    few = paid_end first m l _ _ _ r.paid
-        (subst (λ k. l ≤ m + finish_cost k r.checking.taken) r.checking.limit ended);
-  }
+  end_counted l gives ended = search (no_more_bytes, taken_more, paid_end, arith)

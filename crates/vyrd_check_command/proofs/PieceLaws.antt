@@ -18,22 +18,19 @@ use Rattle.vyrd_check_command.proofs.TakenLaws.{no_more_bytes, taken_more, taken
 use Rattle.vyrd_check_command.proofs.TakenLaws.{begins_later}
 
 some_verdict : (o : Option Verdict) → is_some o ≡ true → (v : Verdict) × (o ≡ Some v)
-some_verdict None e = cc
-some_verdict (Some v) e = (v, refl)
+some_verdict o e = search arith
 
 -- a verdict lasts
 pub verdict_there : (max : ℕ) (bytes more : List ℕ) → IsLimit max → has_verdict max bytes ≡ true
     → has_verdict max (bytes ++ more) ≡ true
-verdict_there max bytes more within e =
-    grind (arith, more, within, some_verdict, is_some, log_verdict_lasts)
+verdict_there max bytes more within e = search (some_verdict, is_some, log_verdict_lasts, arith)
 
 -- A beginning that has a verdict is no shorter than bytes that have none yet.
 judged_later : (max : ℕ) (taken piece first more : List ℕ) → IsLimit max
     → log_verdict_so_far max taken ≡ None → taken ++ piece ≡ first ++ more
     → has_verdict max first ≡ true → length taken ≤ length first
-judged_later max taken piece first more within nothing =
-    begins_later (has_verdict max) (λ bytes more. verdict_there max bytes more within)
-    taken piece first more (ap is_some nothing)
+judged_later max taken piece first more within nothing = begins_later (has_verdict _)
+    (λ bytes more. verdict_there _ _ _ within) _ _ _ _ (ap is_some nothing)
 
 -- before the first read
 abbrev pub checking_starts : (max : ℕ) (before : SourceKnown) (checker : LogCheckerState)
@@ -131,12 +128,8 @@ pub end_reached : (max : ℕ) (before now after : SourceKnown) (old : LogChecker
     (buffer : List ℕ) (rounds : ℕ) (v : Verdict) → (r : IsChecking max before now old rounds)
     → Gives now 0 buffer after → v ≡ log_verdict old.max_lines r.taken
     → IsReached max before after v
-end_reached max before now after old buffer rounds v r gives is = record {
-  taken = r.taken;
-  told = subst (λ bytes. IsTaken before.rest bytes after.rest) (no_more_bytes r.taken)
-      (taken_more before.rest now.rest after.rest r.taken [] r.told gives.bytes);
-  reached = inl (gives.at_end refl, is ∙ ap (λ m. log_verdict m r.taken) r.limit);
-}
+end_reached max before now after old buffer rounds v r gives is = search
+    (no_more_bytes, taken_more, arith)
 
 -- more rounds than that never come
 pub rounds_end : (max : ℕ) (before now : SourceKnown) (checker : LogCheckerState) (rounds : ℕ)

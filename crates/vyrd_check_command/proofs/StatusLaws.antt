@@ -23,19 +23,13 @@ none_failed status before after isnt reads = grind (arith, ne_eqb status 4 isnt)
 pub reads_told : (status own : ℕ) (before after : SourceKnown) → (status ≡ 5) ⊎ (status ≡ own)
     → (own ≡ 4 → status ≡ own)
     → AfterReads (own == 4) before after → AfterReads (status == 4) before after
-reads_told status own before after given silent reads = grind (arith, same given)
-  where
-    same : (status ≡ 5) ⊎ (status ≡ own) → (own == 4) ≡ (status == 4)
-    same (inl five) = ne_eqb own 4 (λ four. omega (arith, five, silent four, four))
-        ∙ sym (ne_eqb status 4 (λ four. omega (arith, five, four)))
-    same (inr is) = ap (λ n. n == 4) (sym is)
+reads_told status own before after given silent reads = search arith
 
 -- writes of less than fits
 pub writes_within : (failed : Bool) (all text : Type 0) (before after : SinkKnown) → (all → text)
     → AfterWrites failed text before after
     → AfterWrites failed all before after
-writes_within failed all text before after fits writes =
-    grind (arith, writes.counted, writes.stopped)
+writes_within failed all text before after fits writes = search arith
 
 -- a status that isn't that of a failed write says that none failed, and one that is that one did
 pub none_unwritten : (status : ℕ) (fits : Type 0) (before after : SinkKnown) → status ≢ 5
@@ -46,14 +40,10 @@ none_unwritten status fits before after isnt writes = grind (arith, ne_eqb statu
 -- a sink that isn't written to
 pub unwritten : (status : ℕ) (fits : Type 0) (sink : SinkKnown) → status ≢ 5
     → AfterWrites (status == 5) fits sink sink
-unwritten status fits sink isnt = none_unwritten status fits sink sink isnt
-    (record { counted = refl; stopped = refl; never = λ sure. refl })
+unwritten status fits sink isnt = search (none_unwritten, arith)
 
 -- the status of a line that was made ready and written
 pub line_status : (status own : ℕ) → (status ≡ 5) ⊎ (status ≡ own) → (own ≤ 2) ⊎ (own ≡ 4)
     ⊎ (own ≡ 6)
     → (status ≤ 2) ⊎ (status ≡ 4) ⊎ (status ≡ 5) ⊎ (status ≡ 6)
-line_status status own (inl five) why = inr (inr (inl five))
-line_status status own (inr same) (inl low) = inl (omega (arith, same, low))
-line_status status own (inr same) (inr (inl four)) = inr (inl (same ∙ four))
-line_status status own (inr same) (inr (inr six)) = inr (inr (inr (same ∙ six)))
+line_status status own e2 why = search arith

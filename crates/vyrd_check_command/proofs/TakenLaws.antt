@@ -15,13 +15,10 @@ no_more_bytes (x ∷ xs) = ap (λ ys. x ∷ ys) (no_more_bytes xs)
 pub taken_more : (before between after : Option (List ℕ)) (taken piece : List ℕ)
     → IsTaken before taken between
     → IsTaken between piece after → IsTaken before (taken ++ piece) after
-taken_more before between None taken piece first then = grind arith
-taken_more before between (Some left) taken piece first then =
-    grind (arith, append_assoc taken piece left)
+taken_more before between after taken piece first then = search (append_assoc, arith)
 
 pub taken_nothing : (before : Option (List ℕ)) → IsTaken before [] before
-taken_nothing None = refl
-taken_nothing (Some bytes) = refl
+taken_nothing before = search arith
 
 -- of two beginnings of the same bytes the longer one begins with the other
 begins_with : (taken piece first more : List ℕ) → length first ≤ length taken → taken ++ piece
@@ -29,9 +26,7 @@ begins_with : (taken piece first more : List ℕ) → length first ≤ length ta
     → taken ≡ first ++ take (length taken - length first) more
 begins_with taken piece first more within same =
     let rest : length taken ≡ length first + (length taken - length first) = omega arith in
-    sym (take-append_seam taken piece) ∙ ap (take (length taken)) same
-    ∙ ap (λ n. take n (first ++ more)) rest
-    ∙ take-append-add first more (length taken - length first)
+    cc (take-append_seam taken piece, take-append-add first more (length taken - length first))
 
 -- If bytes don't have what lasts, and a piece follows, a beginning of all that has it is no shorter
 -- than they.
@@ -39,8 +34,7 @@ pub begins_later : (has : List ℕ → Bool)
     → ((bytes more : List ℕ) → has bytes ≡ true → has (bytes ++ more) ≡ true)
     → (taken piece first more : List ℕ) → has taken ≡ false → taken ++ piece ≡ first ++ more
     → has first ≡ true → length taken ≤ length first
-begins_later has lasts taken piece first more nothing same there = by_length
-    (nat_le (length taken) (length first)) refl
+begins_later has lasts taken piece first more nothing same there = by_length (nat_le _ _) refl
   where
     both : has taken ≡ true → has taken ≡ false → ⊥
     both e f = cc
@@ -49,7 +43,6 @@ begins_later has lasts taken piece first more nothing same there = by_length
     by_length true e = grind (arith, nat_tests)
     by_length false e =
         let shorter : length first < length taken = grind (arith, nat_tests) in
-        let rest = take (length taken - length first) more in
-        let begins : taken ≡ first ++ rest = begins_with taken piece first more
-        (omega arith) same in
-        absurd (both (ap has begins ∙ lasts first rest there) nothing)
+        let rest = take _ more in
+        let begins : taken ≡ first ++ rest = begins_with _ _ _ _ (omega arith) same in
+        absurd (both (ap has begins ∙ lasts first _ there) nothing)

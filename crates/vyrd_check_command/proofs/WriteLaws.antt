@@ -10,9 +10,7 @@ pub appends_next : (before : Option (List ℕ)) (between after : SinkKnown) (tex
     (written n : ℕ) → Appends before between.taken (take written text)
     → Takes between n (drop written text) after → Appends before after.taken
     (take (written + n) text)
-appends_next None between after text written n so takes = takes.bytes
-    ∙ ap (option_map (λ taken. taken ++ take n (drop written text))) so
-appends_next (Some taken) between after text written n so takes =
-    takes.bytes ∙ ap (option_map (λ ys. ys ++ take n (drop written text))) so
-    ∙ ap Some (append_assoc taken (take written text) (take n (drop written text))
-    ∙ ap (λ ys. taken ++ ys) (sym (take-add written n text)))
+appends_next None between after text written n so takes = takes.bytes ∙ ap (option_map _) so
+appends_next (Some taken) between after text written n so takes = takes.bytes ∙ ap (option_map _) so
+    ∙ ap Some (cc
+    (append_assoc taken (take written text) (take n (drop written text)), take-add written n text))

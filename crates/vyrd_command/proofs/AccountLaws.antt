@@ -60,11 +60,10 @@ pub log_begun : (show : Show) (h own : Header) (text : List ℕ) → show ≡ sh
     → text ≡ ended_line (header_line h.version h.subject h.size h.callers)
     → text ≡ text_so_far show own []
 log_begun show h own text is same line =
-    let first = ended_line (header_line h.version h.subject h.size h.callers) in
-    line ∙ sym (append-nil first)
-    ∙ ap (λ log. first ++ flat_map (λ e. ended_line (entry_line e)) log) (sym no_log)
-    ∙ ap (λ h. text_so_far shown.Log h []) (sym same) ∙ ap (λ show. text_so_far show own [])
-    (sym is)
+    let first = ended_line (header_line _ _ _ _) in
+    line ∙ sym (append-nil _) ∙ ap (λ log. first ++ flat_map (λ e. ended_line (entry_line e)) log)
+    (sym no_log) ∙ ap (λ h. text_so_far shown.Log h []) (sym same)
+    ∙ ap (λ show. text_so_far show own []) (sym is)
 
 pub history_begun : (show : Show) (h own : Header) (text : List ℕ) → show ≡ shown.History → own ≡ h
     → text ≡ ended_line (history_header_line h.subject h.size h.callers)
@@ -84,10 +83,9 @@ pub log_told : (show : Show) (h : Header) (history : List Stamped) (v : Verdict)
     → old ≡ text_so_far show h history → ended ≡ old ++ codes "end\n" → new ≡ ended
     ++ verdict_text v → new ≡ run_text show h history v
 log_told show h history v old ended new is before line now =
-    let first = ended_line (header_line h.version h.subject h.size h.callers) in
-    now ∙ ap (λ t. t ++ verdict_text v) (line
-    ∙ whole_log h [] (log_of history) [] first first old refl (sym (append-nil first))
-    (before ∙ ap (λ show. text_so_far show h history) is))
+    let first = ended_line (header_line _ _ _ _) in
+    now ∙ ap (λ t. t ++ verdict_text v)
+    (line ∙ whole_log h [] (log_of _) [] first first _ refl (sym (append-nil _)) (cc))
     ∙ ap (λ show. run_text show h history v) (sym is)
 
 pub history_told : (show : Show) (h : Header) (history : List Stamped) (v : Verdict)
@@ -95,7 +93,5 @@ pub history_told : (show : Show) (h : Header) (history : List Stamped) (v : Verd
     → old ≡ text_so_far show h history → new ≡ old ++ codes "end\n"
     → new ≡ run_text show h history v
 history_told show h history v old new is before now =
-    now ∙ whole_history h history [] (ended_line (history_header_line h.subject h.size h.callers))
-    old refl
-    (before ∙ ap (λ show. text_so_far show h history) is)
+    now ∙ whole_history h history [] (ended_line (history_header_line _ _ _)) _ refl (cc)
     ∙ ap (λ show. run_text show h history v) (sym is)

@@ -45,8 +45,7 @@ pub reading_judged : (before now : SourceKnown) (old new : BatchView) (bytes res
     (count : ℕ) → IsReading before now old bytes count
     → ((input : List ℕ) → IsJudged input old bytes → IsJudged input new rest)
     → IsReading before now new rest count
-reading_judged before now old new bytes rest count r judged =
-    grind (arith, r.taken, r.told, judged r.taken r.judged, r.many)
+reading_judged before now old new bytes rest count r judged = search arith
 
 pub few_read : (before now : SourceKnown) (judge : BatchView) (rest : List ℕ) (count : ℕ)
     → IsReading before now judge rest count
@@ -59,8 +58,7 @@ pub verdicts_told : {E : Type 0} (input : List ℕ) (verdicts : List Verdict) (r
     → IfOk r (λ answer. answer.status ≡ batch_status verdicts)
     → IfOk r (λ answer. answer.text.items ≡ batch_text verdicts)
     → IfOk r (λ answer. IsBatchAnswer (batch_logs input) answer.status answer.text.items)
-verdicts_told input verdicts (Ok answer) found status text = grind (arith, found.1, found.2)
-verdicts_told input verdicts (Err e) found status text = tt
+verdicts_told input verdicts r found status text = search arith
 
 -- a batch as long as can be read is refused
 pub batch_refused : (bytes : List ℕ) (status : ℕ) (text : List ℕ)
@@ -87,8 +85,7 @@ pub since_more : (between after : SourceKnown) (judge : BatchView) (old new : Li
 since_more between after judge old new next count n most s m = record {
   left = s.left;
   fresh = s.fresh ++ m.piece;
-  bytes_are = m.grown ∙ ap (λ bytes. bytes ++ m.piece) s.bytes_are
-      ∙ append_assoc s.left s.fresh m.piece;
+  bytes_are = cc (m.grown, s.bytes_are, append_assoc s.left s.fresh m.piece);
   spent = s.spent;
   many = omega (arith, length-append s.fresh m.piece, s.many, m.many);
   late = s.late;

@@ -54,12 +54,6 @@ two_words_said false count false false step run n e = cc
 
 pub only_check : (said : List (List ℕ)) → form_in said ≡ Some Check → is_check said ≡ true
 only_check [] e = cc
-only_check (word ∷ []) e =
-    one_word_said (bytes_eq word (codes "check")) (bytes_eq word (codes "step"))
-    (bytes_eq word (codes "run")) (bytes_eq word (codes "movers")) (bytes_eq word (codes "batch"))
-    (bytes_eq word (codes "explain")) (bytes_eq word (codes "follow")) e
-only_check (word ∷ other ∷ []) e =
-    absurd (two_words_said (bytes_eq word (codes "gen")) (is_count other)
-    (bytes_eq other (codes "--log")) (bytes_eq other (codes "--history"))
-    (bytes_eq word (codes "step")) (bytes_eq word (codes "run")) (number_of other) e)
+only_check (word ∷ []) e = one_word_said _ _ _ _ _ _ _ e
+only_check (word ∷ other ∷ []) e = absurd (two_words_said _ _ _ _ _ _ _ e)
 only_check (word ∷ other ∷ third ∷ more) e = cc

@@ -16,61 +16,30 @@ use Rattle.vyrd_command.specs.Commands.{HasAnsweredInPart, HasRoom, reads, IsEno
 
 -- no form has an answer of status 3, 4, 5 or 6
 answer_outside : (form : Form) (n : ℕ) → IsAnswerStatus (Some form) n → (n ≤ 2) ⊎ (7 ≤ n)
-answer_outside asked.Check n low = inl low
-answer_outside (asked.Step show) n (inl low) = inl low
-answer_outside (asked.Step show) n (inr (inl seven)) = inr (omega (arith, seven))
-answer_outside (asked.Step show) n (inr (inr eight)) = inr (omega (arith, eight))
-answer_outside (asked.Run show) n (inl low) = inl low
-answer_outside (asked.Run show) n (inr (inl seven)) = inr (omega (arith, seven))
-answer_outside (asked.Run show) n (inr (inr nine)) = inr (omega (arith, nine))
-answer_outside (asked.Gen m) n (inl low) = inl low
-answer_outside (asked.Gen m) n (inr eight) = inr (omega (arith, eight))
-answer_outside asked.Movers n (inl low) = inl (omega (arith, low))
-answer_outside asked.Movers n (inr ten) = inr (omega (arith, ten))
-answer_outside asked.Batch n (inl low) = inl low
-answer_outside asked.Batch n (inr eleven) = inr (omega (arith, eleven))
-answer_outside (asked.Tell about) n low = inl low
+answer_outside form n low = search arith
 
 no_answer : (form : Form) (n : ℕ) → 3 ≤ n → n ≤ 6 → IsAnswerStatus (Some form) n → ⊥
-no_answer form n low high answered = elim (answer_outside form n answered) [
-  | inl below ↦ omega (arith, low, below)
-  | inr above ↦ omega (arith, high, above)
-]
+no_answer form n low high answered = grind arith
 
 -- The status of an answer is the one that was made ready.
 same_status : (said : Option Form) (form : Form) (status own : ℕ) → said ≡ Some form → (status ≡ 5)
     ⊎ (status ≡ own)
     → IsAnswerStatus said status → status ≡ own
-same_status said form status own is (inr same) answered = same
-same_status said form status own is (inl five) answered =
-    absurd (no_answer form status (omega (arith, five)) (omega (arith, five))
-    (subst (λ said. IsAnswerStatus said status) is answered))
+same_status said form status own is e5 answered = search (no_answer, arith)
 
 ready_status : (said : Option Form) (form : Form) (status own : ℕ) → said ≡ Some form → (status ≡ 5)
     ⊎ (status ≡ own)
     → IsAnswerStatus said status → IsAnswerStatus (Some form) own
-ready_status said form status own is given answered =
-    subst (λ n. IsAnswerStatus (Some form) n) (same_status said form status own is given answered)
-    (subst (λ said. IsAnswerStatus said status) is answered)
+ready_status said form status own is given answered = search (same_status, arith)
 
 pub written_status : (said : Option Form) (form : Form) (status own : ℕ) → said ≡ Some form
     → (status ≡ 5) ⊎ (status ≡ own)
     → IsStatus (Some form) own → IsStatus said status
-written_status said form status own is given ready = subst (λ said. IsStatus said status) (sym is)
-    (by_status given)
-  where
-    by_status : (status ≡ 5) ⊎ (status ≡ own) → IsStatus (Some form) status
-    by_status (inl five) = inr (inr (inl five))
-    by_status (inr same) = subst (λ n. IsStatus (Some form) n) (sym same) ready
+written_status said form status own is given ready = search arith
 
 -- status 3 is that of no form
 pub three_is_usage : (said : Option Form) → IsStatus said 3 → said ≡ None
-three_is_usage None status = refl
-three_is_usage (Some form) (inl answered) = absurd
-    (no_answer form 3 (omega arith) (omega arith) answered)
-three_is_usage (Some form) (inr (inl four)) = absurd (omega (arith, four.0))
-three_is_usage (Some form) (inr (inr (inl five))) = absurd (omega (arith, five))
-three_is_usage (Some form) (inr (inr (inr six))) = absurd (omega (arith, six.0))
+three_is_usage said status = search (no_answer, arith)
 
 pub written_answer : (said : Option Form) (form : Form) (input before after : Option (List ℕ))
     (status own : ℕ) (text : List ℕ) → said ≡ Some form
@@ -79,24 +48,13 @@ pub written_answer : (said : Option Form) (form : Form) (input before after : Op
     → (status ≢ 5 → (status ≡ own) × Appends before after text)
     → IsAnswerStatus said status → HasAnswered said input status before after
 written_answer said form input before after status own text is given ready written answered =
-    let same = same_status said form status own is given answered in
-    let own_answered = ready_status said form status own is given answered in
-    let other : status ≢ 5 = λ five. no_answer form status (omega (arith, five))
-    (omega (arith, five)) (subst (λ said. IsAnswerStatus said status) is answered) in
-    subst (λ said. HasAnswered said input status before after) (sym is) (record {
-      text = text;
-      answer = subst (λ n. IsAnswer (Some form) input n text) (sym same) (ready own_answered);
-      written = (written other).1;
-    })
+    grind arith
 
 -- If a write failed, something was made ready to be written.
 was_ready : (form : Form) (own : ℕ) (text : List ℕ) → IsStatus (Some form) own → own ≢ 5
     → ((own ≡ 4) ⊎ (own ≡ 6) → text ≡ [])
     → IsAnswerStatus (Some form) own ⊎ (text ≡ [])
-was_ready form own text (inl answered) unwritten silent = inl answered
-was_ready form own text (inr (inl four)) unwritten silent = inr (silent (inl four.0))
-was_ready form own text (inr (inr (inl five))) unwritten silent = absurd (unwritten five)
-was_ready form own text (inr (inr (inr six))) unwritten silent = inr (silent (inr six.0))
+was_ready form own text e3 unwritten silent = search arith
 
 pub written_in_part : (said : Option Form) (form : Form) (input before after : Option (List ℕ))
     (status own : ℕ) (text : List ℕ) → said ≡ Some form
@@ -132,11 +90,7 @@ pub enough_taken : (said : Option Form) (form : Form) (before after : SourceKnow
     → (status ≡ 5) ⊎ (status ≡ own)
     → (IsAnswerStatus (Some form) own → IsEnough (Some form) own before after)
     → IsAnswerStatus said status → IsEnough said status before after
-enough_taken said form before after status own is given enough answered =
-    let same = same_status said form status own is given answered in
-    subst (λ said. IsEnough said status before after) (sym is)
-    (subst (λ n. IsEnough (Some form) n before after) (sym same)
-    (enough (ready_status said form status own is given answered)))
+enough_taken said form before after status own is given enough answered = grind arith
 
 -- What is true of a form that is known isn't false of the form.
 differ : true ≡ false → ⊥
@@ -144,33 +98,22 @@ differ e = cc
 
 pub reads_on : (form known : Form) → form ≡ known → reads (Some known) ≡ true → reads (Some form)
     ≡ false → ⊥
-reads_on form known is does isnt = differ (sym does ∙ sym (ap (λ form. reads (Some form)) is)
-    ∙ isnt)
+reads_on form known is does isnt = search (differ, arith)
 
 -- the statuses of a form that reads, and of one that doesn't
 pub read_status : (form : Form) (status : ℕ) → reads (Some form) ≡ true
     → IsAnswerStatus (Some form) status ⊎ (status ≡ 4) ⊎ (status ≡ 6)
     → IsStatus (Some form) status
-read_status form status does (inl answered) = inl answered
-read_status form status does (inr (inl four)) = inr (inl (four, does))
-read_status form status does (inr (inr six)) = inr (inr (inr (six, refl)))
+read_status form status does e3 = search arith
 
 pub made_status : (form : Form) (status : ℕ) → IsAnswerStatus (Some form) status ⊎ (status ≡ 6)
     → IsStatus (Some form) status
-made_status form status (inl answered) = inl answered
-made_status form status (inr six) = inr (inr (inr (six, refl)))
+made_status form status e2 = search arith
 
 -- `check`
 pub checked_status : (said : Option Form) (status : ℕ) → said ≡ Some asked.Check → (status ≤ 2)
     ⊎ (status ≡ 4) ⊎ (status ≡ 5) ⊎ (status ≡ 6) → IsStatus said status
-checked_status said status is why = subst (λ said. IsStatus said status) (sym is) (by_status why)
-  where
-    by_status : (status ≤ 2) ⊎ (status ≡ 4) ⊎ (status ≡ 5) ⊎ (status ≡ 6)
-        → IsStatus (Some asked.Check) status
-    by_status (inl low) = inl low
-    by_status (inr (inl four)) = inr (inl (four, refl))
-    by_status (inr (inr (inl five))) = inr (inr (inl five))
-    by_status (inr (inr (inr six))) = inr (inr (inr (six, refl)))
+checked_status said status is why = search arith
 
 pub checked_untouched : (said : Option Form) → said ≡ Some asked.Check → reads said ≡ false → ⊥
 checked_untouched said is isnt = differ (sym (ap reads is) ∙ isnt)
@@ -179,32 +122,18 @@ pub checked_answer : (said : Option Form) (input before after : Option (List ℕ
     → said ≡ Some asked.Check
     → (status ≤ 2 → IsAnswered most_lines input status before after)
     → IsAnswerStatus said status → HasAnswered said input status before after
-checked_answer said input before after status is answer answered =
-    let line = answer (subst (λ said. IsAnswerStatus said status) is answered) in
-    subst (λ said. HasAnswered said input status before after) (sym is) (record {
-      text = line.text;
-      answer = line.judged;
-      written = line.written;
-    })
+checked_answer said input before after status is answer answered = search arith
 
 pub checked_in_part : (said : Option Form) (input before after : Option (List ℕ))
     → said ≡ Some asked.Check
     → IsAnsweredInPart most_lines input before after → HasAnsweredInPart said input before after
-checked_in_part said input before after is part =
-    subst (λ said. HasAnsweredInPart said input before after) (sym is) (record {
-      status = part.status;
-      text = part.text;
-      answer = part.judged;
-      written = part.written;
-    })
+checked_in_part said input before after is part = search arith
 
 pub checked_enough : (said : Option Form) (before after : SourceKnown) (status : ℕ)
     → said ≡ Some asked.Check
     → (status ≤ 2 → IsSettled most_lines before after) → IsAnswerStatus said status
     → IsEnough said status before after
-checked_enough said before after status is enough answered =
-    subst (λ said. IsEnough said status before after) (sym is)
-    (enough (subst (λ said. IsAnswerStatus said status) is answered))
+checked_enough said before after status is enough answered = search arith
 
 pub line_fits : (said : Option Form) (input : Option (List ℕ)) (room : ℕ) → said ≡ Some asked.Check
     → HasRoom said input room
@@ -215,34 +144,18 @@ line_fits said input room is fits = λ status text judged. subst (λ said. HasRo
 -- words that are none of the forms
 pub usage_status : (said : Option Form) (status : ℕ) → said ≡ None → (status ≡ 3) ⊎ (status ≡ 5)
     → IsStatus said status
-usage_status said status is why = subst (λ said. IsStatus said status) (sym is) (by_status why)
-  where
-    by_status : (status ≡ 3) ⊎ (status ≡ 5) → IsStatus None status
-    by_status (inl three) = inl three
-    by_status (inr five) = inr (inr (inl five))
+usage_status said status is why = search arith
 
 pub usage_answer : (said : Option Form) (input before after : Option (List ℕ)) (status : ℕ)
     → said ≡ None
     → (status ≡ 3 → Appends before after usage_line) → IsAnswerStatus said status
     → HasAnswered said input status before after
-usage_answer said input before after status is written answered =
-    let three : status ≡ 3 = subst (λ said. IsAnswerStatus said status) is answered in
-    subst (λ said. HasAnswered said input status before after) (sym is) (record {
-      text = usage_line;
-      answer = refl;
-      written = written three;
-    })
+usage_answer said input before after status is written answered = search arith
 
 pub usage_in_part : (said : Option Form) (input before after : Option (List ℕ)) → said ≡ None
     → AppendsFront before after usage_line
     → HasAnsweredInPart said input before after
-usage_in_part said input before after is written =
-    subst (λ said. HasAnsweredInPart said input before after) (sym is) (record {
-      status = 3;
-      text = usage_line;
-      answer = refl;
-      written = written;
-    })
+usage_in_part said input before after is written = search arith
 
 pub usage_fits : (said : Option Form) (input : Option (List ℕ)) (room : ℕ) → said ≡ None
     → HasRoom said input room → length usage_line ≤ room

@@ -18,21 +18,17 @@ risen before after is = subst (HasRisen before) (sym is) (next_rises before)
 
 pub alone : (failed : Bool) (before after : ℕ)
     → after ≡ (if failed then next_count before else before) → (after ≡ before) ⊎ (failed ≡ true)
-alone true before after is = inr refl
-alone false before after is = inl is
+alone failed before after is = search arith
 
 pub told : (failed : Bool) (before after : ℕ)
     → after ≡ (if failed then next_count before else before) → ¬ (HasRisen before after)
     → failed ≡ false
-told true before after is none = absurd (none (risen before after is))
-told false before after is none = refl
+told failed before after is none = search (risen, arith)
 
 pub never_falls : (failed : Bool) (before after : ℕ)
     → after ≡ (if failed then next_count before else before) → before ≤ after
-never_falls true before after is = subst (λ n. before ≤ n) (sym is) (next_no_less before)
-never_falls false before after is = omega (arith, is)
+never_falls failed before after is = search (next_no_less, arith)
 
 pub kept : (failed : Bool) (before after : ℕ)
     → after ≡ (if failed then next_count before else before) → failed ≡ false → after ≡ before
-kept true before after is none = cc
-kept false before after is none = is
+kept failed before after is none = search arith

@@ -46,25 +46,18 @@ step_accepted show w status text limits is (inr stuck) = absurd (not_stuck w lim
 
 live_accepted : (w : Workload) (history : List Stamped) (v : Verdict) → KeepsLimits w → IsCorrect w
     → IsLiveRun w history v → status_of v ≡ 0
-live_accepted w history v limits is live =
-    ap status_of
-    (live.verdict_is ∙ schedule_accepted w history limits is
-    (record { legal = live.legal; parts = live.parts }))
-    ∙ accepted_status (log_of history)
+live_accepted w history v limits is live = search (schedule_accepted, accepted_status, arith)
 
 run_accepted : (show : Show) (w : Workload) (status : ℕ) (text : List ℕ) → KeepsLimits w
     → IsCorrect w
     → IsRunAnswer show (Ok w) status text → (status ≡ 0) ⊎ (status ≡ 9)
-run_accepted show w status text limits is (inl told) = search (live_accepted, limits, arith)
-run_accepted show w status text limits is (inr spent) = inr spent.status_is
+run_accepted show w status text limits is e6 = search (live_accepted, arith)
 
 -- the callers of a structure whose operations have few events have room for all of them
 run_unspent : (show : Show) (w : Workload) (status : ℕ) (text : List ℕ) → KeepsLimits w
     → IsCorrectWithFewEvents w
     → IsRunAnswer show (Ok w) status text → status ≡ 9 → ⊥
-run_unspent show w status text limits is (inl told) nine = search (live_accepted, limits, arith)
-run_unspent show w status text limits is (inr spent) nine =
-    grind (arith, few_events w spent.caller limits is, spent.too_low)
+run_unspent show w status text limits is e6 nine = search (live_accepted, few_events, arith)
 
 -- what was read of an input that tells its bytes
 read_of : (input : Option (List ℕ)) (bytes : List ℕ) (work said : Result Workload Refusal)
@@ -76,11 +69,9 @@ pub step_is_accepted : (show : Show) (input : Option (List ℕ)) (status : ℕ) 
     → SaysCorrect input
     → AnswersInput show input status text → status ≡ 0
 step_is_accepted show input status text says answers =
-    step_accepted show says.work status text (reading_sound says.bytes says.work says.read).limits
-    says.correct
+    step_accepted show _ _ text (reading_sound says.bytes says.work says.read).limits says.correct
     (subst (λ work. IsStepAnswer show work status text)
-    (read_of input says.bytes answers.work (Ok says.work) says.told says.read answers.read)
-    answers.answer)
+    (read_of input says.bytes _ _ says.told says.read answers.read) answers.answer)
 
 pub run_is_accepted : (show : Show) (input : Option (List ℕ)) (status : ℕ) (text : List ℕ)
     → SaysCorrect input
@@ -119,18 +110,10 @@ gen_is_accepted n status text few (inr stuck) = absurd
 -- the status of an answer that was given
 pub step_given : (status own : ℕ) → IsStepStatus status → (status ≡ 5) ⊎ (status ≡ own)
     → status ≡ own
-step_given status own judged (inr same) = same
-step_given status own (inl low) (inl five) = absurd (omega (arith, low, five))
-step_given status own (inr (inl seven)) (inl five) = absurd (omega (arith, seven, five))
-step_given status own (inr (inr eight)) (inl five) = absurd (omega (arith, eight, five))
+step_given status own judged e3 = search arith
 
 pub run_given : (status own : ℕ) → IsRunStatus status → (status ≡ 5) ⊎ (status ≡ own) → status ≡ own
-run_given status own judged (inr same) = same
-run_given status own (inl low) (inl five) = absurd (omega (arith, low, five))
-run_given status own (inr (inl seven)) (inl five) = absurd (omega (arith, seven, five))
-run_given status own (inr (inr nine)) (inl five) = absurd (omega (arith, nine, five))
+run_given status own judged e3 = search arith
 
 pub gen_given : (status own : ℕ) → IsGenStatus status → (status ≡ 5) ⊎ (status ≡ own) → status ≡ own
-gen_given status own judged (inr same) = same
-gen_given status own (inl low) (inl five) = absurd (omega (arith, low, five))
-gen_given status own (inr eight) (inl five) = absurd (omega (arith, eight, five))
+gen_given status own judged e3 = search arith

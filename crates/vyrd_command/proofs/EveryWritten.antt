@@ -25,8 +25,7 @@ known_answer : (said : Option Form) (form known : Form) (input : Option (List �
     → IsAnswerStatus (Some known) own → IsAnswer (Some known) input own text
 known_answer said form known input own text is known_is ready answered =
     let same = same_form form known (sym is ∙ known_is) in
-    subst (λ form. IsAnswer (Some form) input own text) same
-    (ready (subst (λ form. IsAnswerStatus (Some form) own) (sym same) answered))
+    rw (← same) (ready (rw same answered))
 
 pub step_written : (said : Option Form) (form : Form) (show : Show) (input : Option (List ℕ))
     (status own : ℕ) (text : List ℕ)

@@ -33,8 +33,7 @@ pub record TakenSoFar (max : ℕ) (before now : SourceKnown) (explainer : Explai
 pub nothing_taken : (max : ℕ) (before : SourceKnown) (explainer : ExplainerState)
     → limit_of explainer ≡ max → HasTaken explainer []
     → TakenSoFar max before before explainer 0
-nothing_taken max before explainer limit taken =
-    grind (arith, taken_nothing before.rest, nothing_settled max)
+nothing_taken max before explainer limit taken = search (taken_nothing, nothing_settled, arith)
 
 -- one read more is no further than it may be
 no_further_by : (max : ℕ) (before after : SourceKnown) (bytes piece : List ℕ) → IsLimit max
@@ -59,11 +58,10 @@ module _ (max : ℕ) (before now after : SourceKnown) (explainer : ExplainerStat
   -- nothing more was taken
   pub same_no_further : after.rest ≡ now.rest → IsExplainNoFurther max before after
   same_no_further kept =
-      let whole : so_far.bytes ++ [] ≡ so_far.bytes = no_more_bytes so_far.bytes in
-      no_further_by max before after so_far.bytes [] within so_far.unsettled
-      (subst (λ bytes. IsTaken before.rest bytes after.rest) (sym whole)
-      (subst (IsTaken before.rest so_far.bytes) (sym kept) so_far.told))
-      (omega arith) (omega (arith, length-append so_far.bytes [], so_far.many, few))
+      let whole : so_far.bytes ++ [] ≡ so_far.bytes = no_more_bytes _ in
+      no_further_by _ _ _ so_far.bytes [] within so_far.unsettled
+      (rw whole (subst (IsTaken _ _) (sym kept) so_far.told)) (omega arith)
+      (omega (arith, length-append so_far.bytes [], so_far.many, few))
 
   module _ (most n : ℕ) (cleared piece : List ℕ) (is_most : most ≡ longest_explained max)
       (empty : cleared ≡ [])
@@ -136,20 +134,8 @@ longest_settled max before now explainer count low so_far longest =
 says_whole : (about : About) (max : ℕ) (before after : SourceKnown) (bytes : List ℕ) → IsLimit max
     → IsTaken before.rest bytes after.rest
     → IsAtEnd after ⊎ (is_settled max bytes ≡ true) → IfSome before.rest (SaysWhole about max bytes)
-says_whole about max before after bytes within told enough =
-    grind (arith, by_rest after.rest (by_end enough))
-  where
-    by_end : IsAtEnd after ⊎ (is_settled max bytes ≡ true) → IfSome after.rest (λ left. left ≡ [])
-        ⊎ (is_settled max bytes ≡ true)
-    by_end (inl ended) = inl ended.none
-    by_end (inr settled) = inr settled
-
-    by_rest : (rest : Option (List ℕ)) → IfSome rest (λ left. left ≡ [])
-        ⊎ (is_settled max bytes ≡ true)
-        → IfSome (option_map (λ left. bytes ++ left) rest) (SaysWhole about max bytes)
-    by_rest None enough = tt
-    by_rest (Some left) (inl none) = grind (arith, no_more_bytes bytes)
-    by_rest (Some left) (inr settled) = search (verdict_lasts, left, settled, text_lasts, arith)
+says_whole about max before after bytes within told enough = search
+    (is_settled, no_more_bytes, verdict_lasts, text_lasts, arith)
 
 -- the answer, of what was taken
 pub explain_answered : (about : About) (max : ℕ) (before after : SourceKnown)
@@ -158,11 +144,5 @@ pub explain_answered : (about : About) (max : ℕ) (before after : SourceKnown)
     → v ≡ log_verdict (limit_of explainer) t.bytes
     → text ≡ explained about (limit_of explainer) t.bytes
     → AnswersExplain about max before.rest status text
-explain_answered about max before after explainer status v text within t status_is verdict_is
-    text_is =
-    grind (
-      arith,
-      t.bytes,
-      says_whole about max before after t.bytes within t.told t.enough,
-      t.limit,
-    )
+explain_answered about max before after explainer status v text e8 t e10 e11 e12 = search
+    (says_whole, arith)

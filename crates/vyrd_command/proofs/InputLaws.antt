@@ -13,29 +13,13 @@ pub whole_input : {A : Type 0} (reading : List ℕ → A) (most : ℕ) (before a
     → ((more : List ℕ) → length bytes ≡ most → reading (bytes ++ more) ≡ reading bytes)
     → IsInputRead most before after bytes
     → IfSome before.rest (λ input. reading bytes ≡ reading input)
-whole_input reading most before after bytes settled is =
-    grind (arith, is.told, by_rest after.rest (by_end is.enough))
-  where
-    by_end : IsAtEnd after ⊎ (length bytes ≡ most) → IfSome after.rest (λ left. left ≡ [])
-        ⊎ (length bytes ≡ most)
-    by_end (inl ended) = inl ended.none
-    by_end (inr all) = inr all
-
-    by_rest : (rest : Option (List ℕ)) → IfSome rest (λ left. left ≡ []) ⊎ (length bytes ≡ most)
-        → IfSome (option_map (λ left. bytes ++ left) rest) (λ input. reading bytes ≡ reading input)
-    by_rest None enough = tt
-    by_rest (Some left) (inl none) = cc (no_more_bytes bytes)
-    by_rest (Some left) (inr all) = sym (settled left all)
+whole_input reading most before after bytes settled is = search (no_more_bytes, arith)
 
 -- what was read of a source was taken of it
 pub input_taken : (most refused status : ℕ) (before after : SourceKnown) (bytes : List ℕ)
     → IsInputRead most before after bytes
     → (length bytes ≡ most → status ≡ refused) → IsInputTaken most refused status before after
-input_taken most refused status before after bytes is long = by_end is.enough
-  where
-    by_end : IsAtEnd after ⊎ (length bytes ≡ most) → IsInputTaken most refused status before after
-    by_end (inl ended) = inl ended
-    by_end (inr all) = inr (long all, (bytes, is.told, all))
+input_taken most refused status before after bytes is long = search arith
 
 -- Bytes that settle what they say, whatever follows, say nothing that has one text.
 pub long_refused : {A E : Type 0} (reading : List ℕ → Result A E) (bytes : List ℕ)
@@ -44,6 +28,5 @@ pub long_refused : {A E : Type 0} (reading : List ℕ → Result A E) (bytes : L
     → ((more : List ℕ) → reading (bytes ++ more) ≡ reading bytes)
     → (a : A) → reading bytes ≡ Ok a → ⊥
 long_refused reading bytes text sound settled a e =
-    let longer : bytes ++ 0 ∷ [] ≡ bytes = sound (bytes ++ 0 ∷ []) a (settled (0 ∷ []) ∙ e)
-    ∙ sym (sound bytes a e) in
+    let longer : bytes ++ 0 ∷ [] ≡ bytes = sound _ a (settled _ ∙ e) ∙ sym (sound _ a e) in
     omega (arith, ap length longer, length-append bytes (0 ∷ []))

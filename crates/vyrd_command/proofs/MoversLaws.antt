@@ -71,12 +71,11 @@ told_is_answered told reading blocks are status text = grind (arith, reading, bl
 pub movers_refused : (bytes : List ℕ) (status : ℕ) (text : List ℕ)
     → IsMoversAnswer (history_reading bytes) status text
     → length bytes ≡ longest_history → status ≡ 10
-movers_refused bytes status text answer long = by_reading (history_reading bytes) refl answer
+movers_refused bytes status text answer long = by_reading (history_reading _) refl answer
   where
     by_reading : (r : Result Recorded Refusal) → history_reading bytes ≡ r
         → IsMoversAnswer r status text → status ≡ 10
     by_reading (Err refusal) e answer = answer.0
     by_reading (Ok r) e answer =
-        absurd (long_refused history_reading bytes history_text
-        (λ bytes r e. (reading_sound bytes r e).text)
-        (λ more. reading_settled bytes more (omega (arith, long))) r e)
+        absurd (long_refused history_reading _ _ (λ bytes r e. (reading_sound bytes r e).text)
+        (λ more. reading_settled _ _ (omega (arith, long))) r e)

@@ -15,26 +15,19 @@ use Rattle.vyrd_command.specs.Moved.{IsMoversAnswer, status_of_blocks}
 use Rattle.vyrd_command.specs.Batches.{IsBatchStatus}
 
 blocks_low : (b : Blocks) → status_of_blocks b ≤ 1
-blocks_low (Reducible blocks) = omega arith
-blocks_low (Broken open_line at_line) = omega arith
+blocks_low b = search arith
 
 pub step_isnt_four : (show : Show) (work : Result Workload Refusal) (status : ℕ) (text : List ℕ)
     → IsStepAnswer show work status text → status ≢ 4
-step_isnt_four show (Err refusal) status text answer four = omega (arith, answer.0, four)
-step_isnt_four show (Ok w) status text (inl run) four = search (four, verdict_low, arith)
-step_isnt_four show (Ok w) status text (inr stuck) four = omega (arith, stuck.status_is, four)
+step_isnt_four show work status text answer = search (verdict_low, arith)
 
 pub run_isnt_four : (show : Show) (work : Result Workload Refusal) (status : ℕ) (text : List ℕ)
     → IsRunAnswer show work status text → status ≢ 4
-run_isnt_four show (Err refusal) status text answer four = omega (arith, answer.0, four)
-run_isnt_four show (Ok w) status text (inl live) four = search (four, verdict_low, arith)
-run_isnt_four show (Ok w) status text (inr spent) four = omega (arith, spent.status_is, four)
+run_isnt_four show work status text answer = search (verdict_low, arith)
 
 pub movers_isnt_four : (read : Result Recorded movers.Refusal) (status : ℕ) (text : List ℕ)
     → IsMoversAnswer read status text → status ≢ 4
-movers_isnt_four (Err refusal) status text answer four = omega (arith, answer.0, four)
-movers_isnt_four (Ok r) status text answer four = search (four, blocks_low, arith)
+movers_isnt_four read status text answer = search (blocks_low, arith)
 
 pub batch_isnt_four : (status : ℕ) → IsBatchStatus status → status ≢ 4
-batch_isnt_four status (inl low) four = omega (arith, low, four)
-batch_isnt_four status (inr eleven) four = omega (arith, eleven, four)
+batch_isnt_four status e1 = search arith

@@ -38,17 +38,15 @@ turned_is_legal w history limits runs = search (run_is_legal, scripts_sound, lim
 pub turned_plays : (w : Workload) (history : List Stamped) → KeepsLimits w
     → RunsTo (work_scripts w) w.turns history
     → PlayToTheEnd (work_scripts w) history
-turned_plays w history limits runs = run_plays w.header (work_scripts w) w.turns history
-    (scripts_sound w limits) runs
+turned_plays w history limits runs = search (run_plays, scripts_sound, arith)
 
 -- a verdict about a legal history of played scripts names no rule except that of races
 pub names_only_races : (w : Workload) (history : List Stamped) (v : Verdict) → KeepsLimits w
     → is_legal (cells_of w.header) history ≡ true
     → PlayToTheEnd (work_scripts w) history → v ≡ verdict (rules_of w.header) [] (log_of history)
     → NamesOnlyRaces v
-names_only_races w history v limits legal played is = λ line rule e.
-    only_races w.header (work_scripts w) history (scripts_sound w limits) legal played line rule
-    (sym is ∙ e)
+names_only_races w history v limits legal played is = λ line rule e. only_races w.header
+    (work_scripts w) history (scripts_sound w limits) legal played line _ (sym is ∙ e)
 
 -- what is known of a run by turns that ends
 pub is_turned : (w : Workload) (history : List Stamped) → KeepsLimits w
@@ -63,8 +61,7 @@ pub is_live : (w : Workload) (history : List Stamped) (v : Verdict) → KeepsLim
     → PlayToTheEnd (work_scripts w) history → AllHadRoom w.header most_events history
     → v ≡ verdict (rules_of w.header) [] (log_of history)
     → IsLiveRun w history v
-is_live w history v limits legal parts room is =
-    search (limits, parts, room, names_only_races, arith)
+is_live w history v limits legal parts room is = search (names_only_races, arith)
 
 -- what was read of an input says what the whole input says
 pub reading_is_input : (before after : SourceKnown) (bytes : List ℕ)
@@ -103,5 +100,4 @@ run_refused show bytes status text answer long = by_reading (work_reading bytes)
 -- what is said where there is a value
 pub of_match : {A : Type 0} (P : Type 0) (Q : A → Type 0) (o : Option A) (x : A) → o ≡ Some x
     → MatchOption o P Q → Q x
-of_match P Q None x e m = cc
-of_match P Q (Some y) x e m = let same : y ≡ x = cc in subst Q same m
+of_match P Q o x e m = search arith

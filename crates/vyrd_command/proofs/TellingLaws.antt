@@ -33,15 +33,10 @@ pub tells_run : (show : Show) (w : Workload) (a : AccountView) (words : List ℕ
     → TellsRun show w status text
 tells_run show w a words status text limits run charter shows status_is text_is = record {
   history = run.history;
-  verdict = verdict (rules_of w.header) [] (log_of run.history);
-  turned = is_turned w run.history limits run.runs;
-  status_is = status_is ∙ ap (λ k. status_of (verdict (rules_by k) [] (log_of run.history)))
-      charter;
-  text_is = text_is
-      ∙ ap (λ k. run_text a.show (rules_by k).header run.history
-      (verdict (rules_by k) [] (log_of run.history))) charter
-      ∙ ap (λ show. run_text show w.header run.history
-      (verdict (rules_of w.header) [] (log_of run.history))) shows;
+  verdict = verdict _ [] _;
+  turned = is_turned w _ limits run.runs;
+  status_is = cc;
+  text_is = cc;
 }
 
 pub counts_run : (n : ℕ) (w : Workload) (a : AccountView) (words : List ℕ) (status : ℕ)
@@ -54,13 +49,10 @@ pub counts_run : (n : ℕ) (w : Workload) (a : AccountView) (words : List ℕ) (
     → CountsRun n w status text
 counts_run n w a words status text limits run charter status_is text_is = record {
   history = run.history;
-  verdict = verdict (rules_of w.header) [] (log_of run.history);
-  turned = is_turned w run.history limits run.runs;
-  status_is = status_is ∙ ap (λ k. status_of (verdict (rules_by k) [] (log_of run.history)))
-      charter;
-  text_is = text_is
-      ∙ ap (λ k. generated_line n (length run.history)
-      ++ verdict_text (verdict (rules_by k) [] (log_of run.history))) charter;
+  verdict = verdict _ [] _;
+  turned = is_turned w _ limits run.runs;
+  status_is = cc;
+  text_is = cc;
 }
 
 pub tells_live : (show : Show) (w : Workload) (a : AccountView) (words : List ℕ) (status : ℕ)
@@ -73,14 +65,9 @@ pub tells_live : (show : Show) (w : Workload) (a : AccountView) (words : List �
     → TellsLive show w status text
 tells_live show w a words status text limits run charter shows status_is text_is = record {
   history = run.history;
-  verdict = verdict (rules_of w.header) [] (log_of run.history);
-  live = is_live w run.history (verdict (rules_of w.header) [] (log_of run.history)) limits
+  verdict = verdict (rules_of _) [] (log_of _);
+  live = is_live w _ _ limits
       run.legal run.played.0 run.played.1 refl;
-  status_is = status_is ∙ ap (λ k. status_of (verdict (rules_by k) [] (log_of run.history)))
-      charter;
-  text_is = text_is
-      ∙ ap (λ k. run_text a.show (rules_by k).header run.history
-      (verdict (rules_by k) [] (log_of run.history))) charter
-      ∙ ap (λ show. run_text show w.header run.history
-      (verdict (rules_of w.header) [] (log_of run.history))) shows;
+  status_is = cc;
+  text_is = cc;
 }

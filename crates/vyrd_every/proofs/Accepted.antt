@@ -62,9 +62,7 @@ place_adds : (h : Header) (states : List State) (place : Place Entry) (rest : Li
     → first_answer (violation_at (rules_of h) [] states) rest ≡ None
     → first_answer (violation_at (rules_of h) [] states) (place ∷ rest) ≡ None
 unfolding fault_at
-place_adds h states place rest right later =
-    ap (λ o. option_or (option_map (Violation (line_of [] (position_of place))) o)
-    (first_answer (violation_at (rules_of h) [] states) rest)) right ∙ later
+place_adds h states place rest right later = cc
 
 -- an entry that neither commits nor returns
 plain_place : (h : Header) (passed : List Amounts) (state next : Amounts) (log logs : List Entry)
@@ -74,11 +72,7 @@ plain_place : (h : Header) (passed : List Amounts) (state next : Amounts) (log l
     → commits_after log (e ∷ logs) ≡ commits_after (e ∷ log) logs → next ≡ state
     → FaultFrom h passed next (e ∷ log) logs → FaultFrom h passed state log (e ∷ logs)
 plain_place h passed state next log logs e right same unchanged later =
-    place_adds h (states_with h passed state (commits_after log (e ∷ logs)))
-    (record { earlier = log; here = e; later = logs }) (places_after (e ∷ log) logs)
-    (right (states_with h passed state (commits_after log (e ∷ logs))))
-    (rw same
-    (rw (← unchanged) later))
+    place_adds h _ _ _ (right _) (rw same (rw (← unchanged) later))
 
 commit_place : (h : Header) → h.version ≡ 1 → (passed : List Amounts) (state next : Amounts)
     (log logs : List Entry) (e : Entry) (rest : Script)
@@ -95,18 +89,14 @@ commit_place : (h : Header) → h.version ≡ 1 → (passed : List Amounts) (sta
     (e ∷ logs)
 commit_place h one passed state next log logs e rest kind_is goes_on wf m count coming committing
     later =
-    place_adds h (states_with h passed state (commits_after log (e ∷ logs))) place
-    (places_after (e ∷ log) logs)
-    (kind_is (states_with h passed state (commits_after log (e ∷ logs)))
-    ∙ ap (λ states. fault_of_commit (rules_of h) [] states place)
-    (states_begin h passed state (commits_after log (e ∷ logs)))
-    ∙ commit_is_right h one passed (later_states h state (commits_after log (e ∷ logs))) state next
-    place committing.called committing.reply wf m count
-    committing.is_called (coming committing.reply committing.returns) committing.allowed)
-    (rw (ap (states_with h passed state) goes_on ∙ state_goes_on h passed state next (committed_at
-    place) (commits_after (e ∷ log) logs) committing.called committing.reply
-    committing.is_called (coming committing.reply committing.returns) committing.allowed)
-    later)
+    place_adds h _ _ _ (kind_is _ ∙ ap (λ states. fault_of_commit (rules_of h) [] states place)
+    (states_begin h passed state (commits_after log (e ∷ logs))) ∙ commit_is_right h one passed
+    (later_states h state (commits_after log (e ∷ logs))) state _ place committing.called
+    committing.reply wf m count committing.is_called (coming _ committing.returns)
+    committing.allowed)
+    (rw (ap (states_with h passed state) goes_on ∙ state_goes_on h passed state next
+    (committed_at place) (commits_after (e ∷ log) logs) committing.called committing.reply
+    committing.is_called (coming committing.reply committing.returns) committing.allowed) later)
   where
     place : Place Entry
     place = record { earlier = log; here = e; later = logs }
@@ -123,53 +113,42 @@ event_place : (h : Header) → h.version ≡ 1 → (c : ℕ) (did : Did) (passed
     → FaultFrom h (passed_after did passed state) next (cons_option (logged c did) log) logs
     → FaultFrom h passed state log (cons_option (logged c did) logs)
 event_place h one c (Read cell value) passed state next log logs rest wf m count coming leading
-    returning later =
-    subst (λ s. FaultFrom h passed s log logs) leading later
+    returning later = rw (← leading) later
 event_place h one c (Took lock) passed state next log logs rest wf m count coming leading returning
-    later =
-    subst (λ s. FaultFrom h passed s log logs) leading later
+    later = rw (← leading) later
 event_place h one c (Gave lock) passed state next log logs rest wf m count coming leading returning
-    later =
-    subst (λ s. FaultFrom h passed s log logs) leading later
+    later = rw (← leading) later
 event_place h one c (Wrote cell value) passed state next log logs rest wf m count coming leading
-    returning later =
-    plain_place h passed state next log logs (entry c (Write cell value)) (λ states. refl) refl
+    returning later = plain_place h passed state next log logs (entry c _) (λ states. refl) refl
     leading later
 event_place h one c (Marked (Call method args)) passed state next log logs rest wf m count coming
-    leading returning later =
-    plain_place h passed state next log logs (entry c (Call method args)) (λ states. refl) refl
-    leading later
+    leading returning later = plain_place h passed state next log logs (entry c _)
+    (λ states. refl) refl leading later
 event_place h one c (Marked (Return reply)) passed state next log logs rest wf m count coming
-    leading returning later =
-    place_adds h (states_with h passed state (commits_after log (entry c (Return reply) ∷ logs)))
-    (record { earlier = log; here = entry c (Return reply); later = logs })
-    (places_after (entry c (Return reply) ∷ log) logs)
-    (ap (λ states. return_fault (rules_of h) states c log reply)
-    (states_begin h passed state (commits_after log (entry c (Return reply) ∷ logs)))
-    ∙ return_is_right h (first_version_built_in h one) passed
-    (later_states h state (commits_after log (entry c (Return reply) ∷ logs))) state c log reply
-    count
-    wf.1 wf.0 returning)
-    (subst (λ s. FaultFrom h passed s (entry c (Return reply) ∷ log) logs) leading later)
+    leading returning later = place_adds h _
+    (record { earlier = log; here = entry c (Return reply); later = logs }) _
+    (cc (
+      states_begin h passed state
+          (commits_after log (entry c (Return reply) ∷ logs)),
+      return_is_right h (first_version_built_in h one) passed
+          (later_states h state (commits_after log (entry c (Return reply) ∷ logs))) state c log
+          reply count wf.1 wf.0 returning,
+    )) (rw (← leading) later)
 event_place h one c (Marked (Write word value)) passed state next log logs rest wf m count coming
-    leading returning later =
-    plain_place h passed state next log logs (entry c (Write word value)) (λ states. refl) refl
-    leading later
+    leading returning later = plain_place h passed state next log logs (entry c _)
+    (λ states. refl) refl leading later
 event_place h one c (Marked BlockOpen) passed state next log logs rest wf m count coming leading
-    returning later =
-    plain_place h passed state next log logs (entry c BlockOpen) (λ states. refl) refl leading later
+    returning later = plain_place h passed state next log logs (entry c _) (λ states. refl) refl
+    leading later
 event_place h one c (Marked BlockClose) passed state next log logs rest wf m count coming leading
-    returning later =
-    plain_place h passed state next log logs (entry c BlockClose) (λ states. refl) refl leading
-    later
+    returning later = plain_place h passed state next log logs (entry c _) (λ states. refl) refl
+    leading later
 event_place h one c (Marked Commit) passed state next log logs rest wf m count coming leading
-    returning later =
-    commit_place h one passed state next log logs (entry c Commit) rest (λ states. refl) refl wf m
-    count (coming refl) leading later
+    returning later = commit_place h one _ _ _ _ _ _ rest (λ states. refl) refl wf m count
+    (coming refl) leading later
 event_place h one c (Marked BlockCommit) passed state next log logs rest wf m count coming leading
-    returning later =
-    commit_place h one passed state next log logs (entry c BlockCommit) rest (λ states. refl) refl
-    wf m count (coming refl) leading later
+    returning later = commit_place h one _ _ _ _ _ _ rest (λ states. refl) refl wf m count
+    (coming refl) leading later
 
 -- a commit is answered by 0
 zero_answer : (did : Did) → commits_now did ≡ true → answer_of did ≡ 0
@@ -263,16 +242,7 @@ by_parts : (h : Header) (entries : List Entry) → first_fault (rules_of h) [] (
     ≡ accepted entries
 unfolding verdict shape_verdict
 by_parts h entries fault broken closed =
-    ap (λ o. unwrap_or (option_or o (end_verdict (rules_of h) [] entries)) (accepted entries))
-    (verdict_so_far-none h entries)
-    ∙ ap (λ o. unwrap_or
-    (option_or (option_or (first_fault (rules_of h) [] (front h entries))
-    (shape_verdict h [] entries)) o) (accepted entries))
-    (end_verdict-none h entries)
-    ∙ (λ i. unwrap_or
-    (option_or (option_or (fault i) (option_map (Malformed (line_of [] (length (front h entries))))
-    (broken i)))
-    (then_some (closed i) (Malformed (line_of [] (length entries)) CallOpen))) (accepted entries))
+    cc (verdict_so_far-none h entries, end_verdict-none h entries)
 
 -- no execution is open at the end
 pub none_open_at_end : (h : Header) (scripts : List Script) (k : Keeping h scripts)
@@ -289,7 +259,6 @@ pub is_accepted : (h : Header) → h.version ≡ 1 → (scripts : List Script) (
     → PlayToTheEnd scripts history → verdict (rules_of h) [] (log_of history)
     ≡ accepted (log_of history)
 is_accepted h one scripts k history legal played =
-    let run : IsRun h scripts (newest_first history) = whole_run h scripts history legal played in
-    by_parts h (log_of history) (no_fault h one scripts k history run (λ c low. (played c).done))
-    (no_break h scripts k history run)
-    (none_open_at_end h scripts k history legal played)
+    let run : IsRun h scripts (newest_first history) = whole_run h _ history legal played in
+    by_parts h _ (no_fault h one _ k _ run (λ c low. (played c).done)) (no_break h _ k _ run)
+    (none_open_at_end h _ k _ legal played)

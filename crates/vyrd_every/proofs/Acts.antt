@@ -52,12 +52,8 @@ pub load_right : (S : Structure) (s : Situation) (k : Locals) (shown : Memory) (
     (rest : ℕ → Script) → Access S s cell → s.in_block ≡ false
     → ((now : Memory) → Rely S s k shown now → DoesRight S s k now (rest (shown cell)))
     → DoesRight S s k shown (step (Load cell) rest)
-load_right S s k shown cell rest access out later = (
-  k,
-  quiet S s k shown (Load cell) (rest 0) k refl refl (access, out) (λ state m. m) refl refl
-      refl,
-  later,
-)
+load_right S s k shown cell rest access out later =
+    (k, quiet S s k _ _ _ k refl refl (access, out) (λ state m. m) refl refl refl, later)
 
 pub take_right : (S : Structure) (s : Situation) (k : Locals) (shown : Memory) (lock : ℕ)
     (later : Script)
@@ -73,12 +69,8 @@ pub give_right : (S : Structure) (s : Situation) (k : Locals) (shown : Memory) (
     → ((now : Memory) → Rely S (after_act s (Give lock)) k shown now
     → DoesRight S (after_act s (Give lock)) k now later)
     → DoesRight S s k shown (perform (Give lock) later)
-give_right S s k shown lock later out rest = (
-  k,
-  quiet S s k shown (Give lock) later k refl refl out (λ state m. m) refl refl
-      (inl refl),
-  rest,
-)
+give_right S s k shown lock later out rest =
+    (k, quiet S s k _ _ _ k refl refl out (λ state m. m) refl refl (inl refl), rest)
 
 -- what a caller is in the middle of
 abbrev pub at : List ℕ → Bool → Bool → Called → Situation
@@ -136,12 +128,8 @@ pub lone_commit_right : (S : Structure) (locks : List ℕ) (k : Locals) (shown :
     → ((now : Memory) → Rely S (at locks true false called) k shown now
     → DoesRight S (at locks true false called) k now later)
     → DoesRight S (at locks false false called) k shown (perform (Mark Commit) later)
-lone_commit_right S locks k shown called later leads rest = (
-  k,
-  quiet S (at locks false false called) k shown (Mark Commit) later k refl refl tt leads refl
-      refl refl,
-  rest,
-)
+lone_commit_right S locks k shown called later leads rest =
+    (k, quiet S _ k _ _ _ k refl refl _ leads refl refl refl, rest)
 
 -- a block is opened
 pub open_right : (S : Structure) (locks : List ℕ) (k : Locals) (shown : Memory) (called : Called)
@@ -152,10 +140,9 @@ pub open_right : (S : Structure) (locks : List ℕ) (k : Locals) (shown : Memory
     (record { owned = k.owned; pending = []; called = k.called; answered = k.answered }) now later)
     → DoesRight S (at locks false false called) k shown (perform (Mark BlockOpen) later)
 open_right S locks k shown called later rest = (
-  record { owned = k.owned; pending = []; called = k.called; answered = k.answered },
-  quiet S (at locks false false called) k shown (Mark BlockOpen) later
-      (record { owned = k.owned; pending = []; called = k.called; answered = k.answered })
-      refl refl tt (λ state m. m) refl refl refl,
+  record k { pending = [] },
+  quiet S _ k _ _ _ (record k { pending = [] }) refl refl _
+      (λ state m. m) refl refl refl,
   rest,
 )
 
@@ -181,9 +168,8 @@ pub block_store_right : (S : Structure) (locks : List ℕ) (k : Locals) (shown :
     → DoesRight S (at locks false true called) k shown (perform (Store cell value) later)
 block_store_right S locks k shown called cell value later access rest = (
   record k { pending = (cell, value) ∷ k.pending },
-  quiet S (at locks false true called) k shown (Store cell value) later
-      (record k { pending = (cell, value) ∷ k.pending })
-      refl refl access (λ state m. m) refl refl refl,
+  quiet S _ k _ _ _ _ refl refl access
+      (λ state m. m) refl refl refl,
   rest,
 )
 
@@ -245,8 +231,7 @@ pub answer_right : (S : Structure) (k : Locals) (shown : Memory) (lock : ℕ) (c
     → DoesRight S (at (lock ∷ []) false false called) k shown (perform (Give lock) (returns reply))
 answer_right S k shown lock called reply none is seen = (
   answered,
-  quiet S (at (lock ∷ []) false false called) k shown (Give lock) (returns reply) answered
-      refl refl refl (λ state m. m) refl refl
+  quiet S _ k _ _ _ _ refl refl refl (λ state m. m) refl refl
       (inr (record { called = called; is_called = is; reply = reply; answer = refl; seen = seen })),
   λ then_ rely. rw (gone lock [])
       (returns_right S answered then_ false called reply none (λ c is' observes. refl)),

@@ -83,8 +83,7 @@ pub answer_last : (passed : List Amounts) (state : Amounts) (n : ℕ) (called : 
 answer_last [] state zero called reply low e = search (same_number, arith)
 answer_last [] state (suc n) called reply low e = absurd (omega (arith, low))
 answer_last (x ∷ passed) state zero called reply low e =
-    by_test (answer_in x called.method called.args == reply)
-    (answer_last passed state zero called reply (omega arith) e)
+    by_test (answer_in x _ _ == reply) (answer_last passed state zero called reply (omega arith) e)
   where
     by_test : (b : Bool) → has_answer (passed ++ state ∷ []) 0 called reply ≡ true
         → (b || has_answer (passed ++ state ∷ []) 0 called reply) ≡ true

@@ -51,8 +51,7 @@ after_act_of : (reply : ℕ) (did : Did) (script : Script) → WillReturn reply 
     ⊎ ((reply_of did ≡ None) × WillReturn reply (after_answer script (answer_of did)))
 after_act_of reply did stop will e is = absurd will
 after_act_of reply did (step act rest) will e is =
-    after_event reply did rest
-    (subst (λ a. WillReturn reply (step a rest)) (event_act act did e) will) is
+    after_event _ _ rest (rw (← event_act act did e) will) is
 
 -- what the log says of the reply after one more event
 own_reply : (c : ℕ) (did : Did) (log : List Entry) → next_reply c (cons_option (logged c did) log)

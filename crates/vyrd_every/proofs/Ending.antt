@@ -52,17 +52,14 @@ Fewer n = (P : List Script → Type 0) → ((ls : List Script) → length ls ≡
 first_fewer : (n : ℕ) → Fewer n → (P : List Script → Type 0)
     → ((ls : List Script) → length ls ≡ suc n → Steps (suc n) P ls → P ls)
     → (s : Script) (ls : List Script) → length ls ≡ n → P (s ∷ ls)
-first_fewer n others P more stop = others (λ xs. P (stop ∷ xs))
-    (λ xs f later. more (stop ∷ xs) (omega (arith, f))
-    (λ c answer. by_number
-    (λ d. d < suc n → next_act (at (stop ∷ xs) d) ≢ Done
+first_fewer n others P more stop = others _
+    (λ xs f later. more _ (omega (arith, f))
+    (λ c answer. by_number (λ d. d < suc n → next_act (at (stop ∷ xs) d) ≢ Done
     → P (put (stop ∷ xs) d (after_answer (at (stop ∷ xs) d) answer)))
     (λ low goes. absurd (goes refl)) (λ d low goes. later d answer (omega (arith, low)) goes) c))
 first_fewer n others P more (step act rest) =
-    others (λ xs. P (step act rest ∷ xs))
-    (λ xs f later. more (step act rest ∷ xs) (omega (arith, f))
-    (λ c answer. by_number
-    (λ d. d < suc n → next_act (at (step act rest ∷ xs) d) ≢ Done
+    others _ (λ xs f later. more _ (omega (arith, f))
+    (λ c answer. by_number (λ d. d < suc n → next_act (at (step act rest ∷ xs) d) ≢ Done
     → P (put (step act rest ∷ xs) d (after_answer (at (step act rest ∷ xs) d) answer)))
     (λ low goes. first_fewer n others P more (rest answer) xs f)
     (λ d low goes. later d answer (omega (arith, low)) goes) c))
@@ -188,17 +185,13 @@ halts_on scripts ls earlier are later = turns
 halts : (scripts ls : List Script) → length ls ≡ length scripts → (earlier : List Stamped)
     → AreLeft scripts earlier ls
     → (cs : List ℕ) → Halts scripts (after_turns scripts cs earlier)
-halts scripts =
-    fewer (length scripts) (λ ls. (earlier : List Stamped) → AreLeft scripts earlier ls
-    → (cs : List ℕ) → Halts scripts (after_turns scripts cs earlier))
-    (λ ls same one earlier are. halts_on scripts ls earlier are
-    (λ c did cs e.
-    let goes : next_act (at ls c) ≢ Done = λ done. acts_on earlier (act_of scripts c earlier) did e
+halts scripts = fewer _ _ (λ ls same one earlier are. halts_on _ ls _ are (λ c did cs e.
+    let goes : next_act (at ls c) ≢ Done = λ done. acts_on earlier (act_of _ c _) _ e
     (ap next_act (are c) ∙ done) in
-    let low : c < length ls = has_place ls c goes in
+    let low : c < length ls = has_place _ c goes in
     one c (answer_of did) (omega (arith, low, same)) goes
-    (record { number = length earlier; caller = c; did = did } ∷ earlier)
-    (less_left scripts earlier ls (length earlier) c did low are) cs))
+    (record { number = length _; caller = c; did = did } ∷ earlier)
+    (less_left _ _ _ (length earlier) c _ low are) cs))
 
 -- at the start all of each script is left
 all_left : (scripts : List Script) (c : ℕ) → script_of scripts c ≡ at scripts c

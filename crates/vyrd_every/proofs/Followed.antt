@@ -68,12 +68,11 @@ follows_leads S k Done rest later now state leads = leads
 follows_leads S k (Mark (Call method args)) rest later now state leads = leads
 follows_leads S k (Mark (Return reply)) rest later now state leads = leads
 follows_leads S k (Mark (Write word value)) rest later now state leads = leads
-follows_leads S k (Mark Commit) rest later now state leads = follows_commit S k rest later now state
-    leads
+follows_leads S k (Mark Commit) rest later now state leads = follows_commit S k rest later _ _ leads
 follows_leads S k (Mark BlockOpen) rest later now state leads = leads
 follows_leads S k (Mark BlockClose) rest later now state leads = leads
-follows_leads S k (Mark BlockCommit) rest later now state leads = follows_commit S k rest later now
-    state leads
+follows_leads S k (Mark BlockCommit) rest later now state leads = follows_commit S k rest later _ _
+    leads
 
 follows_does : (S : Structure) (s : Situation) (k : Locals) (shown : Memory) (act : Act)
     (rest later : Script) (next : Locals)
@@ -95,14 +94,13 @@ followed_right : (S : Structure) (s : Situation) (k : Locals) (shown : Memory)
     (script later : Script)
     → ((k' : Locals) (now : Memory) → Rests at_rest k' → DoesRight S at_rest k' now later)
     → DoesRight S s k shown script → DoesRight S s k shown (followed_by script later)
-followed_right S s k shown stop later then_ right =
-    subst (λ s. DoesRight S s k shown later) (sym right.rests)
+followed_right S s k shown stop later then_ right = rw right.rests
     (then_ k shown (record { rests = refl; owned = right.owned; called = right.called }))
 followed_right S s k shown (step act rest) later then_ right = (
   right.0,
-  follows_does S s k shown act (rest 0) later right.0 right.1,
-  λ now rely. followed_right S (after_act s act) right.0 now (rest (answer_at shown act)) later
-      then_ (right.2 now rely),
+  follows_does S s k _ _ (rest 0) later _ right.1,
+  λ now rely. followed_right S
+      (after_act s _) right.0 now (rest _) later then_ (right.2 _ rely),
 )
 
 -- operations one after the other do right, where the caller is at rest
@@ -114,20 +112,16 @@ pub operations_right : (S : Structure) (procedure : Op → Script) (ops : List O
 operations_right S procedure [] k shown each callable rests = rests
 operations_right S procedure (op ∷ ops) k shown each callable rests = (
   begun,
-  quiet S at_rest k shown (Mark (Call op.method op.args))
-      (followed_by (procedure op) (operations procedure ops)) begun
-      refl refl tt (λ state m. m) refl refl refl,
+  quiet S _ k _ _ _ _ refl refl _ (λ state m. m) refl refl refl,
   λ now rely.
-      followed_right S (just_called op.method) begun now (procedure op) (operations procedure ops)
+      followed_right S (just_called _) begun now (procedure _) (operations _ _)
       (λ k' then_ rests'. operations_right S procedure ops k' then_ each
-      (second_true (is_callable S.header op) (are_callable S.header ops) callable) rests')
-      (each op (first_true (is_callable S.header op) (are_callable S.header ops) callable) begun now
-      rests.owned refl),
+      (second_true (is_callable S.header op) _ callable) rests')
+      (each _ (first_true _ (are_callable S.header ops) callable) _ _ rests.owned refl),
 )
   where
     begun : Locals
     begun = record k {
       called = Some (record { method = op.method; args = op.args });
-      answered =
-          None;
+      answered = None;
     }

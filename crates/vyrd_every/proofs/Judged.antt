@@ -50,11 +50,10 @@ pub commit_is_right : (h : Header) → h.version ≡ 1 → (passed : List Amount
     → next_state called.method called.args reply state ≡ Some next
     → fault_of_commit (rules_of h) [] (map showing passed ++ showing state ∷ later) place ≡ None
 commit_is_right h one passed later state next place called reply wf shows count call returns
-    allowed =
-    cc (
+    allowed = cc (
       state_here passed later state (commit_count place.earlier) count,
-      first_words_at h place one
-          wf,
+      first_words_at h
+          place one wf,
       no_difference next,
     )
 

@@ -61,10 +61,8 @@ shown_step S c (Marked (Return reply)) s k log block pending reaches = refl
 shown_step S c (Marked (Write word value)) s k log block pending reaches = absurd reaches
 shown_step S c (Marked Commit) s k log block pending reaches = refl
 shown_step S c (Marked BlockOpen) s k log block pending reaches = refl
-shown_step S c (Marked BlockClose) s k log block pending reaches =
-    cc (more (block_writes c log) (old_effects log))
-shown_step S c (Marked BlockCommit) s k log block pending reaches =
-    cc (more (block_writes c log) (old_effects log))
+shown_step S c (Marked BlockClose) s k log block pending reaches = search (more, arith)
+shown_step S c (Marked BlockCommit) s k log block pending reaches = search (more, arith)
 
 -- the writes since the last open
 pub pending_step : (c : ℕ) (did : Did) (log : List Entry)

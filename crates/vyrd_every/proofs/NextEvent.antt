@@ -115,12 +115,11 @@ free_word S scripts earlier locals passed state c d cell is sound run holds low_
   where
     by_test : (b : Bool) → holds_word d cell (log_in earlier) ≡ b → b ≡ false
     by_test true e =
-        let same : c ≡ d =
-        one_holder S c d earlier cell is run.legal
+        let same : c ≡ d = one_holder S c d earlier cell is run.legal
         (run_keeps S.header scripts earlier c sound run low_c)
         (run_keeps S.header scripts earlier d sound run low_d) access
         ((holds.each d low_d).covers cell e) in
-        absurd (never apart (subst (λ x. (x == c) ≡ true) same (same_number c)))
+        absurd (never apart (rw (← same) (same_number c)))
     by_test false e = refl
 
 -- what a load finds is what the log shows
@@ -133,13 +132,9 @@ found_in : (S : Structure) (scripts : List Script) (earlier : List Stamped) (loc
     → Reaches S (situation_after (part_of c earlier)) (act_of_event did) → answer_of did
     ≡ answer_at (shown_by (log_in earlier)) (act_of_event did)
 found_in S scripts earlier locals passed state c (Read cell value) is sound run holds low may agree
-    reaches =
-    same_of value (value_in earlier cell)
-    (second_true (is_plain (cells_of S.header) cell) (value == value_in earlier cell) may)
+    reaches = same_of _ _ (second_true (is_plain (cells_of S.header) _) _ may)
     ∙ raw_is_shown S earlier cell is run.legal holds.kept reaches.0.low
-    (λ d low_d. by_same d c
-    (λ same. subst (λ x. holds_word x cell (log_in earlier) ≡ false) (sym same)
-    (ap (λ b. b && wrote c cell (log_in earlier)) (agree.in_block ∙ reaches.1)))
+    (λ d low_d. by_same d c (λ same. rw same (cc (agree.in_block, reaches.1)))
     (λ apart. free_word S scripts earlier locals passed state c d cell is sound run holds low low_d
     apart reaches.0))
 found_in S scripts earlier locals passed state c (Wrote cell value) is sound run holds low may agree
@@ -177,21 +172,18 @@ kept_step S scripts earlier locals passed state c (Gave lock) is sound run holds
     reaches = holds.kept
 kept_step S scripts earlier locals passed state c (Wrote cell value) is sound run holds low may
     agree reaches = (
-      write_unraced S.header c cell value (log_in earlier) is.version holds.kept
-          (held_by_none S.header c cell (log_in earlier) (λ d low_d apart.
-          free_word S scripts earlier locals passed state c d cell is sound run holds low low_d
-          apart
-          reaches))
-          (write_kept S.header c cell value (situation_after (part_of c earlier))
-          (log_in earlier) low
-          may agree),
+      write_unraced S.header c cell value _ is.version holds.kept
+          (held_by_none S.header c _ _
+          (λ d low_d apart. free_word S scripts earlier locals passed state c d cell is sound run
+          holds low low_d apart reaches))
+          (write_kept S.header c cell value (situation_after (part_of c _)) _ low may agree),
       holds.kept,
     )
 kept_step S scripts earlier locals passed state c (Marked kind) is sound run holds low may agree
     reaches = (
       mark_unraced S.header c kind (log_in earlier)
-          (no_write S (situation_after (part_of c earlier)) kind reaches)
-          (mark_kept S.header c kind (situation_after (part_of c earlier)) (log_in earlier) low may
+          (no_write S (situation_after (part_of c earlier)) _ reaches)
+          (mark_kept S.header c kind (situation_after (part_of c _)) (log_in earlier) low may
           agree),
       holds.kept,
     )
@@ -220,28 +212,27 @@ event_leads : (S : Structure) (s : Situation) (k next : Locals) (c : ℕ) (did :
     → (after : Amounts) × S.Represents (shown_after s k shown (act_of_event did)) after
     × Leading c did log rest state after
 event_leads S s k next c (Read cell value) log shown rest state called does m =
-    (state, does.leads state m, refl)
+    (state, does.leads _ m, refl)
 event_leads S s k next c (Wrote cell value) log shown rest state called does m =
-    (state, does.leads state m, refl)
+    (state, does.leads _ m, refl)
 event_leads S s k next c (Took lock) log shown rest state called does m =
-    (state, does.leads state m, refl)
+    (state, does.leads _ m, refl)
 event_leads S s k next c (Gave lock) log shown rest state called does m =
-    (state, does.leads state m, refl)
+    (state, does.leads _ m, refl)
 event_leads S s k next c (Marked (Call method args)) log shown rest state called does m =
-    (state, does.leads state m, refl)
+    (state, does.leads _ m, refl)
 event_leads S s k next c (Marked (Return reply)) log shown rest state called does m =
-    (state, does.leads state m, refl)
+    (state, does.leads _ m, refl)
 event_leads S s k next c (Marked (Write word value)) log shown rest state called does m =
-    (state, does.leads state m, refl)
+    (state, does.leads _ m, refl)
 event_leads S s k next c (Marked Commit) log shown rest state called does m =
-    commit_leads S k c log rest shown state called (does.leads state m)
+    commit_leads S k c _ _ _ _ called (does.leads _ m)
 event_leads S s k next c (Marked BlockOpen) log shown rest state called does m =
-    (state, does.leads state m, refl)
+    (state, does.leads _ m, refl)
 event_leads S s k next c (Marked BlockClose) log shown rest state called does m =
-    (state, does.leads state m, refl)
+    (state, does.leads _ m, refl)
 event_leads S s k next c (Marked BlockCommit) log shown rest state called does m =
-    commit_leads S k c log rest (shown_after s k shown (Mark BlockCommit)) state called
-    (does.leads state m)
+    commit_leads S k c _ _ _ _ called (does.leads _ m)
 
 -- the states along the log grow at their end
 path_same : (passed : List Amounts) (state next : Amounts) → next ≡ state → passed ++ next ∷ []
@@ -252,23 +243,18 @@ pub path_grows : (c : ℕ) (did : Did) (log : List Entry) (rest : Script) (passe
     (state next : Amounts) → Leading c did log rest state next
     → passed_after did passed state ++ next ∷ [] ≡ (passed ++ state ∷ []) ++ cond (commits_now did)
     (next ∷ []) []
-path_grows c (Read cell value) log rest passed state next leading = path_same passed state next
-    leading
-path_grows c (Wrote cell value) log rest passed state next leading = path_same passed state next
-    leading
-path_grows c (Took lock) log rest passed state next leading = path_same passed state next leading
-path_grows c (Gave lock) log rest passed state next leading = path_same passed state next leading
+path_grows c (Read cell value) log rest passed state next leading = path_same _ _ _ leading
+path_grows c (Wrote cell value) log rest passed state next leading = path_same _ _ _ leading
+path_grows c (Took lock) log rest passed state next leading = path_same _ _ _ leading
+path_grows c (Gave lock) log rest passed state next leading = path_same _ _ _ leading
 path_grows c (Marked (Call method args)) log rest passed state next leading =
-    path_same passed state next leading
-path_grows c (Marked (Return reply)) log rest passed state next leading =
-    path_same passed state next leading
+    path_same _ _ _ leading
+path_grows c (Marked (Return reply)) log rest passed state next leading = path_same _ _ _ leading
 path_grows c (Marked (Write word value)) log rest passed state next leading =
-    path_same passed state next leading
+    path_same _ _ _ leading
 path_grows c (Marked Commit) log rest passed state next leading = refl
-path_grows c (Marked BlockOpen) log rest passed state next leading = path_same passed state next
-    leading
-path_grows c (Marked BlockClose) log rest passed state next leading = path_same passed state next
-    leading
+path_grows c (Marked BlockOpen) log rest passed state next leading = path_same _ _ _ leading
+path_grows c (Marked BlockClose) log rest passed state next leading = path_same _ _ _ leading
 path_grows c (Marked BlockCommit) log rest passed state next leading = refl
 
 -- what a caller knows of the answer, with these states since the call
@@ -319,19 +305,14 @@ seen_own S c (Gave lock) k next log shown passed more state answers called m cou
         let one : sees.reply ≡ reply = same_Some sees.reply reply (sym sees.answer ∙ answer) in
         answer_more (passed ++ state ∷ []) more (commit_count (entries_before_call c log)) its reply
         (answer_last passed state (commit_count (entries_before_call c log)) its reply
-        (subst (λ n. commit_count (entries_before_call c log) ≤ n) (sym count)
-        (commits_before_call c log))
-        (subst (λ x. answer_in state x.method x.args ≡ reply) call (sees.seen state m ∙ one)))
+        (rw count (commits_before_call c log)) (rw (← call) (sees.seen state m ∙ one)))
 seen_own S c (Marked (Call method args)) k next log shown passed more state answers called m count
-    seen =
-    λ its is reply answer. absurd (no_reply next.answered reply answers answer)
+    seen = λ its is reply answer. absurd (no_reply next.answered reply answers answer)
 seen_own S c (Marked (Return other)) k next log shown passed more state answers called m count
-    seen =
-    λ its is reply answer. absurd (no_reply next.answered reply answers.0 answer)
+    seen = λ its is reply answer. absurd (no_reply next.answered reply answers.0 answer)
 seen_own S c (Marked (Write word value)) k next log shown passed more state answers called m count
-    seen =
-    seen_quiet c (Marked (Write word value)) k next log (passed ++ state ∷ []) more refl called
-    answers seen
+    seen = seen_quiet c (Marked (Write word value)) k next log (passed ++ state ∷ []) more refl
+    called answers seen
 seen_own S c (Marked Commit) k next log shown passed more state answers called m count seen =
     seen_quiet c (Marked Commit) k next log (passed ++ state ∷ []) more refl called answers seen
 seen_own S c (Marked BlockOpen) k next log shown passed more state answers called m count seen =
@@ -347,8 +328,7 @@ pub seen_other : (c d : ℕ) (did : Did) (k : Locals) (log : List Entry) (states
     → (c == d) ≡ false → SeenBy k d log states
     → SeenBy k d (cons_option (logged c did) log) (states ++ more)
 seen_other c d did k log states more apart seen called is reply answer =
-    answer_more states more (commit_count (entries_before_call d (cons_option (logged c did) log)))
-    called reply
+    answer_more states more (commit_count (entries_before_call d _)) called reply
     (cc (call_other c d did log apart, seen called is reply answer))
 
 -- an observer returns what it has seen
@@ -357,8 +337,7 @@ event_returns : (S : Structure) (c : ℕ) (did : Did) (k next : Locals) (log : L
     → Answers S k shown (act_of_event did) next → k.called ≡ open_call c log
     → SeenBy k c log (passed ++ state ∷ []) → Returning c did log passed state
 event_returns S c (Marked (Return reply)) k next log shown passed state answers called seen =
-    λ its is observes.
-    seen its (called ∙ is) reply (answers.1 its (called ∙ is) observes)
+    λ its is observes. seen _ (called ∙ is) _ (answers.1 its (called ∙ is) observes)
 event_returns S c (Read cell value) k next log shown passed state answers called seen = tt
 event_returns S c (Wrote cell value) k next log shown passed state answers called seen = tt
 event_returns S c (Took lock) k next log shown passed state answers called seen = tt
@@ -377,42 +356,43 @@ pub next_event : (S : Structure) (scripts : List Script) (earlier : List Stamped
     → IsRun S.header scripts (record { number = number; caller = c; did = did } ∷ earlier)
     → Invariant S scripts earlier locals passed state
     → Next S scripts earlier number c did passed state
-next_event S scripts earlier number c did locals passed state is sound run holds = record {
-  locals = now_locals;
-  next = after.0;
-  holds = record {
-    kept = kept_step S scripts earlier locals passed state c did is sound before holds low may agree
-        own.does.reaches;
-    each = λ d low_d. by_same c d
-        (λ same. subst (λ x. OfCaller S (script_of scripts x) (part_of x (e ∷ earlier)) log x
-        (now_locals x)) same own_now)
-        (λ other. subst (λ p. OfCaller S (script_of scripts d) p log d (now_locals d))
-        (sym (part_other number c d did earlier other))
-        (subst (λ k. OfCaller S (script_of scripts d) (part_of d earlier) log d k)
-        (sym (ap (λ b. cond b own.next (locals d)) other))
-        (other_step S (script_of scripts d) (part_of d earlier) (log_in earlier) c d did s
-        (locals c) (locals d) (holds.each d low_d) other own.shows
-        own.does.guarantee
-        (λ cell access_c access_d. never other (subst (λ x. (c == x) ≡ true)
-        (one_holder S c d earlier cell is before.legal
-        (run_keeps S.header scripts earlier c sound before low)
-        (run_keeps S.header scripts earlier d sound before low_d) access_c access_d)
-        (same_number c)))
-        (holds.apart c d low low_d other))));
-    apart = λ a b low_a low_b other slot mine its. two_apart a b low_a low_b other slot
-        (c == a) refl (c == b) refl mine its;
-    means = subst (λ m. S.Represents m after.0) (sym own.shows) after.1;
-    count = passed_step c did (log_in earlier) passed state holds.count;
-    seen = λ d low_d called is_called reply answer. subst
-        (λ states. has_answer states (commit_count (entries_before_call d log)) called reply ≡ true)
-        (sym (path_grows c did (log_in earlier) left passed state after.0 after.2))
-        (seen_by d low_d (c == d) refl called is_called reply answer);
-  };
-  leading = after.2;
-  returning = event_returns S c did (locals c) own.next (log_in earlier) (shown_by (log_in earlier))
-      passed state own.does.answers mine.called
-      (holds.seen c low);
-}
+next_event S scripts earlier number c did locals passed state is sound run holds =
+    record {
+      locals = now_locals;
+      next = after.0;
+      holds =
+          record {
+            kept = kept_step S scripts earlier locals passed state c did is sound before
+                holds low may agree own.does.reaches;
+            each = λ d low_d. by_same c d
+                (λ same. subst
+                (λ x. OfCaller S (script_of scripts x) (part_of x (e ∷ earlier)) log x
+                (now_locals x)) same own_now)
+                (λ other. subst (λ p. OfCaller S (script_of scripts d) p log d (now_locals d))
+                (sym (part_other number c d did earlier other))
+                (subst (λ k. OfCaller S (script_of scripts d) (part_of d earlier) log d k)
+                (sym (cc)) (other_step S (script_of scripts d) (part_of d earlier)
+                (log_in earlier) c d did s (locals c) (locals d) (holds.each d low_d) other
+                own.shows own.does.guarantee
+                (λ cell access_c access_d. never other
+                (subst (λ x. (c == x) ≡ true)
+                (one_holder S c d earlier cell is before.legal
+                (run_keeps S.header scripts earlier c sound before low)
+                (run_keeps S.header scripts earlier d sound before low_d) access_c access_d)
+                (same_number c))) (holds.apart c d low low_d other))));
+            apart = λ a b low_a low_b other slot mine its. two_apart a b low_a low_b other slot
+                (c == a) refl (c == b) refl mine its;
+            means = subst (λ m. S.Represents m after.0) (sym own.shows) after.1;
+            count = passed_step c did (log_in earlier) passed state holds.count;
+            seen = λ d low_d called is_called reply answer. subst
+                (λ states. has_answer states (commit_count (entries_before_call d log)) called reply
+                ≡ true) (sym (path_grows c did (log_in earlier) left passed state after.0 after.2))
+                (seen_by d low_d (c == d) refl called is_called reply answer);
+          };
+      leading = after.2;
+      returning = event_returns S c did (locals c) own.next (log_in earlier)
+          (shown_by (log_in earlier)) passed state own.does.answers mine.called (holds.seen c low);
+    }
   where
     e : Stamped
     e = record { number = number; caller = c; did = did }
@@ -465,7 +445,7 @@ next_event S scripts earlier number c did locals passed state is sound run holds
     own_now = subst (λ p. OfCaller S (script_of scripts c) p log c (now_locals c))
         (sym (part_own number c did earlier))
         (subst (λ k. OfCaller S (script_of scripts c) (did ∷ part_of c earlier) log c k)
-        (sym (ap (λ b. cond b own.next (locals c)) (same_number c))) own.one)
+        (sym (cc (same_number c))) own.one)
 
     after : (next : Amounts)
         × S.Represents (shown_after s (locals c) (shown_by (log_in earlier)) (act_of_event did))
@@ -484,9 +464,8 @@ next_event S scripts earlier number c did locals passed state is sound run holds
         → (slot : ℕ) → (x : Bool) → (c == a) ≡ x → (y : Bool) → (c == b) ≡ y
         → (cond x own.next (locals a)).owned slot ≡ true → (cond y own.next (locals b)).owned slot
         ≡ true → ⊥
-    two_apart a b low_a low_b other slot true f true g mine its =
-        never other (subst (λ z. (a == z) ≡ true) (sym (same_of c a f) ∙ same_of c b g)
-        (same_number a))
+    two_apart a b low_a low_b other slot true f true g mine its = never other
+        (subst (λ z. (a == z) ≡ true) (sym (same_of c a f) ∙ same_of c b g) (same_number a))
     two_apart a b low_a low_b other slot true f false g mine its = separate b low_b g slot mine its
     two_apart a b low_a low_b other slot false f true g mine its = separate a low_a f slot its mine
     two_apart a b low_a low_b other slot false f false g mine its = holds.apart a b low_a low_b
@@ -500,7 +479,6 @@ next_event S scripts earlier number c did locals passed state is sound run holds
     seen_by d low_d true f = subst (λ z. SeenBy own.next z log ((passed ++ state ∷ []) ++ grown))
         (same_of c d f)
         (seen_own S c did (locals c) own.next (log_in earlier) (shown_by (log_in earlier)) passed
-        grown state own.does.answers own.does.called holds.means
-        holds.count (holds.seen c low))
+        grown state own.does.answers own.does.called holds.means holds.count (holds.seen c low))
     seen_by d low_d false f = seen_other c d did (locals d) (log_in earlier) (passed ++ state ∷ [])
         grown f (holds.seen d low_d)

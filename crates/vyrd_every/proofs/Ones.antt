@@ -133,25 +133,21 @@ pub own_step : (S : Structure) (script : Script) (part : List Did) (log : List E
     → (Reaches S (situation_after part) (act_of_event did) → answer_of did
     ≡ answer_at (shown_by log) (act_of_event did))
     → OwnStep S script part log c did k
-own_step S script part log c did k one agrees agrees' may plays found = record {
-  next = end.next;
-  does = end.does;
-  shows = shows;
-  one = record {
-    right = λ now rely.
-        subst (λ answer. DoesRight S (after_act s (act_of_event did)) end.next now
-        (after_answer (left_after script part) answer)) (sym (found end.does.reaches))
-        (end.later now
-        (subst (λ m. Rely S (after_act s (act_of_event did)) end.next m now) shows rely));
-    pending = end.does.pending ∙ ap (λ ws. pending_after (act_of_event did) ws) one.pending
-        ∙ sym (pending_step c did log);
-    called = end.does.called ∙ ap (λ o. called_after (act_of_event did) o) one.called
-        ∙ sym (called_step c did log);
-    covers = covers_step S c did s log agrees agrees' may end.does.reaches one.covers;
-    reserved = λ slot mine. subst (λ m. S.Reserved m slot) (sym shows)
-        (by_owned slot mine (k.owned slot) refl);
-  };
-}
+own_step S script part log c did k one agrees agrees' may plays found =
+    record {
+      next = end.next;
+      does = end.does;
+      shows = shows;
+      one =
+          record {
+            right = λ now rely. rw (found end.does.reaches)
+                (end.later now (rw (← shows) rely));
+            pending = cc (end.does.pending, one.pending, pending_step c did log);
+            called = cc (end.does.called, one.called, called_step c did log);
+            covers = covers_step S c did s log agrees agrees' may end.does.reaches one.covers;
+            reserved = λ slot mine. rw shows (by_owned slot mine (k.owned slot) refl);
+          };
+    }
   where
     s : Situation
     s = situation_after part

@@ -27,18 +27,13 @@ pub reached : (h : Header) (scripts : List Script) (k : Keeping h scripts) (earl
     → IsRun h scripts earlier → Reached h scripts k earlier
 reached h scripts k [] run = record { passed = []; state = start.shown; holds_now = k.begins }
 reached h scripts k (e ∷ earlier) run = one_more
-    (reached h scripts k earlier (run_before h scripts e earlier run))
+    (reached h scripts k earlier (run_before h _ e _ run))
   where
     one_more : Reached h scripts k earlier → Reached h scripts k (e ∷ earlier)
     one_more before =
         let after : GoesOn k.Holds scripts earlier e.number e.caller e.did before.passed
-        before.state =
-        k.goes_on earlier e.number e.caller e.did before.passed before.state run before.holds_now in
-        record {
-          passed = passed_after e.did before.passed before.state;
-          state = after.next;
-          holds_now = after.holds_now;
-        }
+        before.state = k.goes_on _ _ _ _ _ _ run before.holds_now in
+        record { passed = passed_after e.did _ _; state = after.next; holds_now = after.holds_now }
 
 -- a log that is well formed entry by entry has no break
 unbroken : (h : Header) (earlier xs : List Entry) → WellFormed h (newest_first_onto earlier xs)
@@ -67,5 +62,4 @@ pub all_front : (h : Header) (scripts : List Script) (k : Keeping h scripts)
     (history : List Stamped) → IsRun h scripts (newest_first history)
     → front h (log_of history) ≡ log_of history
 unfolding front first_break
-all_front h scripts k history run = front_after_whole h [] (log_of history)
-    (no_break h scripts k history run)
+all_front h scripts k history run = front_after_whole h [] _ (no_break h _ k _ run)

@@ -115,17 +115,11 @@ pub no_node_lock : (h : Header) (s : Situation) (k : TreeLocals) (g : Shape) (m 
     (node place : ℕ) (rest : ℕ → Script) → node < h.size
     → place < 12 → place ≢ 0 → holds s (cells.lock_of h node) ≡ false
     → TreeRight h s k g m (step (Load (node_cell node place)) rest) → ⊥
-no_node_lock h s k g m node place rest fits low some free right = by_word right.2.reaches.0
-  where
-    by_word : MayLoad h s g (node_cell node place) → ⊥
-    by_word e0 = search (fits, arith)
+no_node_lock h s k g m node place rest fits low some free right = search arith
 
 -- the root's word isn't a node's, and not the count of nodes in use
 pub no_root_lock : (h : Header) (s : Situation) (k : TreeLocals) (g : Shape) (m : Memory) (root : ℕ)
     (later : Script) → k.fresh ≡ None
     → holds s (root_lock h) ≡ false → TreeRight h s k g m (perform (Store (root_cell h) root) later)
     → ⊥
-no_root_lock h s k g m root later none free right = by_block right.2.reaches
-  where
-    by_block : MayStore h s k g m (root_cell h) → ⊥
-    by_block e0 = search arith
+no_root_lock h s k g m root later none free right = search arith

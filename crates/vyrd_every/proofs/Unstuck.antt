@@ -68,24 +68,22 @@ none_waits : (h : Header) (scripts : List Script) (keeping : Keeping h scripts)
     → (value_in earlier lock == 0) ≡ false
     → (cells_of h).plain + (cells_of h).locks ≤ lock + n → ⊥
 none_waits h scripts keeping earlier zero c lock run wait low takes taken near =
-    let is : is_lock (cells_of h) lock ≡ true =
-    takes_lock h (situation_after (part_of c earlier))
+    let is : is_lock (cells_of h) lock ≡ true = takes_lock h (situation_after (part_of c earlier))
     (left_after (script_of scripts c) (part_of c earlier)) lock
     (run_sound h scripts earlier c keeping.sound run low) takes in
-    let below : lock < (cells_of h).plain + (cells_of h).locks =
-    below_of lock ((cells_of h).plain + (cells_of h).locks)
+    let below : lock < (cells_of h).plain + (cells_of h).locks = below_of lock
+    ((cells_of h).plain + (cells_of h).locks)
     (second_true (nat_le (cells_of h).plain lock)
     (nat_lt lock ((cells_of h).plain + (cells_of h).locks)) is) in
     omega (arith, near, below)
-none_waits h scripts keeping earlier (suc n) c lock run wait low takes taken near =
-    by_holder (λ d higher low_d takes' taken' near'. none_waits h scripts keeping earlier n d higher
-    run wait low_d takes' taken' near')
-    (lock_held (cells_of h) earlier lock run.legal is)
+none_waits h scripts keeping earlier (suc n) c lock run wait low takes taken near = by_holder
+    (λ d higher low_d takes' taken' near'. none_waits h scripts keeping earlier n d higher run wait
+    low_d takes' taken' near') (lock_held (cells_of h) earlier lock run.legal is)
   where
     Again : Type 0
     Again = (d higher : ℕ) → d < h.callers → act_of scripts d earlier ≡ Take higher
-        → (value_in earlier higher == 0) ≡ false
-        → (cells_of h).plain + (cells_of h).locks ≤ higher + n → ⊥
+        → (value_in earlier higher == 0) ≡ false → (cells_of h).plain + (cells_of h).locks ≤ higher
+        + n → ⊥
 
     is : is_lock (cells_of h) lock ≡ true
     is = takes_lock h (situation_after (part_of c earlier))
@@ -98,10 +96,12 @@ none_waits h scripts keeping earlier (suc n) c lock run wait low takes taken nea
     its : (d : ℕ) → d < h.callers → value_in earlier lock ≡ d + 1
         → holds (situation_after (part_of d earlier)) lock ≡ true
     its d low_d e =
-        held_is h d earlier lock run.legal
-        (sound_keeps h (script_of scripts d) (part_of d earlier) (keeping.sound.sound d low_d)
-        (run.plays d) (are_answers (cells_of h) earlier d run.legal)) is
-        ∙ ap (λ v. v == d + 1) e ∙ same_number (d + 1)
+        cc (
+          held_is h d earlier lock run.legal
+              (sound_keeps h (script_of scripts d) (part_of d earlier) (keeping.sound.sound d low_d)
+              (run.plays d) (are_answers (cells_of h) earlier d run.legal)) is,
+          same_number (d + 1),
+        )
 
     by_wait : Again → (d : ℕ) → d < h.callers → holds (situation_after (part_of d earlier)) lock
         ≡ true → (done waits : Bool)
@@ -112,9 +112,8 @@ none_waits h scripts keeping earlier (suc n) c lock run wait low takes taken nea
         holds_it
     by_wait again d low_d holds_it false true e f g =
         let up = held_up earlier (act_of scripts d earlier) f in
-        let higher : lock < up.0 =
-        keeping.upward earlier here.passed here.state run here.holds_now d low_d up.0 up.1 lock
-        holds_it in
+        let higher : lock < up.0 = keeping.upward earlier here.passed here.state run here.holds_now
+        d low_d up.0 up.1 lock holds_it in
         again d up.0 low_d up.1 up.2 (omega (arith, higher, near))
     by_wait again d low_d holds_it false false e f g = cc
 
@@ -123,8 +122,7 @@ none_waits h scripts keeping earlier (suc n) c lock run wait low takes taken nea
 
     by_holder : Again → Held (cells_of h) (value_in earlier lock) → ⊥
     by_holder again (inl free) = zero_test (value_in earlier lock) free taken
-    by_holder again (inr holder) =
-        by_wait again holder.0 holder.1 (its holder.0 holder.1 holder.2)
+    by_holder again (inr holder) = by_wait again holder.0 holder.1 (its holder.0 holder.1 holder.2)
         (is_done (act_of scripts holder.0 earlier))
         (is_held_up earlier (act_of scripts holder.0 earlier)) refl refl (wait holder.0 holder.1)
 

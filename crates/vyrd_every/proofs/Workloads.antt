@@ -68,9 +68,8 @@ script_right : (S : Structure) (w : Workload) (procedure : Op → Script) (c : �
     → are_callable S.header (ops_of c w.ops) ≡ true
     → ((op : Op) → is_callable S.header op ≡ true → IsRight S procedure op)
     → DoesRight S at_rest empty_locals now (script_of (work_scripts w) c)
-script_right S w procedure c now same low callable each =
-    subst (DoesRight S at_rest empty_locals now) (sym its)
-    (operations_right S procedure (ops_of c w.ops) empty_locals now each callable
+script_right S w procedure c now same low callable each = subst (DoesRight S _ _ _) (sym its)
+    (operations_right S _ _ _ _ each callable
     (record { rests = refl; owned = λ slot. refl; called = refl }))
   where
     its : script_of (work_scripts w) c ≡ operations procedure (ops_of c w.ops)
@@ -155,12 +154,8 @@ each_right : (h : Header) (states : List State) (ps : List (Place Entry))
     → AllByRecursion (λ place. fault_at (rules_of h) [] states place ≡ None) ps
 each_right h states [] e = tt
 each_right h states (place ∷ ps) e =
-    let parts = both_none (violation_at (rules_of h) [] states place)
-    (first_answer (violation_at (rules_of h) [] states) ps) e in (
-      no_why (line_of [] (position_of place)) (fault_at (rules_of h) [] states place)
-          parts.0,
-      each_right h states ps parts.1,
-    )
+    let parts = both_none (violation_at _ [] _ _) (first_answer (violation_at _ [] _) ps) e in
+    (no_why (line_of [] _) _ parts.0, each_right h states ps parts.1)
   where
     both_none : {A : Type 0} (a b : Option A) → option_or a b ≡ None → (a ≡ None) × (b ≡ None)
     both_none None b e = (refl, e)
@@ -182,8 +177,7 @@ formed w history k schedule = no_break w.header (work_scripts w) k history
 pub closed : (w : Workload) (history : List Stamped) → Keeping w.header (work_scripts w)
     → IsSchedule w history
     → is_call_open w.header (newest_first (log_of history)) ≡ false
-closed w history k schedule = none_open_at_end w.header (work_scripts w) k history schedule.legal
-    schedule.parts
+closed w history k schedule = none_open_at_end _ _ k _ schedule.legal schedule.parts
 
 pub kinds_right : (w : Workload) (history : List Stamped) (test : Kind → Bool) → w.header.version
     ≡ 1 → Keeping w.header (work_scripts w) → IsSchedule w history

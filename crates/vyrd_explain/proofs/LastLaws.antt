@@ -17,26 +17,19 @@ use Rattle.vyrd_follow.specs.LastSteps.{placed_at, last_item, last_items}
 module _ (c : Charter) (starting : List StartWord) (front : List Entry)
     (none : state_at_start (rules_by c) starting ≡ None) where
   unknown : (n : ℕ) → state_then (rules_by c) starting front n ≡ None
-  unknown n = ap (λ start. slice_get (states_of (rules_by c) start front)
-      (commit_count (newest_first (take n front)))) none
+  unknown n = cc
 
   nothing_done : (p : ℕ) → done_at c starting front p ≡ []
-  nothing_done p = ap (λ (known : Option State). option_map_or
-      (λ before. option_map_or (done_by_entry c front p before) (slice_get front p) []) known [])
-      (unknown p)
+  nothing_done p = cc (unknown p)
 
   none_before : (ns : List ℕ)
       → flat_map (λ p. map (placed_at p) (done_at c starting front p)) ns ≡ []
   none_before [] = refl
-  none_before (p ∷ ns) =
-      ap (λ done. map (placed_at p) done
-      ++ flat_map (λ p. map (placed_at p) (done_at c starting front p)) ns) (nothing_done p)
-      ∙ none_before ns
+  none_before (p ∷ ns) = cc (nothing_done p, none_before ns)
 
   none_last : (items : List Item) → filter_map (last_item []) items ≡ []
   none_last [] = refl
   none_last (item ∷ items) = none_last items
 
   pub no_last : (at : ℕ) (items : List Item) → last_items c starting front at items ≡ []
-  no_last at items = ap (λ done. filter_map (last_item done) items) (none_before (numbers_below at))
-      ∙ none_last items
+  no_last at items = cc (none_before (numbers_below at), none_last items)

@@ -18,8 +18,7 @@ use Rattle.vyrd_explain.specs.Explained.{read_as, own_read_as, explanation, expl
 
 -- there is something
 some_of : {A : Type 0} (o : Option A) → is_some o ≡ true → (a : A) × (o ≡ Some a)
-some_of None e = cc
-some_of (Some a) e = (a, refl)
+some_of o e = search arith
 
 module _ (max : ℕ) (bytes : List ℕ) where
   -- the verdict stands, and a line breaks a rule of text by either reading
@@ -33,39 +32,24 @@ module _ (max : ℕ) (bytes : List ℕ) where
 
   settled : is_settled max bytes ≡ true → Settled
   unfolding is_settled
-  settled e =
-      let first = is_some (log_verdict_so_far max bytes) && is_some (read_as max bytes).fault in
-      let both : first ≡ true = first_true first _ e in
-      let v = some_of (log_verdict_so_far max bytes) (first_true _ _ both) in
-      let f = some_of (read_as max bytes).fault (second_true _ _ both) in
-      let g = some_of (own_read_as max bytes).fault (second_true first _ e) in
-      record {
-        verdict = v.0;
-        stands = v.1;
-        fault = f.0;
-        stops = f.1;
-        own_fault = g.0;
-        own_stops = g.1;
-      }
+  settled e = search (is_some, first_true, some_of, second_true, arith)
 
 pub verdict_lasts : (max : ℕ) (bytes more : List ℕ) → 1 ≤ max → max ≤ most_lines
     → is_settled max bytes ≡ true → log_verdict max (bytes ++ more) ≡ log_verdict max bytes
 verdict_lasts max bytes more low high e =
-    let s = settled max bytes e in
-    log_verdict_stands max bytes more s.verdict low high s.stands
-    ∙ sym (ap (log_verdict max) (sym (append-nil bytes))
-    ∙ log_verdict_stands max bytes [] s.verdict low high s.stands)
+    let s = settled _ _ e in
+    log_verdict_stands _ bytes more _ low high s.stands
+    ∙ sym (ap (log_verdict _) (sym (append-nil _)) ∙ log_verdict_stands _ _ [] _ low high s.stands)
 
 pub text_lasts : (about : About) (max : ℕ) (bytes more : List ℕ) → 1 ≤ max → max ≤ most_lines
     → is_settled max bytes ≡ true
     → explained about max (bytes ++ more) ≡ explained about max bytes
 unfolding explained
 text_lasts about max bytes more low high e =
-    let s = settled max bytes e in
-    let read = (reading_grows max false bytes more low).grown.fault s.fault s.stops in
-    let own_read =
-    (reading_grown max false bytes more low high).fault s.own_fault s.own_stops in
-    let verdict = verdict_lasts max bytes more low high e in
+    let s = settled _ _ e in
+    let read = (reading_grows _ false _ more low).grown.fault s.fault s.stops in
+    let own_read = (reading_grown _ false _ more low high).fault s.own_fault s.own_stops in
+    let verdict = verdict_lasts _ _ more low high e in
     λ i. explanation about (read i) (own_read i) (verdict i)
 
 pub ruleset lasting = (verdict_lasts, text_lasts)
@@ -85,22 +69,10 @@ settled_stays max bytes more low high e =
 -- without a byte anything may come
 pub nothing_settled : (max : ℕ) → is_settled max [] ≡ false
 unfolding is_settled
-nothing_settled max = ap (λ verdict. is_some verdict && is_some (read_as max []).fault
-    && is_some (own_read_as max []).fault) (nothing_yet max)
+nothing_settled max = cc (nothing_yet max)
 
 pub unsettled_is_short : (max : ℕ) (bytes : List ℕ) → 1 ≤ max → is_settled max bytes ≡ false
     → length bytes ≤ 201 * max
 unfolding is_settled
-unsettled_is_short max bytes low e =
-    by_verdict (log_verdict_so_far max bytes) (read_as max bytes).fault
-    (own_read_as max bytes).fault refl refl refl e
-  where
-    by_verdict : (v : Option Verdict) (f g : Option TextFault) → log_verdict_so_far max bytes ≡ v
-        → (read_as max bytes).fault ≡ f → (own_read_as max bytes).fault ≡ g
-        → (is_some v && is_some f && is_some g) ≡ false → length bytes ≤ 201 * max
-    by_verdict None f g is right own_right e = undecided_is_short max bytes low is
-    by_verdict (Some v) None g is right own_right e =
-        omega (arith, bytes_short max bytes low right)
-    by_verdict (Some v) (Some f) None is right own_right e =
-        own_bytes_short max bytes low own_right
-    by_verdict (Some v) (Some f) (Some g) is right own_right e = cc
+unsettled_is_short max bytes low e = search
+    (is_some, undecided_is_short, bytes_short, own_bytes_short, arith)

@@ -44,8 +44,7 @@ unfolding own_reading
 nothing_numbered max = refl
 
 regrouped : (a b c : Bool) → (a && (b && c)) ≡ (a && b && c)
-regrouped true b c = refl
-regrouped false b c = refl
+regrouped a b c = search arith
 
 -- whether the answer is settled, by what the checker and the readers say
 pub settled_is : (max first other : ℕ) (bytes : List ℕ) (v : Option Verdict)
@@ -56,10 +55,7 @@ pub settled_is : (max first other : ℕ) (bytes : List ℕ) (v : Option Verdict)
     → (is_some v && (stops && own_stops)) ≡ is_settled max bytes
 unfolding is_settled
 settled_is max first other bytes v stops own_stops limit own_limit is faulty own_faulty =
-    regrouped (is_some v) stops own_stops
-    ∙ (λ i. is_some (is i)
-    && (faulty ∙ ap (λ m. is_some (read_as m bytes).fault) limit) i
-    && (own_faulty ∙ ap (λ m. is_some (own_read_as m bytes).fault) own_limit) i)
+    cc (regrouped (is_some v) stops own_stops)
 
 -- the answer, by what was read and what the verdict is
 pub explained_is : (about : About) (max first other : ℕ) (bytes : List ℕ) (v : Verdict)
@@ -68,8 +64,7 @@ pub explained_is : (about : About) (max first other : ℕ) (bytes : List ℕ) (v
     → explanation about (read_as first bytes) (own_read_as other bytes) v
     ≡ explained about max bytes
 unfolding explained
-explained_is about max first other bytes v limit own_limit is =
-    λ i. explanation about (read_as (limit i) bytes) (own_read_as (own_limit i) bytes) (is i)
+explained_is about max first other bytes v limit own_limit is = search arith
 
 -- the header that the reader keeps is that of a built-in subject
 pub kept_built_in : (e : ExplainerState) → ∥ ((bytes : List ℕ) × HasTaken e bytes) ∥₁
@@ -88,10 +83,9 @@ kept_may_start e somewhere h has = ∥∥₁_elim somewhere (Bool-set _ _) (λ s
 pub kept_few : (e : ExplainerState) → ∥ ((bytes : List ℕ) × HasTaken e bytes) ∥₁
     → 1 ≤ e.reader.max_lines → e.reader.max_lines ≤ most_lines → length e.entries < 2 ^ 62
 kept_few e somewhere low high =
-    let few : length e.entries ≤ e.reader.max_lines =
-    at_most_of _ _ (∥∥₁_elim somewhere (Bool-set _ _) (λ s. is_at_most _ _
-    (subst (λ entries. length entries ≤ e.reader.max_lines) (sym s.1.entries)
-    (entries_few e.reader.max_lines s.0 low)))) in
+    let few : length e.entries ≤ e.reader.max_lines = at_most_of _ _
+    (∥∥₁_elim somewhere (Bool-set _ _)
+    (λ s. is_at_most _ _ (rw s.1.entries (entries_few _ s.0 low)))) in
     omega (arith, few, high)
 
 own_of : (s : Subject) → is_built_in s ≡ false → s ≡ Own
@@ -140,13 +134,10 @@ pub record Fed (old new : ExplainerState) (piece : List ℕ) : Type 0 where
 pub fed_taken : (old new : ExplainerState) (piece : List ℕ) → Fed old new piece
     → (bytes : List ℕ) → HasTaken old bytes → HasTaken new (bytes ++ piece)
 fed_taken old new piece fed bytes t = record {
-  checked = fed.checked bytes t.checked;
-  read = fed.read bytes t.read;
-  entries = fed.entries bytes t.read t.entries
-      ∙ ap (λ m. (read_as m (bytes ++ piece)).entries) (sym fed.limit);
-  own_read = fed.own_read bytes t.own_read;
-  own_entries = fed.own_entries bytes t.own_read t.own_entries
-      ∙ ap (λ m. (own_read_as m (bytes ++ piece)).entries) (sym fed.own);
-  numbers = fed.numbers bytes t.own_read t.numbers
-      ∙ ap (λ m. (own_read_as m (bytes ++ piece)).numbers) (sym fed.own);
+  checked = fed.checked _ t.checked;
+  read = fed.read _ t.read;
+  entries = cc (fed.entries bytes t.read t.entries, fed.limit);
+  own_read = fed.own_read _ t.own_read;
+  own_entries = cc (fed.own_entries bytes t.own_read t.own_entries, fed.own);
+  numbers = cc (fed.numbers bytes t.own_read t.numbers, fed.own);
 }

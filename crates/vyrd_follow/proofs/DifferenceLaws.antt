@@ -41,8 +41,7 @@ below_first : (k q : ℕ) (ks : List ℕ) → Rise (k ∷ ks) → q < k → is_i
 below_first k q ks rise low = grind (arith, isnt_same, not_among)
 
 pub true_false : (b : Bool) → b ≡ true → b ≡ false → {A : Type 0} → A
-true_false true e f = cc
-true_false false e f = cc
+true_false b e f = search arith
 
 module _ (k l : ℕ) (ks ls : List ℕ) (rise : Rise (k ∷ ks)) (rises : Rise (l ∷ ls))
     (same : (q : ℕ) → is_in q (k ∷ ks) ≡ is_in q (l ∷ ls)) where
@@ -57,16 +56,7 @@ module _ (k l : ℕ) (ks ls : List ℕ) (rise : Rise (k ∷ ks)) (rises : Rise (
       by_order false false e f = omega (arith, not_below_of k l e, not_below_of l k f)
 
   same_rest : (q : ℕ) → is_in q ks ≡ is_in q ls
-  same_rest q = by_test (k == q) refl
-    where
-      by_test : (b : Bool) → (k == q) ≡ b → is_in q ks ≡ is_in q ls
-      by_test true e =
-          let here : k ≡ q = same_of k q e in
-          not_among k q ks rise.0 (omega (arith, here))
-          ∙ sym (not_among l q ls rises.0 (omega (arith, here, same_first)))
-      by_test false e =
-          let other : (l == q) ≡ false = ap (λ x. x == q) (sym same_first) ∙ e in
-          ap (λ b. b || is_in q ks) (sym e) ∙ same q ∙ ap (λ b. b || is_in q ls) other
+  same_rest q = search (same_of, not_among, same_first, arith)
 
 -- keys that rise are told by which they are
 pub same_rising : (ks ls : List ℕ) → Rise ks → Rise ls → ((q : ℕ) → is_in q ks ≡ is_in q ls)
@@ -121,10 +111,8 @@ lesser x k h = grind (arith, nat_tests)
 
 keys_above : (k : ℕ) (s : Amounts) → T (below_all nat_cmp k s) → AllAbove k (keys_of s)
 keys_above k [] below = tt
-keys_above k (e ∷ s) below = (
-  lesser k e.0 (first_of_and _ _ below),
-  keys_above k s (second_of_and (is_lt (nat_cmp k e.0)) _ below),
-)
+keys_above k (e ∷ s) below =
+    (lesser k _ (first_of_and _ _ below), keys_above k s (second_of_and (is_lt _) _ below))
 
 pub keys_rise : (s : Amounts) → T (is_sorted nat_cmp s) → Rise (keys_of s)
 keys_rise [] rising = tt
@@ -163,21 +151,16 @@ amount_given (x ∷ xs) q =
 
 pub differ_among : (a b : Amounts) (q : ℕ) → differ_at a b q ≡ true
     → is_in q (keys_of_both a b) ≡ true
-differ_among a b q differ = key_among (collected (a ++ b)) q (λ none.
-    let all : given q (a ++ b) ≡ 0 = sym (amount_of-collected (a ++ b) q) ∙ none in
+differ_among a b q differ = key_among _ q (λ none.
+    let all : given q (a ++ b) ≡ 0 = sym (amount_of-collected _ q) ∙ none in
     let both = given-append q a b in
     let ours : amount_of a q ≡ 0 = omega (arith, all, both, amount_given a q) in
     let theirs : amount_of b q ≡ 0 = omega (arith, all, both, amount_given b q) in
-    true_false (differ_at a b q) differ
-    (ap not (is_same (amount_of a q) (amount_of b q) (ours ∙ sym theirs))))
+    true_false (differ_at a b q) differ (ap not (is_same _ _ (ours ∙ sym theirs))))
 
 -- they are those that differ
 pub among_differences : (a b : Amounts) (q : ℕ) → is_in q (differences a b) ≡ differ_at a b q
-among_differences a b q =
-    among_filtered (differ_at a b) q (keys_of_both a b) ∙ by_test (differ_at a b q) refl
-  where
-    by_test : (d : Bool) → differ_at a b q ≡ d → (is_in q (keys_of_both a b) && d) ≡ d
-    by_test d differ = search (differ, differ_among, arith)
+among_differences a b q = search (among_filtered, differ_at, differ_among, arith)
 
 -- and rise
 pub differences_rise : (a b : Amounts) → Rise (differences a b)
@@ -207,14 +190,12 @@ no_differences a b is it none = same_amounts a b is it
 
 -- a side doesn't differ from itself
 pub no_differences_from_itself : (a : Amounts) → differences a a ≡ []
-no_differences_from_itself a = sym (differences_are a a [] tt
-    (λ q. sym (ap not (same_number (amount_of a q)))))
+no_differences_from_itself a = sym (differences_are a a [] _ (λ q. sym (ap not (same_number _))))
 
 -- once the first of them has the other side's amount, the others are left
 pub differences_left : (a b : Amounts) (k : ℕ) (ks : List ℕ) → differences a b ≡ k ∷ ks
     → differences (with_amount a k (amount_of b k)) b ≡ ks
-differences_left a b k ks is =
-    sym (differences_are (with_amount a k (amount_of b k)) b ks rise.1
+differences_left a b k ks is = sym (differences_are (with_amount a k (amount_of b k)) b ks rise.1
     (λ q. by_test q (q == k) refl))
   where
     rise : Rise (k ∷ ks)
@@ -226,10 +207,6 @@ differences_left a b k ks is =
         let at : q ≡ k = same_of q k here in
         not_among k q ks rise.0 (omega (arith, at))
         ∙ sym (ap not (is_same (amount_of (with_amount a k (amount_of b k)) q) (amount_of b q)
-        (amount_of-with_amount a k (amount_of b k) q
-        ∙ ap (λ t. cond t (amount_of b k) (amount_of a q)) here ∙ ap (amount_of b) (sym at))))
+        (cc (amount_of-with_amount a k (amount_of b k) q))))
     by_test q false other =
-        ap (λ t. t || is_in q ks) (sym (flipped q k other)) ∙ ap (is_in q) (sym is)
-        ∙ among_differences a b q
-        ∙ ap (λ n. not (n == amount_of b q)) (sym (amount_of-with_amount a k (amount_of b k) q
-        ∙ ap (λ t. cond t (amount_of b k) (amount_of a q)) other))
+        cc (flipped q k other, among_differences a b q, amount_of-with_amount a k (amount_of b k) q)

@@ -35,22 +35,15 @@ pub record Without (k : ℕ) (a rest : Amounts) : Type 0 where
 
 pub without_first : (x : ℕ × ℕ) (rest : Amounts) → IsAmounts (x ∷ rest)
     → Without x.0 (x ∷ rest) rest
-without_first x rest is = record {
-  others = λ q other. amount_of-cons x rest q ∙ ap (λ b. cond b x.1 (amount_of rest q)) other;
-  above = λ q low. absent_below rest x.0 q low (first_of_and _ _ is.rising);
-}
+without_first x rest is = search (amount_of-cons, absent_below, first_of_and, arith)
 
 pub without_none : (k : ℕ) → Without k [] []
 without_none k = record { others = λ q other. refl; above = λ q low. refl }
 
 pub without_greater : (k : ℕ) (x : ℕ × ℕ) (rest : Amounts) → IsAmounts (x ∷ rest) → k < x.0
     → Without k (x ∷ rest) (x ∷ rest)
-without_greater k x rest is low = record {
-  others = λ q other. refl;
-  above = λ q le. amount_of-cons x rest q
-      ∙ ap (λ b. cond b x.1 (amount_of rest q)) (lower_isnt q x.0 (omega (arith, low, le)))
-      ∙ absent_below rest x.0 q (omega (arith, low, le)) (first_of_and _ _ is.rising);
-}
+without_greater k x rest is low = search
+    (amount_of-cons, lower_isnt, absent_below, first_of_and, arith)
 
 pub at_first : (x : ℕ × ℕ) (rest : Amounts) → amount_of (x ∷ rest) x.0 ≡ x.1
 at_first x rest = cc (amount_of-cons x rest x.0, same_number x.0)
@@ -67,10 +60,9 @@ all_above k (x ∷ ks) each = (
 map_same : {A : Type 0} (f g : ℕ → A) (ks : List ℕ) → ((q : ℕ) → is_in q ks ≡ true → f q ≡ g q)
     → map f ks ≡ map g ks
 map_same f g [] same = refl
-map_same f g (k ∷ ks) same =
-    ap (λ x. x ∷ map f ks) (same k (first_among k ks))
+map_same f g (k ∷ ks) same = ap (λ x. x ∷ map f ks) (same k (first_among k _))
     ∙ ap (λ xs. g k ∷ xs)
-    (map_same f g ks (λ q among. same q (or_right (k == q) (is_in q ks) among)))
+    (map_same f g ks (λ q among. same q (or_right (k == q) (is_in q _) among)))
 
 module _ (k : ℕ) (a b c d : Amounts) (ours : Without k a c) (theirs : Without k b d) where
   agree_below : (q : ℕ) → q ≤ k → differ_at c d q ≡ false
@@ -78,63 +70,42 @@ module _ (k : ℕ) (a b c d : Amounts) (ours : Without k a c) (theirs : Without 
       (ours.above q low ∙ sym (theirs.above q low)))
 
   differ_elsewhere : (q : ℕ) → (q == k) ≡ false → differ_at c d q ≡ differ_at a b q
-  differ_elsewhere q other = ap (λ n. not (n == amount_of d q)) (sym (ours.others q other))
-      ∙ ap (λ n. not (amount_of a q == n)) (sym (theirs.others q other))
+  differ_elsewhere q other = cc (ours.others q other, theirs.others q other)
 
   above_k : (q : ℕ) → is_in q (differences c d) ≡ true → k < q
-  above_k q among = by_test (nat_le q k) refl
-    where
-      by_test : (t : Bool) → nat_le q k ≡ t → k < q
-      by_test true e = true_false (differ_at c d q) (sym (among_differences c d q) ∙ among)
-          (agree_below q (at_most_of q k e))
-      by_test false e = above_of q k e
+  above_k q among = search
+      (true_false, differ_at, among_differences, agree_below, at_most_of, above_of, arith)
 
   first_differs : differ_at a b k ≡ true → k ∷ differences c d ≡ differences a b
-  first_differs differ =
-      differences_are a b (k ∷ differences c d)
+  first_differs differ = differences_are a b (k ∷ differences c d)
       (all_above k (differences c d) above_k, differences_rise c d) (λ q. by_test q (k == q) refl)
     where
       by_test : (q : ℕ) (t : Bool) → (k == q) ≡ t
           → (k == q || is_in q (differences c d)) ≡ differ_at a b q
-      by_test q true here = or_left (k == q) (is_in q (differences c d)) here
-          ∙ sym (ap (differ_at a b) (sym (same_of k q here)) ∙ differ)
-      by_test q false other = ap (λ t. t || is_in q (differences c d)) other
-          ∙ among_differences c d q ∙ differ_elsewhere q (flipped k q other)
+      by_test q t here = search
+          (differ_at, same_of, among_differences, differ_elsewhere, flipped, arith)
 
   first_agrees : differ_at a b k ≡ false → differences c d ≡ differences a b
-  first_agrees agree =
-      differences_are a b (differences c d) (differences_rise c d) (λ q. by_test q (k == q) refl)
+  first_agrees agree = differences_are a b _ (differences_rise c d) (λ q. by_test q (k == q) refl)
     where
       by_test : (q : ℕ) (t : Bool) → (k == q) ≡ t → is_in q (differences c d) ≡ differ_at a b q
-      by_test q true here =
-          let at : k ≡ q = same_of k q here in
-          among_differences c d q ∙ agree_below q (omega (arith, at))
-          ∙ sym (ap (differ_at a b) (sym at) ∙ agree)
-      by_test q false other =
-          among_differences c d q ∙ differ_elsewhere q (flipped k q other)
+      by_test q true here = search (same_of, among_differences, agree_below, differ_at, arith)
+      by_test q false other = search (among_differences, differ_elsewhere, flipped, arith)
 
   rest_turns : map (turned_to d) (differences c d) ≡ map (turned_to b) (differences c d)
-  rest_turns = map_same (turned_to d) (turned_to b) (differences c d)
-      (λ q among. ap (λ n. (q, n)) (sym (theirs.others q
-      (isnt_same q k (λ e. omega (arith, e, above_k q among))))))
+  rest_turns = search (map_same, isnt_same, above_k, arith)
 
   -- the least key turns first, if it does
   pub turns_first : amount_of a k ≢ amount_of b k → (k, amount_of b k) ∷ turns c d ≡ turns a b
-  turns_first apart = ap (λ ps. (k, amount_of b k) ∷ ps) rest_turns
-      ∙ ap (map (turned_to b))
-      (first_differs (ap not (isnt_same (amount_of a k) (amount_of b k) apart)))
+  turns_first apart = search (rest_turns, first_differs, isnt_same, arith)
 
   pub turns_later : amount_of a k ≡ amount_of b k → turns c d ≡ turns a b
-  turns_later same = rest_turns ∙ ap (map (turned_to b))
-      (first_agrees (ap not (is_same (amount_of a k) (amount_of b k) same)))
+  turns_later same = search (rest_turns, first_agrees, is_same, arith)
 
 -- ---- what stands behind places
 
 rest_is_formed : (x : ℕ × ℕ) (rest : Amounts) → IsAmounts (x ∷ rest) → IsAmounts rest
-rest_is_formed x rest is = record {
-  rising = second_of_and (below_all nat_cmp x.0 rest) _ is.rising;
-  some = is.some.1;
-}
+rest_is_formed x rest is = search (second_of_and, below_all, arith)
 
 pub formed_behind : (s : Amounts) (i : ℕ) → IsAmounts s → IsAmounts (drop i s)
 formed_behind s zero is = is
@@ -162,8 +133,7 @@ pub greater_here : (s : Amounts) (i k : ℕ) (x : ℕ × ℕ) → IsAmounts s �
     → k < x.0 → Without k (drop i s) (drop i s)
 greater_here s i k x formed is low =
     let here = behind_is s i x is in
-    subst (λ d. Without k d d) (sym here)
-    (without_greater k x (drop (i + 1) s) (subst IsAmounts here (formed_behind s i formed)) low)
+    rw here (without_greater k x _ (subst IsAmounts here (formed_behind s i formed)) low)
 
 -- ---- one key is passed
 

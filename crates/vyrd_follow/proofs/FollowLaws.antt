@@ -32,9 +32,7 @@ pub words_on : (h : Header) (starting : List StartWord) (front : List Entry) (at
     ≡ words_then h starting front (at + 1)
 words_on h starting front at low =
     let there = entry_there front at low in
-    ap (λ o. words_through (words_then h starting front at)
-    (option_map_or (effects_by front at) o [])) there.1
-    ∙ words_next h starting front at there.0 there.1
+    cc (there.1, words_next h starting front at there.0 there.1)
 
 pub length_then : (h : Header) (starting : List StartWord) (front : List Entry) (at : ℕ)
     → length (words_then h starting front at) ≡ plain_words h
@@ -46,10 +44,9 @@ pub known_start : {S : Type 0} (charter : S → Charter) (state : S → State) (
     → option_map state spec ≡ state_at_start (rules_by c) starting
     → IfSome spec (λ s. charter s ≡ c) → IfSome spec (λ s. made s ≡ 0)
     → IsKnown c starting front 0 (option_map (run_by charter state made) spec)
-known_start charter state made c starting front None begins same none =
-    never_known c starting front 0 (omega arith) begins
-known_start charter state made c starting front (Some s) begins same none =
-    known_first c starting front (run_by charter state made s) begins same none
+known_start charter state made c starting front None begins same none = search (never_known, arith)
+known_start charter state made c starting front (Some s) begins same none = search
+    (known_first, arith)
 
 -- and what is said of it
 pub start_is : {S : Type 0} (charter : S → Charter) (state : S → State) (c : Charter)
@@ -58,8 +55,7 @@ pub start_is : {S : Type 0} (charter : S → Charter) (state : S → State) (c :
     → IfSome spec (λ s. charter s ≡ c)
     → option_map_or (λ s. agreed_items ((rules_by (charter s)).shown (state s))) spec []
     ≡ start_items (rules_by c) starting
-start_is charter state c starting None begins same = cc
-start_is charter state c starting (Some s) begins same = cc
+start_is charter state c starting spec begins same = search arith
 
 -- the lines
 pub text_next : (line : ℕ → ℕ) (first : List ℕ) (start : List Item) (f : ℕ → List Item) (at : ℕ)

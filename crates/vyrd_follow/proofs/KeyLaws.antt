@@ -44,8 +44,7 @@ first_false false q e = refl
 
 not_the_first : (x y key : ℕ) → is_touched (pair_keys x y) key ≡ false
     → is_touched (x ∷ []) key ≡ false
-not_the_first x y key other =
-    first_false (x == key) (y == key) (neither_key x y key other)
+not_the_first x y key other = first_false _ (y == key) (neither_key x y _ other)
 
 not_cut : (b : Bool) (x key : ℕ) → is_touched (x ∷ []) key ≡ false
     → is_touched (cond b (x ∷ []) []) key ≡ false

@@ -43,13 +43,7 @@ setting-push told done x =
 pub last_of-push : (told : Thing) (done : List (ℕ × Effect)) (at : ℕ) (doing : Effect)
     → last_of (done ++ (at, doing) ∷ []) told
     ≡ cond (does_set told doing) (Some (LastStepped at doing)) (last_of done told)
-last_of-push told done at doing =
-    cc (setting-push told done (at, doing), by_test (does_set told doing))
-  where
-    by_test : (b : Bool) → option_map (λ step. LastStepped step.0 step.1)
-        (cond b (Some (at, doing)) (last_setting told done))
-        ≡ cond b (Some (LastStepped at doing)) (last_of done told)
-    by_test b = search arith
+last_of-push told done at doing = search (setting-push, last_of, arith)
 
 -- the next of what a step does
 placed_more : (before : List (ℕ × Effect)) (at : ℕ) (done : List Effect) (doing : Effect)
@@ -95,7 +89,5 @@ none_set (item ∷ items) = ap (λ xs. None ∷ xs) (none_set items)
 pub done_next : (c : Charter) (starting : List StartWord) (front : List Entry) (p : ℕ)
     → done_before c starting front p ++ map (placed_at p) (done_at c starting front p)
     ≡ done_before c starting front (p + 1)
-done_next c starting front p =
-    flat_map_more (λ q. map (placed_at q) (done_at c starting front q)) [] (numbers_below p) p
-    ∙ ap (flat_map (λ q. map (placed_at q) (done_at c starting front q)))
-    (sym (numbers_below-push p))
+done_next c starting front p = flat_map_more (λ q. map _ _) [] (numbers_below p) p
+    ∙ ap (flat_map _) (sym (numbers_below-push p))

@@ -39,52 +39,24 @@ pub agree_where_none : (a b : Amounts) (old new : List (ℕ × ℕ)) (from : ℕ
     → ((q : ℕ) → from ≤ q → comes_before next q ≡ true
     → (given q old ≡ 0) × (given q new ≡ 0))
     → AgreeFrom a b from next
-agree_where_none a b old new from next turned none q low before =
-    let nothing = none q low before in
-    omega (arith, turned q, nothing.0, nothing.1)
+agree_where_none a b old new from next turned none = search arith
 
 -- once a key has been gone through
 pub up_to_next : (a b shown later : Amounts) (key : ℕ) (next : Option ℕ)
     → AreUpTo a b (Some key) shown → later ≡ with_amount shown key (amount_of b key)
     → IfSome next (λ k. key + 1 ≤ k) → AgreeFrom a b (key + 1) next → AreUpTo a b next later
-up_to_next a b shown later key next known then low agree q =
-    ap (λ s. amount_of s q) then ∙ amount_of-with_amount shown key (amount_of b key) q
-    ∙ by_test (q == key) (nat_lt q key) refl refl
-  where
-    early : (n : Option ℕ) → IfSome n (λ k. key + 1 ≤ k) → q ≤ key → comes_before n q ≡ true
-    early n up at = search (is_below, arith)
-
-    here : comes_before next q ≡ true
-        → amount_of b q ≡ cond (comes_before next q) (amount_of b q) (amount_of a q)
-    here e = sym (ap (λ t. cond t (amount_of b q) (amount_of a q)) e)
-
-    later_on : key < q → (t : Bool) → comes_before next q ≡ t
-        → amount_of a q ≡ cond t (amount_of b q) (amount_of a q)
-    later_on past t e = search (past, arith)
-
-    by_test : (same below : Bool) → (q == key) ≡ same → nat_lt q key ≡ below
-        → cond same (amount_of b key) (amount_of shown q)
-        ≡ cond (comes_before next q) (amount_of b q) (amount_of a q)
-    by_test true below e f = search (same_of, here, arith)
-    by_test false true e f = cc (known q, here (early next low (omega (arith, below_of q key f))))
-    by_test false false e f =
-        cc (
-          known q,
-          later_on (omega (arith, not_below_of q key f, apart_of q key e)) (comes_before
-              next q) refl,
-        )
+up_to_next a b shown later key next known then low agree = search
+    (amount_of-with_amount, is_below, same_of, below_of, not_below_of, apart_of, arith)
 
 -- ---- the next difference
 
 module _ (a b shown : Amounts) (key : ℕ) (known : AreUpTo a b (Some key) shown) where
   -- the key has the amount that it had
   pub amount_kept : amount_of shown key ≡ amount_of a key
-  amount_kept = known key ∙ ap (λ t. cond t (amount_of b key) (amount_of a key))
-      (isnt_below key key (omega arith))
+  amount_kept = cc (known key, isnt_below key key (omega arith))
 
   lesser_agree : (q : ℕ) → q < key → differ_at shown b q ≡ false
-  lesser_agree q low = ap not (is_same (amount_of shown q) (amount_of b q)
-      (known q ∙ ap (λ t. cond t (amount_of b q) (amount_of a q)) (is_below q key low)))
+  lesser_agree q low = search (is_same, is_below, arith)
 
   -- a key that differs is the first that does
   first_is : (ks : List ℕ) → Rise ks → ((q : ℕ) → is_in q ks ≡ differ_at shown b q)
@@ -94,25 +66,15 @@ module _ (a b shown : Amounts) (key : ℕ) (known : AreUpTo a b (Some key) shown
     where
       by_order : (t u : Bool) → nat_lt k key ≡ t → nat_lt key k ≡ u
           → (rest : List ℕ) × (k ∷ ks ≡ key ∷ rest)
-      by_order true u e f =
-          let no : true ≡ false =
-          sym (or_left (k == k) (is_in k ks) (same_number k)) ∙ same k
-          ∙ lesser_agree k (below_of k key e) in
-          cc
-      by_order false true e f =
-          let past : key < k = below_of key k f in
-          let no : false ≡ true =
-          sym (ap (λ t. t || is_in key ks) (isnt_same k key (λ at. omega (arith, at, past)))
-          ∙ not_among k key ks rise.0 (omega (arith, past))) ∙ same key ∙ differs in
-          cc
+      by_order true u e f = search (same_number, lesser_agree, below_of, arith)
+      by_order false true e f = search (below_of, isnt_same, not_among, arith)
       by_order false false e f =
           let at : k ≡ key = omega (arith, not_below_of k key e, not_below_of key k f) in
-          (ks, ap (λ x. x ∷ ks) at)
+          (ks, cc)
 
   pub first_left : amount_of shown key ≢ amount_of b key
       → (rest : List ℕ) × (differences shown b ≡ key ∷ rest)
-  first_left other = first_is (differences shown b) (differences_rise shown b)
-      (among_differences shown b) (ap not (isnt_same (amount_of shown key) (amount_of b key) other))
+  first_left other = search (first_is, differences_rise, among_differences, isnt_same, arith)
 
 -- ---- the items
 
@@ -125,11 +87,8 @@ module _ {A : Type 0} (f : ℕ → A) (a b shown later : Amounts) (key : ℕ)
   items_put items said all other then put is =
       let first = first_left a b shown key known other in
       let left : differences later b ≡ first.0 =
-      ap (λ s. differences s b) then ∙ differences_left shown b key first.0 first.1 in
-      ap (λ xs. xs ++ map f (differences later b)) put
-      ∙ append_assoc items (f key ∷ []) (map f (differences later b))
-      ∙ ap (λ ks. items ++ f key ∷ map f ks) left
-      ∙ ap (λ ks. items ++ map f ks) (sym first.1) ∙ is
+      cc (differences_left shown b key first.0 first.1) in
+      cc (append_assoc items (f key ∷ []) (map f (differences later b)), first.1)
 
 -- at the end
 pub up_to_date : (a b shown : Amounts) → IsAmounts shown → IsAmounts b → AreUpTo a b None shown
@@ -142,8 +101,7 @@ items_all f b shown items all same is = cc (append-nil items, no_differences_fro
 
 -- no key is left
 pub at_end : (next : Option ℕ) → ((key : ℕ) → next ≢ Some key) → next ≡ None
-at_end None none = refl
-at_end (Some key) none = absurd (none key refl)
+at_end next none = search arith
 
 -- ---- one place more
 

@@ -24,10 +24,8 @@ pub entries_there : (words : List ℕ) (node i : ℕ) (s t : Amounts)
     → t ≡ with_amount s (slice_index words (12 * node + 4 + i)) 1
     → ((j : ℕ) → j < i → amount_of s (node_word words node (4 + j)) ≢ 0)
     → (j : ℕ) → j < i + 1 → amount_of t (node_word words node (4 + j)) ≢ 0
-entries_there words node i s t is before j low = by_test (j == i) refl
-  where
-    by_test : (b : Bool) → (j == i) ≡ b → amount_of t (node_word words node (4 + j)) ≢ 0
-    by_test b here = search (here, same_of, put_there, still_there, apart_of, arith)
+entries_there words node i s t is before j low = search
+    (same_of, put_there, still_there, apart_of, arith)
 
 -- a key that was there before two more were put
 pub there_then : (s t u : Amounts) (k l q : ℕ) → t ≡ with_amount s k 1 → u ≡ with_amount t l 1

@@ -55,25 +55,15 @@ module _ (h : Header) (w was : ℕ) (words : List ℕ) (is : h.subject ≡ Tree)
   -- the turns among them are all turns
   pub node_turns_all : turns_among (view_of_words h (set words w was)) (view_of_words h words) keys
       ≡ turns (view_of_words h (set words w was)) (view_of_words h words)
-  node_turns_all = ap (map (turned_to (view_of_words h words)))
-      (differences_of (view_of_words h (set words w was)) (view_of_words h words) (keys_of keys)
-      (keys_rise keys formed.rising) (λ q isnt. by_test q isnt (amount_of keys q == 0) refl))
-    where
-      by_test : (q : ℕ) → is_in q (keys_of keys) ≡ false → (b : Bool) → (amount_of keys q == 0) ≡ b
-          → amount_of (view_of_words h (set words w was)) q ≡ amount_of (view_of_words h words) q
-      by_test q isnt true e = others_stay q (same_of (amount_of keys q) 0 e)
-      by_test q isnt false e = true_false (is_in q (keys_of keys))
-          (key_among keys q (apart_of (amount_of keys q) 0 e)) isnt
+  node_turns_all = search
+      (differences_of, keys_rise, others_stay, same_of, true_false, key_among, apart_of, arith)
 
   -- once all of these keys were looked at
   pub all_found : (shown items : Amounts) (found : List (ℕ × ℕ)) (i : ℕ)
       → shown ≡ view_of_words h (set words w was) → items ≡ keys → length items ≤ i
       → found ≡ turns_among shown (view_of_words h words) (take i items)
       → found ≡ turns shown (view_of_words h words)
-  all_found shown items found i shows all end is =
-      is ∙ ap (turns_among shown (view_of_words h words)) (take_all i items end ∙ all)
-      ∙ ap (λ s. turns_among s (view_of_words h words) keys) shows ∙ node_turns_all
-      ∙ ap (λ s. turns s (view_of_words h words)) (sym shows)
+  all_found shown items found i shows all end is = search (take_all, node_turns_all, arith)
 
 -- ---- marks
 
@@ -82,16 +72,13 @@ module _ (size s : ℕ) (words : List ℕ) (marks seen : List Bool) (n : ℕ) (b
     (each : (m : ℕ) → m < s → get_or marks m false ≡ is_on_chain s words m)
     (here : b ≡ get_or seen n false) where
   has_mark : n < size → is_on_chain size words n ≡ b
-  has_mark low =
-      ap (λ k. is_on_chain k words n) (sym same) ∙ sym (each n (omega (arith, low, same)))
-      ∙ ap (λ ms. get_or ms n false) (sym is) ∙ sym here
+  has_mark low = search arith
 
   pub marks_off : b ≡ false → n < size → is_on_chain size words n ≡ false
   marks_off off low = has_mark low ∙ off
 
   pub marks_low : length marks ≡ s → b ≡ true → n < size
-  marks_low count on =
-      omega (arith, same, count, ap length is, marked_within seen n (sym here ∙ on))
+  marks_low count on = search (marked_within, arith)
 
   pub marks_on : length marks ≡ s → b ≡ true → is_on_chain size words n ≡ true
   marks_on count on = has_mark (marks_low count on) ∙ on

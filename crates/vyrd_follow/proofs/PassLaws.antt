@@ -17,10 +17,8 @@ pub known_past : (c : Charter) (starting : List StartWord) (front : List Entry) 
     → IsKnown c starting front at (Some run)
     → LeadsTo run (state_past (rules_by run.charter) front at run.state) found
     → IsKnown c starting front (at + 1) found
-known_past c starting front at run None within known leads =
-    search (known_none, starting, within, none_next, leads, arith)
-known_past c starting front at run (Some next) within known leads =
-    known_next c starting front at run next within known leads
+known_past c starting front at run None within known leads = search (known_none, none_next, arith)
+known_past c starting front at run (Some next) within known leads = search (known_next, arith)
 
 -- the state past a commit whose execution is found
 pub past_commit : (r : Rules) (front : List Entry) (at : ℕ) (e : Entry) (x : Execution)
@@ -33,5 +31,4 @@ pub none_past : (c : Charter) (starting : List StartWord) (front : List Entry) (
     → at < length front → IsKnown c starting front at None
     → IsKnown c starting front (at + 1) None
 none_past c starting front at within known =
-    known_none c starting front at (at + 1) (omega arith) (omega (arith, within))
-    (sym known.state_is)
+    known_none c _ _ at _ (omega arith) (omega (arith, within)) (sym known.state_is)

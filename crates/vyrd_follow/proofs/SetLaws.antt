@@ -10,8 +10,7 @@ pub one_key : (n a b : ℕ) → 0 < n → n ≤ 1 → a ∷ [] ≡ take n (a ∷
 one_key n a b some few = grind (arith, few)
 
 pub no_key : (n a b : ℕ) → n ≤ 0 → [] ≡ take n (a ∷ b ∷ [])
-no_key zero a b none = refl
-no_key (suc n) a b none = absurd (omega (arith, none))
+no_key n a b none = search arith
 
 -- what is done, once it is known which state follows
 pub set_so : (old done : List Effect) (before after : State) (o : Option State)

@@ -36,12 +36,11 @@ module _ (h : Header) (words : List ℕ) (w was : ℕ) (count : length words ≡
       → (q : ℕ) → q ≢ low → q ≢ high
       → amount_of (view_of_words h (set words w was)) q ≡ amount_of (view_of_words h words) q
   slot_touched low high is within before after q not_low not_high =
-      let same : set words w (slice_index words w) ≡ words = set-get_or words w 0 in
+      let same : set words w (slice_index words w) ≡ words = set-get_or _ w 0 in
       let gives : 0 ≡ given q (slot_parts (set words w (slice_index words w)) (w / 2)) =
-      sym (ap (λ ws. given q (slot_parts ws (w / 2))) same
-      ∙ slot_none q words (w / 2) (after q not_low not_high)) in
+      sym (cc (slot_none q words (w / 2) (after q not_low not_high))) in
       let gave : 0 ≡ given q (slot_parts (set words w was) (w / 2)) =
-      sym (slot_none q (set words w was) (w / 2) (before q not_low not_high)) in
+      sym (slot_none q (set _ w _) (w / 2) (before q not_low not_high)) in
       omega (
         arith,
         slot_turned h words q w was is 0 0 (amount_of (view_of_words h (set words w was)) q) count
@@ -50,15 +49,11 @@ module _ (h : Header) (words : List ℕ) (w was : ℕ) (count : length words ≡
 
   pub chunk_touched : h.subject ≡ Cache → (q : ℕ) → q ≢ w / 5 → q ≢ h.size + w / 5
       → amount_of (view_of_words h (set words w was)) q ≡ amount_of (view_of_words h words) q
-  chunk_touched is q other past =
-      chunk_passed h words q w was (amount_of (view_of_words h (set words w was)) q) is count refl
-      (neither (w / 5) (h.size + w / 5) q other past)
+  chunk_touched is q other past = search (chunk_passed, neither, arith)
 
   pub buffer_touched : h.subject ≡ Buffers → (q : ℕ) → q ≢ w / 8 → q ≢ h.size + w / 8
       → amount_of (view_of_words h (set words w was)) q ≡ amount_of (view_of_words h words) q
-  buffer_touched is q other past =
-      buffer_passed h words q w was (amount_of (view_of_words h (set words w was)) q) is count refl
-      (neither (w / 8) (h.size + w / 8) q other past)
+  buffer_touched is q other past = search (buffer_passed, neither, arith)
 
 module _ (h : Header) (words : List ℕ) (q : ℕ) where
   pub slots_small : h.subject ≡ Multiset → is_built_in h.subject ≡ true

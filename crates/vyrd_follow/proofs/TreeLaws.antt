@@ -63,19 +63,17 @@ module _ (q n : ℕ) (f g : ℕ → ℕ × ℕ) (same : (m : ℕ) → m / 4 ≢ 
 
   after_node : (k : ℕ) → sum_to f (4 * n + 4 + k) + sum_to g (4 * n + 4)
       ≡ sum_to g (4 * n + 4 + k) + sum_to f (4 * n + 4)
-  after_node zero =
-      let none : 4 * n + 4 + 0 ≡ 4 * n + 4 = omega arith in
-      omega (arith, ap (sum_to f) none, ap (sum_to g) none)
+  after_node zero = grind arith
   after_node (suc k) =
       let one : 4 * n + 4 + k + 1 ≡ 4 * n + 4 + suc k = omega arith in
       let here = ap (part_given q) (same (4 * n + 4 + k) (λ at. absurd (omega (arith, at)))) in
-      subst (λ m. sum_to f m + sum_to g (4 * n + 4) ≡ sum_to g m + sum_to f (4 * n + 4)) one
-      (omega (
+      rw (← one) (omega (
         arith,
         here,
         after_node k,
         given_map_push q f (4 * n + 4 + k),
-        given_map_push q g (4 * n + 4 + k),
+        given_map_push q g
+            (4 * n + 4 + k),
       ))
 
   pub one_node : (size : ℕ) → n < size
@@ -106,8 +104,7 @@ shown_places : (h : Header) (words : List ℕ) (q : ℕ) → h.subject ≡ Tree 
     ≡ given q (map (tree_pair h.size words) (numbers_below (4 * h.size + 1)))
 unfolding view_of_words
 shown_places h words q is some =
-    ap (λ s. amount_of (collected (parts_of s h.size words)) q) is
-    ∙ amount_of-collected (chain_parts h.size words) q ∙ sym (places_give q h.size words some)
+    cc (amount_of-collected (chain_parts h.size words) q, places_give q h.size words some)
 
 module _ (size w was : ℕ) (words : List ℕ) (unlinked : w % 12 ≢ 3) where
   elsewhere : AgreeElsewhere (set words w was) words (w ∷ [])
@@ -127,29 +124,18 @@ module _ (size w was : ℕ) (words : List ℕ) (unlinked : w % 12 ≢ 3) where
 
   same_entry : (m : ℕ) → m / 4 ≢ w / 12
       → entry_pair words (m / 4) (m % 4) ≡ entry_pair (set words w was) (m / 4) (m % 4)
-  same_entry m apart =
-      let marks = replicate (suc (m / 4)) true in
-      let marked = all_marked (m / 4) in
-      ap (λ (b : Bool). cond {A = ℕ × ℕ} b (entry_pair words (m / 4) (m % 4)) (0, 0)) (sym marked)
-      ∙ node_untouched (set words w was) words (w ∷ []) elsewhere marks m
-      (ap (λ b. b && (w / 12 == m / 4 || false)) marked
-      ∙ ap (λ b. b || false) (isnt_same (w / 12) (m / 4) (λ e. apart (sym e))))
-      ∙ ap (λ (b : Bool). cond {A = ℕ × ℕ} b (entry_pair (set words w was) (m / 4) (m % 4)) (0, 0))
-      marked
+  same_entry m apart = search (all_marked, node_untouched, elsewhere, isnt_same, arith)
 
   -- the places of other nodes, and of the chain's end
   pub same_place : (m : ℕ) → m / 4 ≢ w / 12
       → tree_pair size words m ≡ tree_pair size (set words w was) m
   same_place m apart =
-      ap (λ (b : Bool). cond {A = ℕ × ℕ} (m == 4 * size) (end_pair b)
-      (cond {A = ℕ × ℕ} (is_on_chain size words (m / 4)) (entry_pair words (m / 4) (m % 4)) (0, 0)))
-      (end_untouched (set words w was) words (w ∷ []) elsewhere no_link size)
-      ∙ ap (λ (b : Bool). cond {A = ℕ × ℕ} (m == 4 * size)
-      (end_pair (is_broken size (set words w was)))
-      (cond {A = ℕ × ℕ} b (entry_pair words (m / 4) (m % 4)) (0, 0))) (same_chain (m / 4))
-      ∙ ap (λ (p : ℕ × ℕ). cond {A = ℕ × ℕ} (m == 4 * size)
-      (end_pair (is_broken size (set words w was)))
-      (cond {A = ℕ × ℕ} (is_on_chain size (set words w was) (m / 4)) p (0, 0))) (same_entry m apart)
+      cc (
+        end_untouched (set words w was) words (w ∷ []) elsewhere no_link size,
+        same_chain
+            (m / 4),
+        same_entry m apart,
+      )
 
   -- the chain's end
   pub same_end : (m : ℕ) → (m == 4 * size) ≡ true
@@ -163,12 +149,7 @@ module _ (size w was : ℕ) (words : List ℕ) (unlinked : w % 12 ≢ 3) where
   -- those of the word's own node, if it isn't on the chain
   same_unmarked : (m : ℕ) → m < 4 * size → is_on_chain size words (m / 4) ≡ false
       → tree_pair size words m ≡ tree_pair size (set words w was) m
-  same_unmarked m low off =
-      let whole : 4 * (m / 4) + m % 4 ≡ m = omega arith in
-      subst (λ k. tree_pair size words k ≡ tree_pair size (set words w was) k) whole
-      (node_place size words (m / 4) (m % 4) false (omega (arith, low)) (omega arith) off
-      ∙ sym (node_place size (set words w was) (m / 4) (m % 4) false (omega (arith, low))
-      (omega arith) (sym (same_chain (m / 4)) ∙ off)))
+  same_unmarked m low off = search (node_place, same_chain, arith)
 
 module _ (h : Header) (w was : ℕ) (words : List ℕ) (q : ℕ) (is : h.subject ≡ Tree)
     (some : 0 < h.size) (unlinked : w % 12 ≢ 3) where
@@ -204,23 +185,17 @@ module _ (h : Header) (w was : ℕ) (words : List ℕ) (q : ℕ) (is : h.subject
   -- and a node that isn't on it has given nothing
   pub node_unturned : (w / 12 < h.size → is_on_chain h.size words (w / 12) ≡ false)
       → amount_of (view_of_words h (set words w was)) q ≡ amount_of (view_of_words h words) q
-  node_unturned off =
-      shown_places h (set words w was) q is some
-      ∙ sym (ap (given q) (map_alike (tree_pair h.size words) (tree_pair h.size (set words w was))
-      (4 * h.size + 1) (λ m low. by_node m low (m / 4 == w / 12) (m == 4 * h.size) refl refl)))
-      ∙ sym (shown_places h words q is some)
-    where
-      by_node : (m : ℕ) → m < 4 * h.size + 1 → (own end : Bool) → (m / 4 == w / 12) ≡ own
-          → (m == 4 * h.size) ≡ end
-          → tree_pair h.size words m ≡ tree_pair h.size (set words w was) m
-      by_node m low false end apart e =
-          same_place h.size w was words unlinked m (apart_of (m / 4) (w / 12) apart)
-      by_node m low true true own e = same_end h.size w was words unlinked m e
-      by_node m low true false own e =
-          let inside : m < 4 * h.size = omega (arith, low, apart_of m (4 * h.size) e) in
-          let at : m / 4 ≡ w / 12 = same_of (m / 4) (w / 12) own in
-          same_unmarked h.size w was words unlinked m inside
-          (ap (is_on_chain h.size words) at ∙ off (omega (arith, at, inside)))
+  node_unturned off = search (
+    shown_places,
+    given,
+    map_alike,
+    same_place,
+    apart_of,
+    same_end,
+    same_of,
+    same_unmarked,
+    arith,
+  )
 
 -- ---- amounts are small
 
@@ -263,7 +238,6 @@ pub word_before : (words : List ℕ) (w was i q : ℕ) → w < length words → 
 word_before words w was i q within not_was isnt = by_test (i == w) refl
   where
     by_test : (t : Bool) → (i == w) ≡ t → q ≢ slice_index (set words w was) i
-    by_test true e = λ at. not_was (at
-        ∙ ap (slice_index (set words w was)) (same_of i w e)
-        ∙ get_or-set_same words w was 0 within)
-    by_test false e = λ at. isnt (at ∙ get_or-set_other words w i was 0 (apart_of i w e))
+    by_test true e = λ at. not_was (at ∙ ap (slice_index _) (same_of i w e)
+        ∙ get_or-set_same _ w _ 0 within)
+    by_test false e = λ at. isnt (at ∙ get_or-set_other _ w i _ 0 (apart_of i w e))

@@ -40,25 +40,7 @@ module _ (e : Effect) (was : ℕ) where
       → (k, a) ∷ rest ≡ map (turned_to to) ks
       → (ls : List ℕ) × (ks ≡ k ∷ ls) × (a ≡ amount_of to k) × (rest ≡ map (turned_to to) ls)
   first_left to k a rest [] is = cc
-  first_left to k a rest (l ∷ ls) is =
-      let key : k ≡ l = ap (head_key k) is in (
-        ls,
-        ap (λ x. x ∷ ls) (sym key),
-        ap (head_amount a) is ∙ ap (amount_of to) (sym key),
-        ap (tail_of rest) is,
-      )
-    where
-      head_key : ℕ → List (ℕ × ℕ) → ℕ
-      head_key d [] = d
-      head_key d (p ∷ ps) = p.0
-
-      head_amount : ℕ → List (ℕ × ℕ) → ℕ
-      head_amount d [] = d
-      head_amount d (p ∷ ps) = p.1
-
-      tail_of : List (ℕ × ℕ) → List (ℕ × ℕ) → List (ℕ × ℕ)
-      tail_of d [] = d
-      tail_of d (p ∷ ps) = ps
+  first_left to k a rest (l ∷ ls) is = grind arith
 
   -- a key that still differs once the first has turned is another one, and differed before
   module _ (now to : Amounts) (k q : ℕ)
@@ -89,31 +71,23 @@ module _ (e : Effect) (was : ℕ) where
       (record { effect = e; was = was; before = amount_of now k; after = a }) ∷ [])
       all
   turned from to now k a rest said all is =
-      let first = first_left to k a rest (differences now to) is.turning in
+      let first = first_left to k a _ _ is.turning in
       let ls : List ℕ = first.0 in
-      let tail : differences (with_amount now k (amount_of to k)) to ≡ ls =
-      differences_left now to k ls first.1 in
-      let here : differ_at now to k ≡ true = sym (among_differences now to k)
-      ∙ ap (is_in k) first.1 ∙ first_among k ls in
+      let tail : differences (with_amount now k (amount_of to k)) to
+      ≡ ls = differences_left now to k _ first.1 in
+      let here : differ_at now to k ≡ true = sym (among_differences _ _ k) ∙ ap (is_in k) first.1
+      ∙ first_among k _ in
       let had : amount_of now k ≡ amount_of from k = is.kept k here in
-      subst (λ x. IsTurning e was from to (with_amount now k x) rest (said ++ Changed k
-      (record { effect = e; was = was; before = amount_of now k; after = x }) ∷ []) all)
-      (sym first.2)
-      (record {
-        turning = first.3 ∙ ap (map (turned_to to)) (sym tail);
-        formed = IsAmounts-with_amount now k (amount_of to k) is.formed;
-        kept = λ q differ. still_has now to k q differ ∙ is.kept q (differed now to k q differ);
-        saying = ap (λ n. (said ++ Changed k (record {
-          effect = e;
-          was = was;
-          before = n;
-          after = amount_of to k;
-        }) ∷ []) ++ map (turn_item e was from to)
-            (differences (with_amount now k (amount_of to k)) to)) had
-            ∙ ap (λ ks. (said ++ turn_item e was from to k ∷ [])
-            ++ map (turn_item e was from to) ks) tail
-            ∙ append_assoc said (turn_item e was from to k ∷ []) (map (turn_item e was from to) ls)
-            ∙ ap (λ ks. said ++ map (turn_item e was from to) ks) (sym first.1) ∙ is.saying;
+      rw first.2 (record {
+        turning = first.3 ∙ ap (map _) (sym tail);
+        formed = IsAmounts-with_amount now k (amount_of _ k) is.formed;
+        kept = λ q differ. still_has _ to k q differ ∙ is.kept q (differed _ _ k q differ);
+        saying = cc (
+          append_assoc said (turn_item e was from to k ∷ [])
+              (map (turn_item e was from to) ls),
+          first.1,
+          is.saying,
+        );
       })
 
   -- the same of what stands in a list from a place on
@@ -134,27 +108,14 @@ module _ (e : Effect) (was : ℕ) where
       let a = (get_or left i d).1 in
       let rest = drop (i + 1) left in
       let here = behind_is left i (get_or left i d) (slice_get-get_or left i d within) in
-      let one = turned from to now k a rest said all
-      (subst (λ l. IsTurning e was from to now l said all) here is) in
-      let said_is = tells ∙ ap (λ n. said ++ Changed (get_or left i d).0 (record {
-        effect = e;
-        was = was;
-        before = n;
-        after = after;
-      }) ∷ []) had ∙ ap (λ n. said ++ Changed (get_or left i d).0 (record {
-        effect = e;
-        was = was;
-        before = amount_of now (get_or left i d).0;
-        after = n;
-      }) ∷ []) has in
-      subst (λ s. IsTurning e was from to next (drop (i + 1) left) s all) (sym said_is)
-      (subst (λ n. IsTurning e was from to n (drop (i + 1) left) (said ++ Changed
-      (get_or left i d).0 (record {
-        effect = e;
-        was = was;
-        before = amount_of now (get_or left i d).0;
-        after = (get_or left i d).1;
-      }) ∷ []) all) (sym then) one)
+      let one = turned from to now k a rest said all (rw (← here) is) in
+      let said_is = tells
+      ∙ ap (λ n. said ++ Changed (get_or left i d).0
+      (record { effect = e; was = was; before = n; after = after }) ∷ []) had
+      ∙ ap (λ n. said ++ Changed (get_or left i d).0
+      (record { effect = e; was = was; before = amount_of now (get_or left i d).0; after = n })
+      ∷ []) has in
+      rw said_is (rw then one)
 
   -- nothing is left
   none_left : (to : Amounts) (ks : List ℕ) → [] ≡ map (turned_to to) ks → ks ≡ []
@@ -163,16 +124,12 @@ module _ (e : Effect) (was : ℕ) where
 
   pub all_turned : (from to now : Amounts) (left : List (ℕ × ℕ)) (said all : List Item)
       → IsTurning e was from to now left said all → left ≡ [] → IsAmounts to → now ≡ to
-  all_turned from to now left said all is none formed = no_differences now to is.formed formed
-      (none_left to (differences now to) (sym none ∙ is.turning))
+  all_turned from to now left said all is none formed = search (no_differences, none_left, arith)
 
   pub all_said : (from to now : Amounts) (left : List (ℕ × ℕ)) (said all : List Item)
       → IsTurning e was from to now left said all → left ≡ [] → said ≡ all
   all_said from to now left said all is none =
-      sym (append-nil said)
-      ∙ ap (λ ks. said ++ map (turn_item e was from to) ks)
-      (sym (none_left to (differences now to) (sym none ∙ is.turning)))
-      ∙ is.saying
+      cc (append-nil said, none_left to (differences now to) (sym none ∙ is.turning), is.saying)
 
   -- no key has turned yet: none turns, and the write alone has been told
   pub nothing_turns : (from to : Amounts) (left : List (ℕ × ℕ)) (other : Item)
@@ -185,8 +142,7 @@ module _ (e : Effect) (was : ℕ) where
         turning = is;
         formed = formed;
         kept = λ q differ. refl;
-        saying = ap (λ ks. said ++ map (turn_item e was from to) ks) none ∙ append-nil said ∙ told
-            ∙ ap (λ ks. old ++ or_item other (map (turn_item e was from to) ks)) (sym none);
+        saying = cc (append-nil said);
       }
 
   -- or some turn
@@ -199,13 +155,7 @@ module _ (e : Effect) (was : ℕ) where
   pub something_turns : (from to : Amounts) (left : List (ℕ × ℕ)) (other : Item)
       (old said : List Item) → IsAmounts from → left ≡ turns from to → left ≢ [] → said ≡ old
       → IsTurning e was from to from left said (old ++ or_item other (turn_items e was from to))
-  something_turns from to left other old said formed is some told = record {
-    turning = is;
-    formed = formed;
-    kept = λ q differ. refl;
-    saying = ap (λ s. s ++ turn_items e was from to) told
-        ∙ ap (λ xs. old ++ xs) (or_some from to left (differences from to) other is some);
-  }
+  something_turns from to left other old said formed is some told = search (or_some, arith)
 
 -- ---- the turns of two keys
 
@@ -221,30 +171,20 @@ module _ (from to : Amounts) (low high : ℕ) (none one all : List (ℕ × ℕ))
   pub turns_of_two : all ≡ one ++ map (turned_to to) (filter (differ_at from to) (high ∷ []))
       → low < high → all ≡ turns from to
   turns_of_two second order =
-      second
-      ∙ ap (λ ps. ps ++ map (turned_to to) (filter (differ_at from to) (high ∷ [])))
-      (first ∙ ap (λ ps. ps ++ map (turned_to to) (filter (differ_at from to) (low ∷ []))) begin)
-      ∙ two_kept (differ_at from to) (turned_to to) low high
-      ∙ ap (map (turned_to to))
-      (differences_of from to (low ∷ high ∷ []) ((order, tt), (tt, tt)) outside)
+      cc (
+        two_kept (differ_at from to) (turned_to to) low high,
+        differences_of from to
+            (low ∷ high ∷ []) ((order, tt), (tt, tt)) outside,
+      )
     where
       outside : (q : ℕ) → is_in q (low ∷ high ∷ []) ≡ false → amount_of from q ≡ amount_of to q
-      outside q isnt =
-          let both = neither_true (low == q) (high == q || false) isnt in
-          let past = neither_true (high == q) false both.1 in
-          others q (λ e. apart_of low q both.0 (sym e)) (λ e. apart_of high q past.0 (sym e))
+      outside q isnt = search (neither_true, apart_of, arith)
 
   pub turns_of_one : all ≡ one → low ≡ high → all ≡ turns from to
-  turns_of_one same key =
-      same ∙ first
-      ∙ ap (λ ps. ps ++ map (turned_to to) (filter (differ_at from to) (low ∷ []))) begin
-      ∙ ap (map (turned_to to)) (differences_of from to (low ∷ []) (tt, tt) outside)
+  turns_of_one same key = cc (differences_of from to (low ∷ []) (tt, tt) outside)
     where
       outside : (q : ℕ) → is_in q (low ∷ []) ≡ false → amount_of from q ≡ amount_of to q
-      outside q isnt =
-          let both = neither_true (low == q) false isnt in
-          let apart : q ≢ low = λ e. apart_of low q both.0 (sym e) in
-          others q apart (λ e. apart (e ∙ sym key))
+      outside q isnt = grind arith
 
 -- ---- views
 
@@ -275,5 +215,4 @@ word_read words now i was same within here =
 pub kept_shown : (kept : Option Amounts) (is shown : Amounts)
     → IfSome kept (λ amounts. amounts ≡ is)
     → Some shown ≡ kept → shown ≡ is
-kept_shown None is shown each here = cc
-kept_shown (Some amounts) is shown each here = same_Some shown amounts here ∙ each
+kept_shown kept is shown each here = search arith

@@ -11,8 +11,4 @@ module _ (width places : ℕ) (gives : Gives) (q w whole : ℕ) (all : List ℕ)
       ≡ given q (part_pairs width places gives (take m there) (w / k))
       → given q (pairs_in n pairs)
       ≡ given q (part_pairs width places gives (take whole all) (w / width))
-  given_there n m k pairs found there same few many is wide gave =
-      ap (λ ps. given q (pairs_in n ps)) same ∙ ap (λ j. given q (pairs_in j found)) few ∙ gave
-      ∙ ap (λ j. given q (part_pairs width places gives (take j there) (w / k))) many
-      ∙ ap (λ words. given q (part_pairs width places gives (take whole words) (w / k))) is
-      ∙ ap (λ j. given q (part_pairs width places gives (take whole all) (w / j))) wide
+  given_there n m k pairs found there same few many is wide gave = cc

@@ -28,8 +28,7 @@ writes_onto h starting effects ((w, v) ∷ writes) =
 
 or_assoc : {A : Type 0} (a b c : Option A) → option_or a (option_or b c)
     ≡ option_or (option_or a b) c
-or_assoc None b c = refl
-or_assoc (Some x) b c = refl
+or_assoc a b c = search arith
 
 last_onto : (w : ℕ) (effects writes : List (ℕ × ℕ))
     → first_answer (given_to w) (newest_first_onto effects writes) ≡ option_or (given_last w writes)
@@ -40,8 +39,7 @@ last_onto w effects (write ∷ writes) =
     (first_answer (given_to w) effects)
 
 map_alike : (f g : ℕ → ℕ) → ((q : ℕ) → f q ≡ g q) → (xs : List ℕ) → map f xs ≡ map g xs
-map_alike f g same [] = refl
-map_alike f g same (x ∷ xs) = let rest = map_alike f g same xs in λ i. same x i ∷ rest i
+map_alike f g same xs = search arith
 
 -- Writes that act as some effects give the words that these effects give.
 pub words_alike : (h : Header) (starting : List StartWord) (before effects writes : List (ℕ × ℕ))
@@ -77,17 +75,14 @@ alike_more behind writes effects [] [] alike all = tt
 alike_more behind writes effects [] (part ∷ parts) alike all = absurd all
 alike_more behind writes effects (old ∷ since) [] alike all = absurd all
 alike_more behind writes effects (old ∷ since) (part ∷ parts) alike all =
-    subst (λ n. AllActAlike
-    (cond (length since == behind) ((old ++ writes) ∷ since) (old ∷ with_part behind writes since))
-    (cond (n == behind) ((effects ++ part) ∷ parts) (part ∷ with_effects behind effects parts)))
-    (alike_count since parts all.1)
+    rw (← alike_count since parts all.1)
     (by_test (length since == behind) (alike_more behind writes effects since parts alike all.1))
   where
     by_test : (b : Bool) → AllActAlike (with_part behind writes since)
         (with_effects behind effects parts)
         → AllActAlike (cond b ((old ++ writes) ∷ since) (old ∷ with_part behind writes since))
         (cond b ((effects ++ part) ∷ parts) (part ∷ with_effects behind effects parts))
-    by_test true rest = (alike-append old part writes effects all.0 alike, all.1)
+    by_test true rest = (alike-append old _ _ effects all.0 alike, all.1)
     by_test false rest = (all.0, rest)
 
 -- a new part

@@ -48,13 +48,11 @@ other_answers c e earlier other = cc
 
 -- no fewer with more commits, and one more with one more
 more_commits : (b : Bool) (n m before : ℕ) → n ≤ m → answers_by b n before ≤ answers_by b m before
-more_commits true n m before more = omega (arith, more)
-more_commits false n m before more = omega arith
+more_commits b n m before more = search arith
 
 next_commit : (b : Bool) (n m before : ℕ) → before ≤ n → m ≡ n + 1
     → answers_by b m before ≡ one_more (answers_by b n before)
-next_commit true n m before low is = omega (arith, low, is)
-next_commit false n m before low is = refl
+next_commit b n m before low is = search arith
 
 fewer : (e : Entry) (earlier : List Entry) → commit_count earlier ≤ commit_count (e ∷ earlier)
 fewer e earlier = by_commit (is_commit e.kind) refl
@@ -94,38 +92,25 @@ pub quiet_answers : (h : Header) (e : Entry) (earlier later : List Entry) (c : �
     → answers_of c earlier ≤ answers_of c (e ∷ earlier)
 quiet_answers h e earlier later c keeps quiet = by_same e.caller c
     (λ same. subst (λ d. broken_rule h earlier (entry d e.kind) ≡ None
-    → waiting_at (place_of (entry d e.kind) earlier later) ≡ None
-    → answers_of c earlier ≤ answers_of c (entry d e.kind ∷ earlier)) (sym same)
-    (own e.kind) keeps quiet)
-    (λ other. at_most (other_answers c e earlier other)
-    (more_commits (is_observing c earlier) (commit_count earlier) (commit_count (e ∷ earlier))
-    (commit_count (entries_before_call c earlier)) (fewer e earlier)))
+    → waiting_at (place_of (entry d e.kind) earlier later) ≡ None → answers_of c earlier
+    ≤ answers_of c (entry d e.kind ∷ earlier)) (sym same) (own e.kind) keeps quiet)
+    (λ other. at_most (other_answers c e _ other)
+    (more_commits _ _ _ (commit_count (entries_before_call c earlier)) (fewer e earlier)))
   where
     at_most : {n m k : ℕ} → m ≡ k → n ≤ k → n ≤ m
     at_most {n} {m} {k} is low = omega (arith, is, low)
 
-    nothing : {n m : ℕ} → n ≡ 0 → n ≤ m
-    nothing {n} {m} is = omega (arith, is)
-
     own : (kind : Kind) → broken_rule h earlier (entry c kind) ≡ None
         → waiting_at (place_of (entry c kind) earlier later) ≡ None
         → answers_of c earlier ≤ answers_of c (entry c kind ∷ earlier)
-    own kind keeps' none =
-        search (
-          nothing,
-          unopened_answers,
-          call_is_free,
-          committed_answers,
-          returned_committed,
-          arith,
-        )
+    own kind keeps' none = search
+        (unopened_answers, call_is_free, committed_answers, returned_committed, arith)
 
 -- so nobody has seen too many
 pub seen_on : (h : Header) (e : Entry) (earlier later : List Entry) (watches : List Seen)
     → broken_rule h earlier e ≡ None → waiting_at (place_of e earlier later) ≡ None
     → AreSeenFew earlier watches → AreSeenFew (e ∷ earlier) watches
-seen_on h e earlier later watches keeps quiet few =
-    λ c seen here. grind (arith, few c seen here, quiet_answers h e earlier later c keeps quiet)
+seen_on h e earlier later watches keeps quiet few = search (quiet_answers, arith)
 
 -- a call or a return, which the caller's own watch has the answers of
 pub seen_changed : (c : ℕ) (kind : Kind) (earlier : List Entry) (watches new : List Seen)

@@ -43,15 +43,14 @@ kept_on : (h : Header) (c : ℕ) (earlier later : List Entry) → break_after h 
     → AwaitsReturn (waiting_after earlier later)
     → answers_of c earlier ≤ answers_of c (before_open_commit earlier later)
 kept_on h c earlier [] keeps awaits = omega arith
-kept_on h c earlier (e ∷ later) keeps awaits =
-    by_waiting (kept_on h c (e ∷ earlier) later both.1) (waiting_at (place_of e earlier later))
-    refl awaits
+kept_on h c earlier (e ∷ later) keeps awaits = by_waiting (kept_on h c (e ∷ earlier) later both.1)
+    (waiting_at (place_of e earlier later)) refl awaits
   where
     both : (broken_rule h earlier e ≡ None) × (break_after h (e ∷ earlier) later ≡ None)
     both = both_none (broken_rule h earlier e) (break_after h (e ∷ earlier) later) keeps
 
     isnt_open : is_commit e.kind ≡ false → is_left_open e later ≡ false
-    isnt_open isnt = ap (λ b. b && is_none (next_reply e.caller later)) isnt
+    isnt_open isnt = cc
 
     by_waiting : (AwaitsReturn (waiting_after (e ∷ earlier) later)
         → answers_of c (e ∷ earlier) ≤ answers_of c (before_open_commit (e ∷ earlier) later))
@@ -64,9 +63,7 @@ kept_on h c earlier (e ∷ later) keeps awaits =
         let is = ap (answers_of c)
         (past e earlier later (isnt_open (uncommitted h e earlier later both.0 quiet))) in
         omega (arith, here, on, is)
-    by_waiting further (Some x) is first =
-        let stops = ap (answers_of c) (at_open e earlier later
-        (left_open e earlier later x first.0 first.1 is first.2)) in omega (arith, stops)
+    by_waiting further (Some x) is first = search (at_open, left_open, arith)
 
 -- as many in all as each caller has
 sums_up : (bound : ℕ → ℕ) (k : ℕ) (watches : List Seen)
@@ -95,15 +92,14 @@ pub seen_few_all : (callers : ℕ) (watches : List Seen) (earlier later log : Li
     → AreSeenFew earlier watches → length watches ≡ callers
     → answer_count watches ≤ answers_left callers log
 seen_few_all callers watches earlier later log h whole keeps awaits returned few long =
-    subst (λ n. answer_count watches ≤ sum_by bound (numbers_below n)) long
-    (sums_up bound 0 watches (λ c seen here.
+    rw (← long) (sums_up bound 0 watches (λ c seen here.
     let low = few c seen here in
     let on = kept_on h c earlier later keeps awaits in
     let is = ap (answers_of c) (ap (before_open_commit []) (log_parts earlier later log whole)
     ∙ passed earlier later returned) in
     let there : length seen.answers ≤ bound c = omega (arith, low, on, is) in
     let same : c ≡ 0 + c = omega arith in
-    subst (λ n. length seen.answers ≤ bound n) same there))
+    rw (← same) there))
   where
     bound : ℕ → ℕ
     bound c = answers_of c (before_open_commit [] log)

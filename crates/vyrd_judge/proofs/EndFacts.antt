@@ -26,9 +26,7 @@ pub open_at_end : (r : Rules) (starting : List StartWord) (log : List Entry) (v 
     → v ≡ verdict r starting log → unless_accepted v ≡ end_verdict r starting log
 unfolding verdict end_verdict accepted
 open_at_end r starting log v none is =
-    ap unless_accepted
-    (is ∙ ap (λ o. unwrap_or (option_or o (end_verdict r starting log)) (accepted log)) none)
-    ∙ by_tests (is_none (state_at_start r starting)) (is_call_open r.header (newest_first log))
+    cc (by_tests (is_none (state_at_start r starting)) (is_call_open r.header (newest_first log)))
   where
     at_end : Bool → Bool → Option Verdict
     at_end stateless open_call = option_or (then_some stateless (Malformed 2 StartState))

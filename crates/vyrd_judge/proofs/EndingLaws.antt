@@ -64,16 +64,14 @@ own_ends : (h : Header) (c : ℕ) (kind : Kind) (earlier later : List Entry)
     → (has_inner_commit c earlier ≡ true → is_ended c (entry c kind ∷ later) ≡ true)
     → has_inner_commit c (entry c kind ∷ earlier) ≡ true → is_ended c later ≡ true
 own_ends h c (Call method args) earlier later kept is before inner =
-    left (c == c) false (is_ended c later) refl
-    (before (sym (own_inner c (Call method args) earlier) ∙ inner))
+    left (c == c) false _ refl (before (sym (own_inner c (Call method args) earlier) ∙ inner))
 own_ends h c (Return reply) earlier later kept is before inner =
     never (all_kept (checks_at h earlier (entry c (Return reply))) kept).1.1.0
     (has_block_of c earlier (sym (own_inner c (Return reply) earlier) ∙ inner))
 own_ends h c (Write word value) earlier later kept is before inner =
-    left (c == c) false (is_ended c later) refl
-    (before (sym (own_inner c (Write word value) earlier) ∙ inner))
+    left (c == c) false _ refl (before (sym (own_inner c (Write word value) earlier) ∙ inner))
 own_ends h c Commit earlier later kept is before inner = let reply = is refl in
-    returned_ended c later reply.0 reply.1
+    returned_ended c _ reply.0 reply.1
 own_ends h c BlockOpen earlier later kept is before inner = never (own_inner c BlockOpen earlier)
     inner
 own_ends h c BlockClose earlier later kept is before inner = never (own_inner c BlockClose earlier)

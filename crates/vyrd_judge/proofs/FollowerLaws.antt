@@ -160,31 +160,7 @@ pub taken_on : (k n : FollowerKept) (starting : List StartWord) (log : List Entr
     → n.answers ≤ 2 * answer_count n.watches → AreFew n.views.begun n.views.since
     (effect_parts [] [] log) → HasTakenIn n starting log
 taken_on k n starting log xs t judged queued waiting header started shape shadow inner views_header
-    known entries commits_same observers watched answers writes = record {
-      started = started ∙ t.started;
-      begun = cc (t.begun);
-      shape = rw shape t.shape;
-      shape_header = cc (t.shape_header);
-      words = rw inner
-          (rw shadow t.words);
-      shadow_header = cc (t.shadow_header);
-      views_header = views_header ∙ t.views_header ∙ sym (cc);
-      queued = rw header
-          (rw waiting queued);
-      judged = subst
-          (λ g. Judged (rules_by g) starting log n.state n.made n.watches n.waiting n.views.first
-          n.views.since) (sym header)
-          (rw waiting judged);
-      kept = cc (t.kept);
-      specified = cc (known.0);
-      sound = known.1;
-      entries = entries ∙ t.entries;
-      commits = commits_same ∙ t.commits;
-      observers = observers ∙ t.observers;
-      watched = watched ∙ sym (cc);
-      few_answers = answers;
-      few_writes = writes;
-    }
+    known entries commits_same observers watched answers writes = search (commits_same, arith)
 
 -- how many there are with one more
 count_more : {A : Type 0} (f : A → Bool) (xs : List A) (x : A) → count_by f (xs ++ x ∷ [])
@@ -579,28 +555,19 @@ pub end_open : {k : FollowerKept} {starting : List StartWord} {log : List Entry}
     → is_call_open k.shape.header (newest_first log) ≡ true
     → Malformed (k.started + k.entries + 2) CallOpen ≡ verdict (rules_by k.charter) starting log
 unfolding verdict_at
-end_open {k} {starting} {log} f is_open =
-    (λ i. Malformed (f.taken_in.started i + f.taken_in.entries i + 2) CallOpen)
-    ∙ at_end_open (rules_by k.charter) starting log f.taken_in.begun
-    (so_far_is f.taken_in ∙ f.faultless)
-    (ap (λ h. is_call_open h (newest_first log)) (sym f.taken_in.shape_header) ∙ is_open)
+end_open e0 e1 = search (at_end_open, so_far_is, arith)
 
 pub end_accepted : {k : FollowerKept} {starting : List StartWord} {log : List Entry}
     → IsFaultless k starting log
     → is_call_open k.shape.header (newest_first log) ≡ false
     → Accepted k.entries k.commits k.observers ≡ verdict (rules_by k.charter) starting log
 unfolding verdict_at accepted
-end_accepted {k} {starting} {log} f closed =
-    (λ i. Accepted (f.taken_in.entries i) (f.taken_in.commits i) (f.taken_in.observers i))
-    ∙ at_end_accepted (rules_by k.charter) starting log f.taken_in.begun
-    (so_far_is f.taken_in ∙ f.faultless)
-    (ap (λ h. is_call_open h (newest_first log)) (sym f.taken_in.shape_header) ∙ closed)
+end_accepted e0 e1 = search (at_end_accepted, so_far_is, arith)
 
 -- whether a test of a result fails
 pub open_by : {T E : Type 0} {b : Bool} (P : E → Type 0) (r : Result T E)
     → MatchResult r (λ _. b ≡ false) (λ f. (b ≡ true) × P f) → is_err r ≡ b
-open_by P (Ok x) ok = sym ok
-open_by P (Err x) fault = sym fault.0
+open_by P r ok = search arith
 
 -- the comparison was not refused
 pub sound_of : {k : FollowerKept} → IsSomewhere k → k.views.refused ≡ false

@@ -225,10 +225,8 @@ fault_now : {r : Rules} {starting : List StartWord} {log : List Entry} {state : 
     (place_of e at.earlier (at.later ++ more)) ≡ Some why)
     → first_fault r starting log ≡ Some (Violation (line_of starting x.position) why)
 fault_now {r} {starting} {log} {state} {made} {watches} {x} {xs} {first} {since} why e at same
-    position fault =
-    judged_fault r starting log state made watches x xs first since why at
-    (cc (append-nil at.later, append-nil log, fault []))
-    ∙ ap (λ n. Some (Violation (line_of starting n) why)) (sym position)
+    position fault = cc (judged_fault r starting log state made watches x xs first since why at
+    (cc (append-nil at.later, append-nil log, fault [])))
 
 pub head_unanswered : {r : Rules} {starting : List StartWord} {log : List Entry} {state : State}
     {made : ℕ} {watches : List Seen} {x : Waiting}
@@ -277,9 +275,7 @@ words_here : {r : Rules} {starting : List StartWord} {log : List Entry} {state :
     → (first ≡ words_at r.header starting (place_of at.here at.earlier at.later))
     × AllActAlike since (effect_parts [] (at.here ∷ at.earlier) at.later)
 unfolding words_at
-words_here {r} {starting} {first = first} {since = since} at is =
-    parts_at r.header starting first since at.here at.earlier at.later
-    (commits_is at.here.kind is.commits) at.judged.parts
+words_here at e1 = search (parts_at, commits_is, arith)
 
 pub split_here : {r : Rules} {starting : List StartWord} {log : List Entry} {state : State}
     {made : ℕ} {watches : List Seen} {x : Waiting} {xs : List Waiting}
@@ -289,10 +285,7 @@ pub split_here : {r : Rules} {starting : List StartWord} {log : List Entry} {sta
     → Split r.header starting first since
     (effect_parts (effects (at.here ∷ at.earlier) at.later) (at.here ∷ at.earlier) at.later)
 unfolding words_at
-split_here {r} {starting} {first = first} {since = since} at is =
-    let here = words_here at is in
-    has_parts_next r.header starting first since (effects (at.here ∷ at.earlier) at.later)
-    (at.here ∷ at.earlier) at.later here.0 here.1
+split_here at e1 = search (words_here, has_parts_next, arith)
 
 -- once the commit has returned, these stay the words there
 words_stay : {r : Rules} {starting : List StartWord} {log : List Entry} {state : State} {made : ℕ}
@@ -301,8 +294,7 @@ words_stay : {r : Rules} {starting : List StartWord} {log : List Entry} {state :
     (at : AtHead r starting log state made watches x xs first since)
     → IsCommit at.here at.earlier at.later x method args (Some reply) → (more : List Entry)
     → words_at r.header starting (place_of at.here at.earlier (at.later ++ more)) ≡ first
-words_stay {r} {starting} {reply = reply} at is more =
-    words_at_stay r.header starting (place_of at.here at.earlier at.later) more
+words_stay {r} {starting} {reply = reply} at is more = words_at_stay _ _ _ more
     (λ commits. (reply, is.replies)) at.judged.settled ∙ sym (words_here at is).0
 
 -- the fault that a commit shows

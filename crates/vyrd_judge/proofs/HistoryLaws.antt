@@ -28,6 +28,5 @@ log_more history i p = filter_map_more (λ e. logged e.caller e.did) history i p
 pub log_around : (history : List Stamped) (i : ℕ) → log_of (take i history)
     ++ log_of (drop i history) ≡ log_of history
 unfolding log_of
-log_around history i =
-    sym (filter_map-append (λ e. logged e.caller e.did) (take i history) (drop i history))
-    ∙ ap log_of (take-append-drop i history)
+log_around history i = sym (filter_map-append (λ e. logged _ _) (take i _) (drop i _))
+    ∙ ap log_of (take-append-drop i _)

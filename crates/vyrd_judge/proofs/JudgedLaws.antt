@@ -350,18 +350,7 @@ known_of : {r : Rules} {starting : List StartWord} {log : List Entry} {state : S
     {first : List ℕ} {since : List (List (ℕ × ℕ))}
     (j : Judged r starting log state made watches queue first since)
     → IsJudged r starting log state made watches first since j.earlier j.later
-known_of j =
-    record {
-      parts = j.parts;
-      settled = j.settled;
-      ended = j.ended;
-      reached = j.reached;
-      clean = j.clean;
-      few = j.few;
-      returned = j.returned;
-      seen_few = j.seen_few;
-      shows = j.shows;
-    }
+known_of j = search arith
 
 pub judged_head : (r : Rules) (starting : List StartWord) (log : List Entry) (state : State)
     (made : ℕ) (watches : List Seen) (x : Waiting)

@@ -160,21 +160,13 @@ current_set : (r : Rules) (state : State) (c : ℕ) (watches : List Seen) (seen 
     → c < length watches → AreCurrent (r.answer state) watches
     → (seen.is_open ≡ true → has_answer seen.answers (r.answer state seen.method seen.args) ≡ true)
     → AreCurrent (r.answer state) (set watches c seen)
-current_set r state c watches seen low all own = λ d other here is_open. by_same c d
-    (λ same. let it : seen ≡ other = same_Some _ _ (sym (slice_get-set_same watches c seen low)
-    ∙ ap (slice_get (set watches c seen)) same ∙ here) in
-    cc (own (ap (λ s. s.is_open) it ∙ is_open)))
-    (λ apart. all d other (sym (slice_get-set_other watches c d seen (apart_of c d apart)) ∙ here)
-    is_open)
+current_set r state c watches seen low all own = search
+    (by_same, slice_get-set_same, slice_get-set_other, apart_of, arith)
 
 pub current_closed : (r : Rules) (state : State) (c : ℕ) (watches : List Seen) → c < length watches
     → AreCurrent (r.answer state) watches
     → AreCurrent (r.answer state) (set watches c unwatched)
-current_closed r state c watches low all = current_set r state c watches unwatched low all
-    (λ is_open. absurd (apart is_open))
-  where
-    apart : false ≡ true → ⊥
-    apart e = cc
+current_closed r state c watches low all = search (current_set, arith)
 
 -- an execution begins that may return without a commit
 pub judged_begins : {r : Rules} {starting : List StartWord} {log : List Entry} {state : State}

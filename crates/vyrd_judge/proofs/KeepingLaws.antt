@@ -68,15 +68,7 @@ pub left_open : (e : Entry) (earlier later : List Entry) (x : Waiting) (method :
     (args : Args)
     → waiting_at (place_of e earlier later) ≡ Some x → x.event ≡ Commits method args None
     → is_left_open e later ≡ true
-left_open e earlier later x method args is event = by_waits (waits e earlier later x is)
-  where
-    both : (a : Bool) (o : Option ℕ) → a ≡ true → o ≡ None → a && is_none o ≡ true
-    both a o p q = cc
-
-    by_waits : Waits e earlier later x → is_left_open e later ≡ true
-    by_waits (begins m a named fact) = cc
-    by_waits (returns reply named fact) = cc
-    by_waits (commits m a o named fact) = search (both, named, arith)
+left_open e earlier later x method args is event = search (waits, is_none, begins, arith)
 
 -- what waits from a place on stands behind a commit that is left open
 waits_behind : (earlier later : List Entry) → AwaitsReturn (waiting_after earlier later)
@@ -97,22 +89,5 @@ waits_behind earlier (e ∷ later) awaits =
 pub waits_behind_open : (j : JudgeView) (starting : List StartWord) (log : List Entry)
     → HasFollowed j starting log → j.so_far ≡ None
     → length j.kept.waiting ≤ from_open_commit log
-waits_behind_open j starting log followed undecided = subst (λ ws. length ws
-    ≤ from_open_commit log) (sym judged.queued) (at_most (waits_behind judged.earlier judged.later
-    (subst AwaitsReturn judged.queued faultless.awaits)))
-  where
-    faultless : IsFaultless j.kept starting log
-    faultless = subst (FollowsBy j.kept starting log) undecided followed.follows
-
-    judged : Judged (rules_by j.kept.charter) starting log j.kept.state j.kept.made j.kept.watches
-        j.kept.waiting j.kept.views.first j.kept.views.since
-    judged = faultless.taken_in.judged
-
-    at_most : {n : ℕ} → n ≤ from_open_commit judged.later → n ≤ from_open_commit log
-    at_most {n} low =
-        let is = log_parts judged.earlier judged.later log judged.whole in
-        let before = all_before judged.earlier judged.later in
-        let there : from_open_commit log
-        ≡ from_open_commit (newest_first_onto judged.later judged.earlier)
-        = ap from_open_commit is in
-        omega (arith, low, before, there)
+waits_behind_open j starting log followed undecided = search
+    (waits_behind, log_parts, all_before, arith)

@@ -47,8 +47,7 @@ use Rattle.vyrd_judge.proofs.KeepingLaws.{left_open, log_parts, waits_behind_ope
 sum_parts : (before : List (ℕ × ℕ)) (earlier later : List Entry)
     → count_all (effect_parts before earlier later) ≡ length before + effects_in earlier later
 sum_parts before earlier [] = omega arith
-sum_parts before earlier (e ∷ later) =
-    by_test (is_commit e.kind) (sum_parts [] (e ∷ earlier) later)
+sum_parts before earlier (e ∷ later) = by_test (is_commit _) (sum_parts [] (e ∷ earlier) later)
     (sum_parts (now ++ before) (e ∷ earlier) later)
   where
     now : List (ℕ × ℕ)
@@ -110,8 +109,7 @@ extra [] before = length before
 extra (part ∷ judged) before = 0
 
 no_extra : (judged : List (List (ℕ × ℕ))) → extra judged [] ≡ 0
-no_extra [] = refl
-no_extra (part ∷ judged) = refl
+no_extra judged = search arith
 
 count_all-append : (xs ys : List (List (ℕ × ℕ)))
     → count_all (xs ++ ys) ≡ count_all xs + count_all ys
@@ -122,9 +120,7 @@ count_all-append (x ∷ xs) ys = let rest = count_all-append xs ys in omega (ari
 last_in : (before : List (ℕ × ℕ)) (earlier later : List Entry)
     (judged left : List (List (ℕ × ℕ))) → effect_parts before earlier later ≡ judged ++ left
     → count_all left ≤ extra judged before + effects_in earlier later
-last_in before earlier later [] left is =
-    let all = sum_parts before earlier later in
-    let same = ap count_all is in omega (arith, all, same)
+last_in before earlier later [] left is = search (sum_parts, arith)
 last_in before earlier later (part ∷ judged) left is =
     let all = sum_parts before earlier later in
     let same = ap count_all is in
@@ -146,10 +142,7 @@ all_left earlier (e ∷ later) none = cc
 
 bound_here : (n : ℕ) (earlier later : List Entry) → next_has_returned later ≡ false
     → IsBound n earlier later
-bound_here n earlier later none = λ before judged left is long.
-    let last = last_in before earlier later judged left is in
-    let same = all_left earlier later none in
-    omega (arith, last, same)
+bound_here n earlier later none = search (last_in, all_left, arith)
 
 -- Some commits are among these entries, and if the next one has returned, one more.
 record HasMore (n : ℕ) (later : List Entry) : Type 0 where
@@ -185,12 +178,8 @@ bound_before n e earlier later has bound = by_next (next_has_returned (e ∷ lat
 
     by_next : (b : Bool) → next_has_returned (e ∷ later) ≡ b → IsBound n earlier (e ∷ later)
     by_next false none = bound_here n earlier (e ∷ later) none
-    by_next true returns =
-        λ before judged left is long. grind (
-          arith,
-          by_judged before judged left (has.more returns)
-              is long,
-        )
+    by_next true returns = λ before judged left is long. grind
+        (arith, by_judged before judged left (has.more returns) is long)
 
 -- all entries before
 bound_all : (n : ℕ) (earlier later : List Entry) → HasMore n later → IsBound n earlier later
@@ -204,11 +193,10 @@ next_open : (h : Header) (earlier later : List Entry) → break_after h earlier 
     → AwaitsReturn (waiting_after earlier later) → next_has_returned later ≡ false
 next_open h earlier [] kept awaits = refl
 next_open h earlier (e ∷ later) kept awaits =
-    by_waiting (waiting_at (place_of e earlier later)) refl
-    (next_open h (e ∷ earlier) later both.1) awaits
+    by_waiting (waiting_at (place_of e _ _)) refl (next_open h (e ∷ earlier) later both.1) awaits
   where
     both : (broken_rule h earlier e ≡ None) × (break_after h (e ∷ earlier) later ≡ None)
-    both = both_none (broken_rule h earlier e) (break_after h (e ∷ earlier) later) kept
+    both = both_none _ _ kept
 
     by_waiting : (o : Option Waiting) → waiting_at (place_of e earlier later) ≡ o
         → (AwaitsReturn (waiting_after (e ∷ earlier) later) → next_has_returned later ≡ false)
@@ -228,8 +216,7 @@ few_in_all (writes ∷ since) (part ∷ parts) all = grind (arith, all.0, few_in
 since_count : (h : Header) (starting : List StartWord) (first : List ℕ)
     (since parts : List (List (ℕ × ℕ))) → HasParts h starting first since parts
     → suc (length since) ≡ length parts
-since_count h starting first since [] has = absurd has
-since_count h starting first since (part ∷ parts) has = ap suc (alike_count since parts has.1)
+since_count h starting first since parts has = search (alike_count, arith)
 
 -- a judge without a verdict
 faultless : (j : JudgeView) (starting : List StartWord) (log : List Entry)
@@ -338,11 +325,7 @@ words_few : (j : JudgeView) (starting : List StartWord) (log : List Entry)
     → HasFollowed j starting log → j.so_far ≡ None
     → length j.kept.shadow.words ≡ plain_words (rules_by j.kept.charter).header
 unfolding words_after
-words_few j starting log followed undecided =
-    let going = faultless j starting log followed undecided in
-    ap length going.taken_in.words.followed.words
-    ∙ length-mapped (value_after starting (effects (newest_first log) [])) 0
-    (plain_words j.kept.shadow.header) ∙ ap plain_words going.taken_in.shadow_header
+words_few j starting log followed undecided = search (faultless, length-mapped, arith)
 
 -- the keys that its state shows
 keys_few : (j : JudgeView) (starting : List StartWord) (log : List Entry)

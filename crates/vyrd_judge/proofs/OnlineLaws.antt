@@ -28,14 +28,12 @@ faultless_of {j} {starting} {log} is f = subst (FollowsBy j.kept starting log) i
 pub stands_on : {j : JudgeView} {starting : List StartWord} {log : List Entry} {v : Verdict}
     (more : List Entry) → j.so_far ≡ Some v → HasFollowed j starting log
     → Some v ≡ verdict_so_far (rules_by j.kept.charter) starting (log ++ more)
-stands_on {j} {starting} {log} {v} more is f =
-    sym (verdict_lasts (rules_by j.kept.charter) starting log more v (standing is f))
+stands_on more e1 e2 = search (verdict_lasts, standing, arith)
 
 pub followed_on : {j : JudgeView} {starting : List StartWord} {log : List Entry} {v : Verdict}
     (more : List Entry) → j.so_far ≡ Some v → HasFollowed j starting log
     → HasFollowed j starting (log ++ more)
-followed_on {j} {starting} {log} {v} more is f =
-    grind (arith, verdict_lasts (rules_by j.kept.charter) starting log more v (standing is f))
+followed_on more e1 e2 = search (verdict_lasts, standing, arith)
 
 pub stands_whole : {j : JudgeView} {starting : List StartWord} {log : List Entry} {v : Verdict}
     → j.so_far ≡ Some v → HasFollowed j starting log
@@ -53,19 +51,12 @@ none_stands {j} {starting} {log} is f = search (faultless_of, so_far_kept, start
 -- before the first entry
 pub faultless_first : {k : FollowerKept} {starting : List StartWord}
     → HasTakenIn k starting [] → IsFaultless k starting []
-faultless_first {k} {starting} t = search (no_first_fault, starting, nothing, arith)
-  where
-    nothing : (ws : List Waiting) → length ws ≤ 0 → AwaitsReturn ws
-    nothing ws none = search arith
+faultless_first e0 = search (no_first_fault, arith)
 
 -- what stands is known
 pub so_far_is_known : {j : JudgeView} {starting : List StartWord} {log : List Entry}
     → HasFollowed j starting log → j.so_far ≡ verdict_so_far (rules_by j.kept.charter) starting log
-so_far_is_known {j} {starting} {log} f = known j.so_far refl
-  where
-    known : (o : Option Verdict) → j.so_far ≡ o
-        → j.so_far ≡ verdict_so_far (rules_by j.kept.charter) starting log
-    known o is = search (none_stands, standing, arith)
+so_far_is_known e0 = search (none_stands, standing, arith)
 
 -- a verdict that stands after some entries stands with those after them
 pub decided : {j : JudgeView} {starting : List StartWord} {whole : List Entry} {v : Verdict}
@@ -77,5 +68,4 @@ decided {j} {starting} log part rest same is f =
 
 -- what holds anyway holds on an error
 pub on_error : {A E : Type 0} {P : Type 0} (r : Result A E) → P → OnErr r P
-on_error (Ok a) p = tt
-on_error (Err e) p = p
+on_error r p = search arith

@@ -262,8 +262,7 @@ pub record IsInside (c : ℕ) (kind : Kind) (earlier : List Entry) : Type 0 wher
 is_inside : (h : Header) (c : ℕ) (kind : Kind) (earlier : List Entry) → is_lone_commit kind ≡ false
     → broken_rule h earlier (entry c kind) ≡ None
     → has_inner_commit c (entry c kind ∷ earlier) ≡ true → IsInside c kind earlier
-is_inside h c kind earlier alone kept inner =
-    grind (arith, alone, kept, own_inner, never, all_kept, first_true)
+is_inside h c kind earlier alone kept inner = grind (arith, own_inner, never, all_kept, first_true)
 
 -- the same by the entry's own caller
 inside_of : (h : Header) (c : ℕ) (x : Entry) (earlier : List Entry) → x.caller ≡ c
@@ -346,39 +345,13 @@ quiet_effects : (h : Header) (earlier : List Entry) (e : Entry) → broken_rule 
     → ends_committed_block earlier e ≡ false
     → (effects_at earlier e.caller e.kind [] ≡ old_effects_at earlier e.caller e.kind)
     × (parts_behind earlier e.caller e.kind ≡ 0)
-quiet_effects h earlier e kept none = by_kind e.kind kept none
-  where
-    c : ℕ
-    c = e.caller
-
-    no_ahead : (b : Bool) → cond {A = List (ℕ × ℕ)} b [] [] ≡ []
-    no_ahead b = search arith
-
-    by_kind : (kind : Kind) → broken_rule h earlier (entry c kind) ≡ None
-        → ends_committed_block earlier (entry c kind) ≡ false
-        → (effects_at earlier c kind [] ≡ old_effects_at earlier c kind)
-        × (parts_behind earlier c kind ≡ 0)
-    by_kind (Call method args) kept' none' = (refl, refl)
-    by_kind (Return reply) kept' none' = (refl, refl)
-    by_kind (Write word value) kept' none' = (refl, refl)
-    by_kind Commit kept' none' = (no_ahead (has_block c earlier), refl)
-    by_kind BlockOpen kept' none' = (refl, refl)
-    by_kind BlockClose kept' none' =
-        let inside : has_block c earlier ≡ true = not-false _
-        (all_kept (checks_at h earlier (entry c BlockClose)) kept').1.1.0 in
-        let apart : committed_since_open c earlier
-        ≡ false = cc in (
-          cc,
-          ap (parts_since (commit_count earlier)) (no_number c earlier apart),
-        )
-    by_kind BlockCommit kept' none' = (cc, refl)
+quiet_effects h earlier e kept none = search (all_kept, no_number, arith)
 
 -- the end of a block with a lone commit in it isn't a commit
 ends_alone : (h : Header) (earlier : List Entry) (e : Entry) → WellFormed h earlier
     → broken_rule h earlier e ≡ None
     → ends_committed_block earlier e ≡ true → e.kind ≡ BlockClose
-ends_alone h earlier e wf kept ends =
-    search (kept, ends, never, all_kept, inner_is_committed, arith)
+ends_alone h earlier e wf kept ends = search (never, all_kept, inner_is_committed, arith)
 
 -- One more entry that keeps the rules. Its effects, as if blocks took effect at their end, come in
 -- the part that `parts_behind` tells.

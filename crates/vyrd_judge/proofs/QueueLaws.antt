@@ -52,8 +52,7 @@ commit_is_first e0 e1 e2 = search (alone, all_kept, arith)
 pub commit_opened : {h : Header} {c : ℕ} {earlier : List Entry} (kind : Kind) → Committing kind
     → Keeps h earlier (entry c kind)
     → (called : Called) × (open_call c earlier ≡ Some called) × (is_observer called.method ≡ false)
-commit_opened {h} {c} {earlier} _ alone keeps = commit_kept h c earlier keeps.rules
-commit_opened {h} {c} {earlier} _ with_block keeps = block_commit_runs h c earlier keeps.rules
+commit_opened kind e1 e2 = search (alone, commit_kept, block_commit_runs, arith)
 
 -- what is open of a caller after its own call or return
 open_call-own : (c : ℕ) (kind : Kind) (earlier : List Entry) (o : Option Called)
@@ -124,23 +123,22 @@ quiet_up : {h : Header} {waiting : List Waiting} {taken : ℕ} {callers : List C
     (entry c kind) earlier
 quiet_up {h} {waiting} {taken} {callers} {earlier} c kind inside quiet silent none q = record {
   queued = record {
-    called = λ d k low is. q.called d k low (sym (open_call-quiet d c kind earlier inside) ∙ is);
-    pending = λ d k caller low is committed at. q.pending d k caller low
-        (sym (open_call-quiet d c kind earlier inside) ∙ is)
-        (sym (committed-quiet d c kind earlier quiet) ∙ committed) at;
+    called = λ d k low is. q.called d k low (sym (open_call-quiet d c _ _ inside) ∙ is);
+    pending = λ d k caller low is committed at. q.pending d k _ low
+        (sym (open_call-quiet d c _ _ inside) ∙ is)
+        (sym (committed-quiet d c _ _ quiet) ∙ committed) at;
     uncommitted = λ d k caller low is none at. q.uncommitted d k caller low
-        (sym (open_call-quiet d c kind earlier inside) ∙ is)
-        (sym (committed-quiet d c kind earlier quiet) ∙ none) at;
+        (sym (open_call-quiet d c _ _ inside) ∙ is)
+        (sym (committed-quiet d c _ _ quiet) ∙ none) at;
     unreturned = λ i commit k at event. let u = q.unreturned i commit k at event in record {
-      opened = open_call-quiet commit.caller c kind earlier inside ∙ u.opened;
-      committed = committed-quiet commit.caller c kind earlier quiet ∙ u.committed;
+      opened = open_call-quiet _ c _ _ inside ∙ u.opened;
+      committed = committed-quiet _ c _ _ quiet ∙ u.committed;
       number = u.number;
     };
     count = omega (arith, q.count);
   };
-  waiting = sym (unreplied (entry c kind) silent waiting)
-      ∙ sym (append-nil (map (replied (entry c kind)) waiting))
-      ∙ ap (λ o. map (replied (entry c kind)) waiting ++ cons_option o []) (sym none);
+  waiting = cc
+      (unreplied (entry c kind) silent waiting, append-nil (map (replied (entry c kind)) waiting));
 }
 
 pub write_up : {h : Header} {waiting : List Waiting} {taken : ℕ} {callers : List Caller}
@@ -177,40 +175,36 @@ call_queued {h} {waiting} {taken} {callers} {earlier} {c} {method} {args} caller
                 (slice_get-set_same callers c caller low);
             method = cc (own d k same is);
             args = cc (own d k same is);
-          })
-          (λ other. let old = q.called d k low_d
-          (sym (open_call-other d c (Call method args) earlier other) ∙ is) in record {
+          }) (λ other. let old = q.called d k low_d (sym (open_call-other d c (Call _ _) _ other)
+          ∙ is) in record {
             caller = old.caller;
-            here = slice_get-set_other callers c d caller (apart_of c d other) ∙ old.here;
+            here = slice_get-set_other _ c d _
+                (apart_of c d other) ∙ old.here;
             method = old.method;
             args = old.args;
           });
       pending = λ d k x low_d is committed at. by_same c d
           (λ same. absurd (apart (cc (committed-own c (Call method args) earlier false refl))))
-          (λ other. q.pending d k x low_d
-          (sym (open_call-other d c (Call method args) earlier other)
-          ∙ is)
-          (sym (committed-other d c (Call method args) earlier other) ∙ committed)
-          (sym (slice_get-set_other callers c d caller (apart_of c d other)) ∙ at));
+          (λ other. q.pending d k x low_d (sym (open_call-other d c (Call _ _) _ other) ∙ is)
+          (sym (committed-other d c (Call method args) _ other) ∙ committed)
+          (sym (slice_get-set_other _ c d _ (apart_of c d other)) ∙ at));
       uncommitted = λ d k x low_d is none at. by_same c d
-          (λ same. cc (same_Some _ _ (sym (slice_get-set_same callers c caller low) ∙ ap (slice_get
-          (set callers c caller)) same ∙ at)))
-          (λ other. q.uncommitted d k x low_d
-          (sym (open_call-other d c (Call method args) earlier other) ∙ is)
-          (sym (committed-other d c (Call method args) earlier other) ∙ none)
-          (sym (slice_get-set_other callers c d caller (apart_of c d other)) ∙ at));
+          (λ same. cc (same_Some _ _ (sym (slice_get-set_same callers c caller low)
+          ∙ ap (slice_get (set callers c caller)) same
+          ∙ at))) (λ other. q.uncommitted d k x low_d (sym (open_call-other d c (Call _ _) _ other)
+          ∙ is) (sym (committed-other d c (Call method args) _ other) ∙ none)
+          (sym (slice_get-set_other _ c d _ (apart_of c d other)) ∙ at));
       unreturned = λ i commit k at event. let u = q.unreturned i commit k at event in
           by_same c commit.caller
           (λ same. absurd
           (none-some _ (sym (call_is_free h c method args earlier keeps.rules)
-          ∙ ap (λ x. open_call x earlier) same ∙ u.opened)))
+          ∙ ap (λ x. open_call x earlier) same
+          ∙ u.opened)))
           (λ other. record {
-            opened = open_call-other commit.caller c (Call method args) earlier other ∙ u.opened;
-            committed = committed-other commit.caller c (Call method args) earlier other
-                ∙ u.committed;
-            number = λ x is. u.number x
-                (sym (slice_get-set_other callers c commit.caller caller
-                (apart_of c commit.caller other)) ∙ is);
+            opened = open_call-other _ c (Call _ _) _ other ∙ u.opened;
+            committed = committed-other _ c (Call method args) _ other ∙ u.committed;
+            number = λ x is. u.number x (sym (slice_get-set_other _ c _ _ (apart_of c _ other))
+                ∙ is);
           });
       count = omega (arith, q.count);
     }
@@ -312,38 +306,7 @@ return_queued : {h : Header} {waiting : List Waiting} {taken : ℕ} {callers : L
     → taken + length waiting ≤ length earlier + 1
     → HasQueued h waiting taken callers (entry c (Return reply) ∷ earlier)
 return_queued {h} {waiting} {taken} {callers} {earlier} c reply none pending uncommitted unreturned
-    called few = record {
-      called = λ d k low is. by_same c d
-          (λ same. absurd
-          (none-some _ (sym (open_call-own c (Return reply) earlier None refl)
-          ∙ ap (λ x. open_call x (entry c (Return reply) ∷ earlier)) same ∙ is)))
-          (λ other. called d k low (sym (open_call-other d c (Return reply) earlier other) ∙ is));
-      pending = λ d k caller low is committed at. by_same c d
-          (λ same. absurd
-          (none-some _ (sym (open_call-own c (Return reply) earlier None refl)
-          ∙ ap (λ x. open_call x (entry c (Return reply) ∷ earlier)) same ∙ is)))
-          (λ other. pending d k caller low other
-          (sym (open_call-other d c (Return reply) earlier other)
-          ∙ is)
-          (sym (committed-other d c (Return reply) earlier other) ∙ committed) at);
-      uncommitted = λ d k caller low is no_commit at. by_same c d
-          (λ same. absurd
-          (none-some _ (sym (open_call-own c (Return reply) earlier None refl)
-          ∙ ap (λ x. open_call x (entry c (Return reply) ∷ earlier)) same ∙ is)))
-          (λ other. uncommitted d k caller low
-          (sym (open_call-other d c (Return reply) earlier other)
-          ∙ is)
-          (sym (committed-other d c (Return reply) earlier other) ∙ no_commit) at);
-      unreturned = λ i commit k at event. let u = unreturned i commit k at event in
-          by_same c commit.caller
-          (λ same. absurd (none i commit k at event (sym same)))
-          (λ other. record {
-            opened = open_call-other commit.caller c (Return reply) earlier other ∙ u.opened;
-            committed = committed-other commit.caller c (Return reply) earlier other ∙ u.committed;
-            number = u.number;
-          });
-      count = omega (arith, few);
-    }
+    called few = search (by_same, open_call-own, open_call-other, committed-other, arith)
 
 -- a return without a commit
 pub uncommitted_up : {h : Header} {old new : List Waiting} {taken taken' : ℕ}

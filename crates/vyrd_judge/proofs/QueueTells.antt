@@ -95,8 +95,7 @@ pub known_caller : {h : Header} {waiting : List Waiting} {taken : ℕ} {callers 
     {earlier : List Entry} {e : Entry} {called : Called}
     → Keeps h earlier e → open_call e.caller earlier ≡ Some called
     → HasQueued h waiting taken callers earlier → IsCaller callers e.caller called
-known_caller {h} {earlier = earlier} {e} {called} keeps opened q = q.called e.caller called
-    (caller_kept h earlier e keeps.rules) opened
+known_caller {h} {earlier = earlier} {e} {called} keeps opened q = search (caller_kept, arith)
 
 pub taken_kind : {h : Header} {old new : List Waiting} {taken : ℕ} {callers : List Caller}
     {earlier : List Entry} (e : Entry) {kind : Kind} → e.kind ≡ kind
@@ -108,8 +107,7 @@ taken_kind {h} {old} {new} {taken} {callers} {earlier} e is up = grind arith
 pub all_ok : {E P R : Type 0} {Q S : Option Waiting → Type 0} (r : Result (Option Waiting) E)
     → OnOk r P → IfOk r Q → OnOk r R
     → ((first : Option Waiting) → P → Q first → R → S first) → IfOk r S
-all_ok (Ok first) p q u f = f first p q u
-all_ok (Err e) p q u f = tt
+all_ok r p q u f = search arith
 
 -- a return is taken in, whichever it is
 pub return_up : {E : Type 0} {h : Header} {old : List Waiting} {taken : ℕ} {callers : List Caller}

@@ -45,11 +45,10 @@ pub commit_fault_at : (r : Rules) (starting : List StartWord) (states : List Sta
     ≡ option_and_then
     (λ reply. step_fault r (shown_there r starting c kind earlier later) called reply state) o
 commit_fault_at r starting states c kind earlier later state watches called o commits opened replied
-    val =
-    cc (
+    val = cc (
       fault_of_commit_kind r starting states c kind earlier later commits,
-      state_here r states
-          earlier state (commits_after earlier (entry c kind ∷ later)) val.going,
+      state_here r
+          states earlier state (commits_after earlier (entry c kind ∷ later)) val.going,
     )
 
 -- the state after a commit that is reached
@@ -81,16 +80,11 @@ pub commit_right : (r : Rules) (starting : List StartWord) (states : List State)
     × Reached r states (entry c kind ∷ earlier) later next new
 commit_right r starting states c kind earlier later state next watches closed new called reply
     commits opened replied after same others see val = (
-      commit_fault_at r starting states c kind earlier later state watches called
-          (Some reply) commits
-          opened replied val
-          ∙ ap (by_next r (shown_there r starting c kind earlier later) reply) after
-          ∙ ap (option_map View) same,
-      reached_commit r states c kind earlier later state next watches closed new
-          (commits_inside kind commits) (commits_uncalled kind commits)
-          (commits_is kind commits) (commits_called kind commits)
-          (state_after_at r c kind earlier later state called (Some reply) opened replied ∙ after)
-          others see val,
+      commit_fault_at r _ _ c _ _ _ state watches called (Some _) commits opened replied val
+          ∙ ap (by_next r _ reply) after ∙ ap (option_map _) same,
+      reached_commit r _ c _ _ _ state _ watches closed _ (commits_inside _ commits)
+          (commits_uncalled _ commits) (commits_is _ commits) (commits_called _ commits)
+          (state_after_at r c kind _ _ _ called (Some _) opened replied ∙ after) others see val,
     )
 
 -- a commit whose execution hasn't returned
@@ -102,11 +96,10 @@ pub commit_waits : (r : Rules) (starting : List StartWord) (states : List State)
     × (length states ≤ commit_count (entry c kind ∷ earlier))
 commit_waits r starting states c kind earlier later state watches called commits opened replied
     val = (
-      commit_fault_at r starting states c kind earlier later state watches called None commits
-          opened
-          replied val,
-      ending-commit r states (entry c kind) earlier later state (commits_is kind commits)
-          (state_after_at r c kind earlier later state called None opened replied) val.going,
+      commit_fault_at r _ _ c _ _ _ state watches called None commits opened replied
+          val,
+      ending-commit r _ (entry c _) earlier later state (commits_is _ commits)
+          (state_after_at r c kind _ _ _ called None opened replied) val.going,
     )
 
 -- the fault of a return that is reached
@@ -118,14 +111,8 @@ return_fault_at : (r : Rules) (starting : List StartWord) (states : List State) 
     ≡ observer_fault r (states_since_call states c earlier) (has_committed c earlier) reply called
 unfolding fault_at
 return_fault_at r starting states c reply earlier later state watches called opened val =
-    ap (λ o. option_and o
-    (option_and_then
-    (observer_fault r (states_since_call states c earlier) (has_committed c earlier) reply)
-    (open_call c earlier)))
-    (state_here r states earlier state (commits_after earlier (entry c (Return reply) ∷ later))
+    cc (state_here r states earlier state (commits_after earlier (entry c (Return reply) ∷ later))
     val.going)
-    ∙ ap (option_and_then
-    (observer_fault r (states_since_call states c earlier) (has_committed c earlier) reply)) opened
 
 -- a return without a commit, by what is kept of its execution
 pub observer_at : (r : Rules) (starting : List StartWord) (states : List State) (c reply : ℕ)

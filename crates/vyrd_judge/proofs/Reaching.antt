@@ -54,18 +54,15 @@ pub reached_inside : (r : Rules) (states : List State) (c : ℕ) (kind : Kind)
     → Reached r states (entry c kind ∷ earlier) later state watches
 reached_inside r states c kind earlier later state watches inside uncalled quiet uncommitted val =
     record {
-      going = going-quiet r states (entry c kind) earlier later state quiet val.going;
-      allowed = λ d called is. val.allowed d called (sym (open_call-quiet d c kind earlier inside)
-          ∙ is);
+      going = going-quiet r states (entry c _) earlier later state quiet val.going;
+      allowed = λ d called is. val.allowed d called (sym (open_call-quiet d c _ _ inside) ∙ is);
       watched = λ d called within is free none.
-          let old = val.watched d called within (sym (open_call-quiet d c kind earlier inside) ∙ is)
-          free
-          (sym (committed-quiet d c kind earlier uncommitted) ∙ none) in (
+          let old = val.watched d called within (sym (open_call-quiet d c _ _ inside) ∙ is) free
+          (sym (committed-quiet d c _ _ uncommitted) ∙ none) in (
             old.0,
             old.1,
             watched_on r
-                (window-quiet states d (entry c kind) earlier quiet
-                (before_call-quiet d c kind earlier uncalled)) old.2,
+                (window-quiet _ d _ _ quiet (before_call-quiet d c _ _ uncalled)) old.2,
           );
     }
 
@@ -123,15 +120,12 @@ pub reached_owes : (r : Rules) (states : List State) (c : ℕ) (method : Method)
     → Reached r states earlier (entry c (Call method args) ∷ later) state watches
     → Reached r states (entry c (Call method args) ∷ earlier) later state watches
 reached_owes r states c method args earlier later state watches owes may val =
-    reached_changed r states c (Call method args) earlier later state watches watches refl
-    (λ d other. refl)
+    reached_changed r _ c _ _ _ _ watches _ refl (λ d other. refl)
     (λ called is. let same : record { method = method; args = args } ≡ called = same_Some _ _
-    (sym (opened_call c method args earlier) ∙ is) in
-    subst (λ k. has_method r.header k.method k.args ≡ true) same may)
-    (λ called is free. let same : record { method = method; args = args } ≡ called = same_Some _ _
-    (sym (opened_call c method args earlier) ∙ is) in
-    absurd (apart (sym owes ∙ ap (λ k. must_commit k.method) same ∙ free)))
-    val
+    (sym (opened_call c _ _ _) ∙ is) in
+    rw (← same) may) (λ called is free. let same : record { method = method; args = args }
+    ≡ called = same_Some _ _ (sym (opened_call c _ _ _) ∙ is) in
+    absurd (apart (cc))) val
   where
     apart : true ≡ false → ⊥
     apart e = cc
@@ -153,11 +147,10 @@ reached_begins r states c method args earlier later state watches new may others
     reached_changed r states c (Call method args) earlier later state watches new refl others
     (λ called is. let same : call ≡ called = same_Some _ _ (sym (opened_call c method args earlier)
     ∙ is) in
-    subst (λ k. has_method r.header k.method k.args ≡ true) same may)
+    rw (← same) may)
     (λ called is free. let same : call ≡ called = same_Some _ _
     (sym (opened_call c method args earlier) ∙ is) in
-    (seen, here, subst (λ k. IsWatched r states c (e ∷ earlier) k seen) same watched))
-    val
+    (seen, here, rw (← same) watched)) val
   where
     e : Entry
     e = entry c (Call method args)
@@ -175,8 +168,7 @@ reached_begins r states c method args earlier later state watches new may others
 
     window : states_since_call states c (e ∷ earlier) ≡ state ∷ []
     window = window-call states c e earlier state
-        (drop 1 (states_from r state (commits_after earlier (e ∷ later)))) refl
-        (ap (λ b. cond (b && true) earlier (entries_before_call c earlier)) (same_number c))
+        (drop 1 (states_from r state (commits_after earlier (e ∷ later)))) refl (cc (same_number c))
         (val.going ∙ first_of (commits_after earlier (e ∷ later)))
       where
         first_of : (xs : List Committed) → states_from r state xs ≡ state
@@ -189,7 +181,8 @@ reached_begins r states c method args earlier later state watches new may others
       is_open = refl;
       method = refl;
       args = refl;
-      answers = λ reply. ap (list_any (λ s. r.answer s method args == reply)) (sym window);
+      answers = λ reply. ap
+          (list_any (λ s. r.answer s method args == reply)) (sym window);
     }
 
 -- a return
@@ -199,10 +192,9 @@ pub reached_return : (r : Rules) (states : List State) (c reply : ℕ) (earlier 
     (entry c (Return reply) ∷ later) state watches
     → Reached r states (entry c (Return reply) ∷ earlier) later state new
 reached_return r states c reply earlier later state watches new others val =
-    reached_changed r states c (Return reply) earlier later state watches new refl others
-    (λ called is. absurd (none (sym (opened_return c reply earlier) ∙ is)))
-    (λ called is free. absurd (none (sym (opened_return c reply earlier) ∙ is)))
-    val
+    reached_changed r _ c _ _ _ _ watches _ refl others
+    (λ called is. absurd (none (sym (opened_return c reply _) ∙ is)))
+    (λ called is free. absurd (none (sym (opened_return c reply _) ∙ is))) val
   where
     none : {called : Called} → None ≡ Some called → ⊥
     none e = cc

@@ -25,8 +25,7 @@ start_shows c starting state begins =
     record { writes = []; few = starts.few; formed = starts.formed }
   where
     starts : StartsFew (rules_by c) (words_at_start (rules_by c).header starting) state
-    starts = starts_few c (words_at_start (rules_by c).header starting) state
-        (length-mapped (value_after starting []) 0 (plain_words (rules_by c).header)) begins
+    starts = search (starts_few, length-mapped, arith)
 
 -- so does the state after a commit that is right
 pub commit_shows : {r : Rules} {starting : List StartWord} {before after : State} (first : List ℕ)
@@ -35,8 +34,7 @@ pub commit_shows : {r : Rules} {starting : List StartWord} {before after : State
     → first_difference (r.view first) (r.shown after) ≡ None → ShowsFew r starting before
     → ShowsFew r starting after
 commit_shows {r} {starting} {before} {after} first writes method args reply rules are next none
-    shows =
-    record {
+    shows = record {
       writes = writes;
       few = let long = ap length (sym same) in
           let there = ap (λ ws. length (r.view ws)) are in omega (arith, long, there);
@@ -44,7 +42,7 @@ commit_shows {r} {starting} {before} {after} first writes method args reply rule
     }
   where
     formed : IsAmounts after.shown
-    formed = rules.next method args reply before after shows.formed next
+    formed = rules.next _ _ _ _ _ shows.formed next
 
     same : r.view first ≡ r.shown after
     same = search (same_amounts, after, formed, first_difference_none, arith)

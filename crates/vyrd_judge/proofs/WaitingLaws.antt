@@ -87,17 +87,15 @@ kind_replied : (e : Entry) (place : Place Entry) (kind : Kind)
 kind_replied e place Commit = commit_replied e place Commit alone
 kind_replied e place BlockCommit = commit_replied e place BlockCommit with_block
 kind_replied e place (Call method args) =
-    elim (not (must_commit method)) as (λ b. option_map (waiting_of (with_later (e ∷ []) place))
-    (then_some b (Begins method args))
-    ≡ option_map (replied e)
+    elim (not _) as (λ b. option_map (waiting_of (with_later (e ∷ []) place))
+    (then_some b (Begins method args)) ≡ option_map (replied e)
     (option_map (waiting_of place) (then_some b (Begins method args)))) [
       | true ↦ refl
       | false ↦ refl
     ]
 kind_replied e place (Return reply) =
-    elim (not (has_committed place.here.caller place.earlier)) as (λ b. option_map
-    (waiting_of (with_later (e ∷ []) place)) (then_some b (Returns reply))
-    ≡ option_map (replied e)
+    elim (not _) as (λ b. option_map (waiting_of (with_later (e ∷ []) place))
+    (then_some b (Returns reply)) ≡ option_map (replied e)
     (option_map (waiting_of place) (then_some b (Returns reply)))) [ true ↦ refl | false ↦ refl ]
 kind_replied e place (Write word value) = refl
 kind_replied e place BlockOpen = refl
@@ -246,10 +244,9 @@ uncommitted h e earlier later keeps quiet = by_kind e.kind keeps quiet
     by_kind : (kind : Kind) → broken_rule h earlier (entry c kind) ≡ None
         → waiting_at (place_of (entry c kind) earlier later) ≡ None
         → is_commit kind ≡ false
-    by_kind Commit keeps' none = at_commit Commit (open_call c earlier) _
-        (commit_kept h c earlier keeps') none
-    by_kind BlockCommit keeps' none = at_commit BlockCommit (open_call c earlier) _
-        (block_commit_runs h c earlier keeps') none
+    by_kind Commit keeps' none = at_commit Commit (open_call c _) _ (commit_kept h c _ keeps') none
+    by_kind BlockCommit keeps' none = at_commit BlockCommit (open_call c _) _
+        (block_commit_runs h c _ keeps') none
     by_kind (Call method args) keeps' none = refl
     by_kind (Return reply) keeps' none = refl
     by_kind (Write word value) keeps' none = refl

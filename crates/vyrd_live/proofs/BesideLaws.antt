@@ -13,23 +13,7 @@ module _ {S F : Type 0} (has_taken : S → List Stamped → Type 0) (fixed : S �
   pub goes_on_same : (w after : Watch S) → after.receiver ≡ w.receiver → after.stands ≡ w.stands
       → after.sequencer ≡ w.sequencer
       → after.callers ≡ w.callers → after.taken ≡ w.taken → GoesOn has_taken fixed w after
-  goes_on_same w after receiver stands sequencer callers taken = record {
-    same = record {
-      queue = ap (λ (r : ReceiverView). r.queue) receiver;
-      senders = ap (λ (r : ReceiverView). r.senders) receiver;
-      settled = ap (λ (r : ReceiverView). r.settled) receiver;
-    };
-    takes_in = record {
-      watched = λ before now.
-          let b = before (sym stands ∙ now) in
-          subst (λ (x : SequencerView S × List Stamped). (has_failed x.0 ≡ false)
-          × HasTakenIn has_taken x.0 x.1)
-          (λ i. (sym sequencer i, sym (ap (λ (r : ReceiverView). r.had) receiver) i)) b;
-      fixed_is = λ now. (sym stands ∙ now, ap (λ (q : SequencerView S). fixed q.sink) sequencer);
-      callers = callers;
-      counted = omega (arith, taken);
-    };
-  }
+  goes_on_same w after receiver stands sequencer callers taken = search arith
 
   -- no event came
   pub none_taken : (w : Watch S) → HasTakenAll has_taken fixed w w []
@@ -83,14 +67,12 @@ module _ {S F : Type 0} (has_taken : S → List Stamped → Type 0) (fixed : S �
             front = s.front;
             event = s.event;
             behind = s.behind ++ event ∷ [];
-            whole = ap (λ (l : List Stamped). l ++ event ∷ []) s.whole
-                ∙ append_assoc s.front (s.event ∷ s.behind) (event ∷ []);
+            whole = cc (s.whole, append_assoc s.front (s.event ∷ s.behind) (event ∷ []));
             last = s.last;
             stood = s.stood;
             watched = s.watched;
             may_refuse =
-                subst (λ (w : Watch S). MayRefuse s.last.sequencer w.sequencer s.event.number)
-                (sym (stays gone)) s.may_refuse;
+                rw (stays gone) s.may_refuse;
           }
 
   -- these events came, and were taken in
@@ -100,31 +82,13 @@ module _ {S F : Type 0} (has_taken : S → List Stamped → Type 0) (fixed : S �
       (w.receiver.had ++ events))
       → StaysFixed fixed w after → after.callers ≡ w.callers → w.taken ≤ after.taken
       → GoesOn has_taken fixed w after
-  goes_on_with w after events receiver watched fixed_is callers counted = record {
-    same = record {
-      queue = ap (λ (r : ReceiverView). r.queue) receiver;
-      senders = ap (λ (r : ReceiverView). r.senders) receiver;
-      settled = ap (λ (r : ReceiverView). r.settled) receiver;
-    };
-    takes_in = record {
-      watched = λ before. subst (HasWatched has_taken after)
-          (sym (ap (λ (r : ReceiverView). r.had) receiver)) (watched before);
-      fixed_is = fixed_is;
-      callers = callers;
-      counted = counted;
-    };
-  }
+  goes_on_with w after events receiver watched fixed_is callers counted = search arith
 
   -- one step after another
   pub takes_in_then : (first next last : Watch S) → TakesIn has_taken fixed first next
       → TakesIn has_taken fixed next last
       → TakesIn has_taken fixed first last
-  takes_in_then first next last a b = record {
-    watched = λ before. b.watched (a.watched before);
-    fixed_is = λ now. let y = b.fixed_is now in let x = a.fixed_is y.0 in (x.0, y.1 ∙ x.1);
-    callers = b.callers ∙ a.callers;
-    counted = omega (arith, a.counted, b.counted);
-  }
+  takes_in_then first next last a b = search arith
 
   pub goes_on_then : (first next last : Watch S) → GoesOn has_taken fixed first next
       → GoesOn has_taken fixed next last

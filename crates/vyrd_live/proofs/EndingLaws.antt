@@ -18,40 +18,18 @@ use Rattle.vyrd_live.specs.LiveRuns.{done_by, HavePlayed}
 
 -- what holds of each number below n, and of n
 one_more : (P : ℕ → Type 0) (n : ℕ) → ((i : ℕ) → i < n → P i) → P n → (i : ℕ) → i < n + 1 → P i
-one_more P n below here i low = dite (dec_lt i n) (λ l. below i l)
-    (λ l. let same : n ≡ i = omega arith in subst P same here)
+one_more P n below here i low = search arith
 
 -- one ending more
 pub first_finished : (endings : List Ending) (n : ℕ) (first : Option ℕ)
     → slice_index_or endings n Finished ≡ Finished → IsFirstSpent endings n first
     → IsFirstSpent endings (n + 1) first
-first_finished endings n None here is = one_more (λ i. slice_index_or endings i Finished ≡ Finished)
-    n is here
-first_finished endings n (Some first) here is = (
-  omega (arith, is.0),
-  is.1,
-  is.2,
-  one_more (λ i. slice_index_or endings i Finished ≢ Memory) n
-      is.3 (λ e. cc),
-)
+first_finished endings n first here is = search (one_more, arith)
 
 pub first_spent : (endings : List Ending) (n : ℕ) (first : Option ℕ)
     → slice_index_or endings n Finished ≡ Spent → IsFirstSpent endings n first
     → IsFirstSpent endings (n + 1) (option_or first (Some n))
-first_spent endings n None here is = (
-  omega arith,
-  here,
-  is,
-  one_more (λ i. slice_index_or endings i Finished ≢ Memory) n
-      (λ i low e. let f = is i low in cc) (λ e. cc),
-)
-first_spent endings n (Some first) here is = (
-  omega (arith, is.0),
-  is.1,
-  is.2,
-  one_more (λ i. slice_index_or endings i Finished ≢ Memory) n
-      is.3 (λ e. cc),
-)
+first_spent endings n first here is = search (one_more, arith)
 
 -- how each caller's worker ended
 pub record HaveEnded (h : Header) (limit : ℕ) (scripts : List Script) (history : List Stamped)
@@ -64,57 +42,29 @@ to_the_end : (h : Header) (limit : ℕ) (script : Script) (ending : Ending) (eve
     → ending ≡ Finished
     → HasEnded h limit script ending events
     → PlaysToTheEnd script events × HadRoom h limit events
-to_the_end h limit script ending events is ended = subst (λ e. HasEnded h limit script e events) is
-    ended
+to_the_end h limit script ending events is ended = grind arith
 
 until_spent : (h : Header) (limit : ℕ) (script : Script) (ending : Ending) (events : List Did)
     → ending ≡ Spent
     → HasEnded h limit script ending events
     → StopsForRoom h limit script events
-until_spent h limit script ending events is ended = subst (λ e. HasEnded h limit script e events) is
-    ended
+until_spent h limit script ending events is ended = grind arith
 
 one_of_both : (h : Header) (limit : ℕ) (script : Script) (ending : Ending) (events : List Did)
     → ending ≢ Memory
     → HasEnded h limit script ending events
     → PlaysToTheEnd script events ⊎ StopsForRoom h limit script events
-one_of_both h limit script Finished events isnt ended = inl ended.0
-one_of_both h limit script Spent events isnt ended = inr ended
-one_of_both h limit script Memory events isnt ended = absurd (isnt refl)
+one_of_both h limit script ending events isnt ended = search arith
 
 -- a caller that there isn't does nothing
 idle : (h : Header) (limit : ℕ) (script : Script) (events : List Did) → script ≡ stop → events ≡ []
     → PlaysToTheEnd script events × HadRoom h limit events
-idle h limit script events is none =
-    subst (λ s. PlaysToTheEnd s events × HadRoom h limit events) (sym is)
-    (subst (λ es. PlaysToTheEnd stop es × HadRoom h limit es) (sym none)
-    (record { plays = tt; done = refl }, tt))
+idle h limit script events is none = search arith
 
 -- so the run is as the first that was spent says
 pub played : (h : Header) (limit : ℕ) (scripts : List Script) (history : List Stamped)
     (endings : List Ending) (first : Option ℕ)
     → HaveEnded h limit scripts history endings → IsFirstSpent endings h.callers first
     → HavePlayed h limit scripts history first
-played h limit scripts history endings None ended is = ((λ c. (both c).0), (λ c. (both c).1))
-  where
-    both : (c : ℕ) → PlaysToTheEnd (script_of scripts c) (done_by c history)
-        × HadRoom h limit (done_by c history)
-    both c = dite (dec_lt c h.callers)
-        (λ low. to_the_end h limit (script_of scripts c) (slice_index_or endings c Finished)
-        (done_by c history) (is c low) (ended.each c low))
-        (λ out. let o = ended.others c (omega arith) in idle h limit (script_of scripts c)
-        (done_by c history) o.0 o.1)
-played h limit scripts history endings (Some first) ended is = record {
-  each = λ c. dite (dec_lt c h.callers)
-      (λ low. one_of_both h limit (script_of scripts c) (slice_index_or endings c Finished)
-      (done_by c history) (is.3 c low) (ended.each c low))
-      (λ out. let o = ended.others c (omega arith) in
-      inl (idle h limit (script_of scripts c) (done_by c history) o.0 o.1).0);
-  in_range = is.0;
-  stopped = until_spent h limit (script_of scripts first) (slice_index_or endings first Finished)
-      (done_by first history) is.1
-      (ended.each first is.0);
-  first = λ c low. (to_the_end h limit (script_of scripts c) (slice_index_or endings c Finished)
-      (done_by c history) (is.2 c low)
-      (ended.each c (omega (arith, low, is.0)))).0;
-}
+played h limit scripts history endings first ended is = search
+    (to_the_end, idle, one_of_both, until_spent, arith)

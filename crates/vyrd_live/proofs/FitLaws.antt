@@ -48,40 +48,7 @@ may_test plan hand Done = false
 tested : (plan : Plan) (hand : HandView) (act : Act) → may_test plan hand act ≡ true
     → MayAct plan hand act
 unfolding may_test
-tested plan hand (Load cell) e = below_of cell plan.plain e
-tested plan hand (Store cell value) e = (
-  below_of cell plan.plain (first_true (nat_lt cell plan.plain) (nat_lt value (2 ^ 63)) e),
-  below_of value (2 ^ 63)
-      (second_true (nat_lt cell plan.plain) (nat_lt value (2 ^ 63)) e),
-)
-tested plan hand (Take lock) e = (
-  at_most_of plan.plain lock
-      (first_true (nat_le plan.plain lock) (nat_lt lock (plan.plain + plan.locks)) e),
-  below_of lock (plan.plain + plan.locks)
-      (second_true (nat_le plan.plain lock) (nat_lt lock (plan.plain + plan.locks)) e),
-)
-tested plan hand (Give lock) e =
-    let lock_is : (nat_le plan.plain lock && nat_lt lock (plan.plain + plan.locks))
-    ≡ true = first_true
-    (nat_le plan.plain lock && nat_lt lock (plan.plain + plan.locks))
-    (last_value hand.lane lock == hand.caller + 1) e in (
-      at_most_of plan.plain lock
-          (first_true (nat_le plan.plain lock) (nat_lt lock (plan.plain + plan.locks)) lock_is),
-      below_of lock (plan.plain + plan.locks)
-          (second_true (nat_le plan.plain lock) (nat_lt lock (plan.plain + plan.locks)) lock_is),
-      same_of (last_value hand.lane lock) (hand.caller + 1)
-          (second_true (nat_le plan.plain lock && nat_lt lock (plan.plain + plan.locks))
-          (last_value hand.lane lock == hand.caller + 1) e),
-    )
-tested plan hand (Mark kind) e = negated (is_write kind) e
-  where
-    negated : (b : Bool) → not b ≡ true → b ≡ false
-    negated true e = cc
-    negated false e = refl
-tested plan hand Done e = cc_of e
-  where
-    cc_of : false ≡ true → ⊥
-    cc_of e = cc
+tested plan hand act e = search (below_of, first_true, second_true, at_most_of, same_of, arith)
 
 -- an act that a sound script does is within the plan
 plain_of : (h : Header) (plan : Plan) (cell : ℕ) → IsMemoryOf h plan → is_plain (cells_of h) cell
@@ -91,49 +58,24 @@ plain_of h plan cell is e = ap (λ n. nat_lt cell n) is.plain ∙ e
 lock_of : (h : Header) (plan : Plan) (lock : ℕ) → IsMemoryOf h plan → is_lock (cells_of h) lock
     ≡ true
     → (nat_le plan.plain lock && nat_lt lock (plan.plain + plan.locks)) ≡ true
-lock_of h plan lock is e = ap (λ n. nat_le n lock && nat_lt lock (n + plan.locks)) is.plain ∙ ap
-    (λ n. nat_le (plain_words h) lock && nat_lt lock (plain_words h + n)) is.locks ∙ e
+lock_of h plan lock is e = cc (is.plain, is.locks)
 
 no_write : (h : Header) (s : Situation) (kind : Kind) → may_act h s (Mark kind) ≡ true
     → not (is_write kind) ≡ true
-no_write h s (Call method args) may = refl
-no_write h s (Return reply) may = refl
-no_write h s (Write word value) may = cc
-no_write h s Commit may = refl
-no_write h s BlockOpen may = refl
-no_write h s BlockClose may = refl
-no_write h s BlockCommit may = refl
+no_write h s kind may = search arith
 
 may_of : (h : Header) (plan : Plan) (hand : HandView) (s : Situation) (act : Act)
     → IsMemoryOf h plan
     → ((lock : ℕ) → holds s lock ≡ true → (plain_words h ≤ lock) × Holds hand lock)
     → may_act h s act ≡ true → may_test plan hand act ≡ true
 unfolding may_test
-may_of h plan hand s (Load cell) is held may = plain_of h plan cell is may
-may_of h plan hand s (Store cell value) is held may =
-    let both : (is_plain (cells_of h) cell && nat_lt value (2 ^ 63))
-    ≡ true = first_true (is_plain (cells_of h) cell && nat_lt value (2 ^ 63))
-    (is_some s.called) may in
-    both_true (nat_lt cell plan.plain) (nat_lt value (2 ^ 63))
-    (plain_of h plan cell is (first_true (is_plain (cells_of h) cell) (nat_lt value (2 ^ 63)) both))
-    (second_true (is_plain (cells_of h) cell) (nat_lt value (2 ^ 63)) both)
-may_of h plan hand s (Take lock) is held may = lock_of h plan lock is
-    (first_true (is_lock (cells_of h) lock) (not (holds s lock)) may)
-may_of h plan hand s (Give lock) is held may =
-    both_true (nat_le plan.plain lock && nat_lt lock (plan.plain + plan.locks))
-    (last_value hand.lane lock == hand.caller + 1)
-    (lock_of h plan lock is (first_true (is_lock (cells_of h) lock) (holds s lock) may))
-    (eq-eqb (last_value hand.lane lock) (hand.caller + 1)
-    (held lock (second_true (is_lock (cells_of h) lock) (holds s lock) may)).1)
-may_of h plan hand s (Mark kind) is held may = no_write h s kind may
-may_of h plan hand s Done is held may = may
+may_of h plan hand s act is held may = search
+    (plain_of, first_true, is_some, both_true, second_true, lock_of, no_write, arith)
 
 next_test : (h : Header) (plan : Plan) (left : Script) (hand : HandView) → IsMemoryOf h plan
     → next_act left ≢ Done → FitsHand h left hand
     → may_test plan hand (next_act left) ≡ true
-next_test h plan stop hand is goes fits = absurd (goes refl)
-next_test h plan (step act rest) hand is goes fits = may_of h plan hand fits.situation act is
-    fits.held fits.sound.0
+next_test h plan left hand is goes fits = search (step, may_of, arith)
 
 -- what comes next may be done
 pub next_may : (h : Header) (plan : Plan) (left : Script) (hand : HandView) → IsMemoryOf h plan
@@ -157,33 +99,10 @@ other_held lock given (x ∷ xs) e = by_given (x == given) refl (x == lock) refl
         → (list_any (λ held. held == lock) (filter (λ held. not (held == given)) xs) ≡ true
         → (list_any (λ held. held == lock) xs ≡ true) × (given ≢ lock))
         → (list_any (λ held. held == lock) (x ∷ xs) ≡ true) × (given ≢ lock)
-    by_given true is true here later =
-        let l = later
-        (sym (ap (λ b. list_any (λ held. held == lock)
-        (cond (not b) (x ∷ filter (λ held. not (held == given)) xs)
-        (filter (λ held. not (held == given)) xs))) is) ∙ e) in
-        (ap (λ b. b || list_any (λ held. held == lock) xs) here, l.1)
-    by_given true is false here later =
-        let l = later
-        (sym (ap (λ b. list_any (λ held. held == lock)
-        (cond (not b) (x ∷ filter (λ held. not (held == given)) xs)
-        (filter (λ held. not (held == given)) xs))) is) ∙ e) in
-        (ap (λ b. b || list_any (λ held. held == lock) xs) here ∙ l.0, l.1)
-    by_given false is true here later = (
-      ap (λ b. b || list_any (λ held. held == lock) xs) here,
-      λ e. let x_is : x ≡ lock = same_of x lock here in let apart : true ≡ false = sym
-          (eq-eqb x given (x_is ∙ sym e)) ∙ is in cc,
-    )
-    by_given false is false here later =
-        let kept : list_any (λ held. held == lock) (x ∷ filter (λ held. not (held == given)) xs)
-        ≡ true =
-        sym (ap (λ b. list_any (λ held. held == lock)
-        (cond (not b) (x ∷ filter (λ held. not (held == given)) xs)
-        (filter (λ held. not (held == given)) xs))) is) ∙ e in
-        let l = later
-        (sym (ap (λ b. b || list_any (λ held. held == lock)
-        (filter (λ held. not (held == given)) xs)) here) ∙ kept) in
-        (ap (λ b. b || list_any (λ held. held == lock) xs) here ∙ l.0, l.1)
+    by_given true is true here later = grind arith
+    by_given true is false here later = grind arith
+    by_given false is true here later = grind arith
+    by_given false is false here later = grind arith
 
 -- the hand holds these locks
 abbrev AreHeld : Header → Situation → HandView → Type 0
@@ -196,18 +115,12 @@ still_held h s hand number did look apart held lock e = let l = held lock e in
     (l.0, holds-still hand lock number did look (apart lock l.0) l.1)
 
 no_lock : (h : Header) (hand : HandView) → AreHeld h at_rest hand
-no_lock h hand lock e = absurd (cc_of e)
-  where
-    cc_of : false ≡ true → ⊥
-    cc_of e = cc
+no_lock h hand = search arith
 
 stored_apart : (h : Header) (cell value lock caller : ℕ) → is_plain (cells_of h) cell ≡ true
     → plain_words h ≤ lock
     → made_of lock caller (Wrote cell value) ≡ None
-stored_apart h cell value lock caller plain le =
-    let low : cell < plain_words h = below_of cell (plain_words h) plain in
-    let apart : cell ≢ lock = λ e. omega arith in ap (λ b. cond b (Some value) None)
-    (ne_eqb cell lock apart)
+stored_apart h cell value lock caller plain le = search (below_of, arith)
 
 -- each act leaves the hand with the locks that it should hold
 held_after : (h : Header) (s : Situation) (act : Act) (answer : ℕ) (did : Did) (number : ℕ)
@@ -294,59 +207,26 @@ fits_on h left hand now answer acted fits = ∥∥₁_map fits (fits_after h lef
 pub fits_with_room : (h : Header) (left : Script) (hand now : HandView)
     → now ≡ with_spare hand now.spare
     → ∥ FitsHand h left hand ∥₁ → ∥ FitsHand h left now ∥₁
-fits_with_room h left hand now is fits =
-    ∥∥₁_map fits
-    (λ s. subst (FitsHand h left) (sym is)
+fits_with_room h left hand now is fits = ∥∥₁_map fits
+    (λ s. subst (FitsHand h _) (sym is)
     (record { situation = s.situation; sound = s.sound; held = s.held }))
 
 -- so does what the hand keeps of its lane
 pub fits_kept : (h : Header) (left : Script) (forgotten : ℕ) (hand now : HandView)
     → now ≡ with_forgotten hand forgotten
     → ∥ FitsHand h left hand ∥₁ → ∥ FitsHand h left now ∥₁
-fits_kept h left forgotten hand now is fits =
-    ∥∥₁_map fits
-    (λ s. subst (FitsHand h left) (sym is)
+fits_kept h left forgotten hand now is fits = ∥∥₁_map fits
+    (λ s. subst (FitsHand h _) (sym is)
     (record { situation = s.situation; sound = s.sound; held = s.held }))
 
 -- between operations no lock is held
 none_held : (h : Header) (s : Situation) (left : Script) → is_between left ≡ true → IsSound h s left
     → is_nil s.locks ≡ true
-none_held h s stop between sound = ap (λ (s : Situation). is_nil s.locks) sound
-none_held h s (step (Load cell) rest) between sound = cc
-none_held h s (step (Store cell value) rest) between sound = cc
-none_held h s (step (Take lock) rest) between sound = cc
-none_held h s (step (Give lock) rest) between sound = cc
-none_held h s (step Done rest) between sound = absurd (cc_of sound.0)
-  where
-    cc_of : false ≡ true → ⊥
-    cc_of e = cc
-none_held h s (step (Mark (Call method args)) rest) between sound =
-    let rests : is_at_rest s ≡ true = second_true (same_subject (subject_of method) h.subject
-    && are_args h.size method args)
-    (is_at_rest s) sound.0 in
-    first_true (is_nil s.locks) (is_none s.called)
-    (first_true (is_nil s.locks && is_none s.called) (not s.committed)
-    (first_true (is_nil s.locks && is_none s.called && not s.committed) (not s.in_block) rests))
-none_held h s (step (Mark (Return reply)) rest) between sound = cc
-none_held h s (step (Mark (Write word value)) rest) between sound = cc
-none_held h s (step (Mark Commit) rest) between sound = cc
-none_held h s (step (Mark BlockOpen) rest) between sound = cc
-none_held h s (step (Mark BlockClose) rest) between sound = cc
-none_held h s (step (Mark BlockCommit) rest) between sound = cc
+none_held h s left between sound = search (step, second_true, first_true, is_none, arith)
 
 fits_first : (h : Header) (left : Script) (hand : HandView) → is_between left ≡ true
     → (s : Situation) × IsSound h s left → FitsHand h left hand
-fits_first h left hand between sound = record {
-  situation = sound.0;
-  sound = sound.1;
-  held = λ lock e. absurd
-      (no_locks sound.0.locks lock (none_held h sound.0 left between sound.1) e);
-}
-  where
-    no_locks : (locks : List ℕ) (lock : ℕ) → is_nil locks ≡ true
-        → list_any (λ held. held == lock) locks ≡ true → ⊥
-    no_locks [] lock none e = cc
-    no_locks (x ∷ xs) lock none e = cc
+fits_first h left hand between sound = search (none_held, arith)
 
 -- a sound script that hasn't begun can be played
 pub fits_fresh : (h : Header) (left : Script) (hand : HandView) → is_between left ≡ true
@@ -356,9 +236,7 @@ fits_fresh h left hand between sound = ∥∥₁_map sound (fits_first h left ha
 -- if nothing comes next, nothing is left
 nothing : (h : Header) (left : Script) (hand : HandView) → next_act left ≡ Done
     → FitsHand h left hand → is_stop left ≡ true
-nothing h stop hand done fits = refl
-nothing h (step act rest) hand done fits = let no : false
-    ≡ true = sym (ap (may_act h fits.situation) done) ∙ fits.sound.0 in cc
+nothing h left hand done fits = search (step, arith)
 
 pub nothing_left : (h : Header) (left : Script) (hand : HandView) → next_act left ≡ Done
     → ∥ FitsHand h left hand ∥₁ → left ≡ stop

@@ -41,8 +41,7 @@ hand_at workers hands i d same low = ap (λ (hands : List HandView). slice_index
 
 how_many : {M : Type 0} (workers : List (Worker M)) (hands : List HandView) → first_hands workers
     ≡ hands → length workers ≡ length hands
-how_many workers hands same = sym (length-map workers (λ (x : _). x.hand))
-    ∙ ap (λ (hands : List HandView). length hands) same
+how_many workers hands same = search (length-map, arith)
 
 -- none of them has begun
 pub all_fresh : {M : Type 0} (header_of : M → Header) (script : M → Script) (ahead : M
@@ -54,16 +53,14 @@ pub all_fresh : {M : Type 0} (header_of : M → Header) (script : M → Script) 
 all_fresh header_of script ahead traced w workers hands new same made memory = λ i d low.
     let x = slice_index_or workers i d in
     let is = made i d low in
-    let fresh = new i d.hand (omega (arith, low, how_many workers hands same)) in
-    let hand = hand_at workers hands i d same low in record {
-      hand_of = subst (λ (v : HandView). (v.table ≡ traced.table) × (v.limit ≡ traced.plan.limit))
-          hand fresh.0;
-      empty = ap (λ (v : HandView). v.lane) (sym hand) ∙ fresh.3;
-      kept = ap (λ (v : HandView). v.forgotten) (sym hand) ∙ fresh.4;
-      between = ap is_between is.script_is
-          ∙ operations-between (procedure_in w.header.subject w.header w.variant)
-          (ops_of x.hand.caller w.ops);
-      memory = subst (λ h. IsMemoryOf h traced.plan) (sym is.header) memory;
+    let fresh = new i _ (omega (arith, low, how_many workers hands same)) in
+    let hand = hand_at _ _ i d same low in
+    record {
+      hand_of = rw (← hand) fresh.0;
+      empty = cc fresh.3;
+      kept = cc fresh.4;
+      between = ap is_between is.script_is ∙ operations-between _ _;
+      memory = rw is.header memory;
     }
 
 -- they have all hands, in the order of their callers
@@ -72,11 +69,7 @@ pub all_callers : {M : Type 0} (traced : TracedView) (workers : List (Worker M))
     → length hands ≡ traced.plan.callers
     → first_hands workers ≡ hands
     → AreAll traced (first_hands workers)
-all_callers traced workers hands new count same = subst (AreAll traced) (sym same) (
-  count,
-  λ i d low. let fresh = new i d low in let e : 0 + i ≡ i = omega arith in
-      (fresh.0, fresh.1 ∙ e),
-)
+all_callers traced workers hands new count same = grind arith
 
 -- the caller of the worker at a place
 caller_at : {M : Type 0} (traced : TracedView) (workers : List (Worker M)) (hands : List HandView)
@@ -98,8 +91,7 @@ all_from of f k (x ∷ workers) each =
     ap (λ y. y ∷ map (λ (x : _). of x.machine) workers) (each 0 x (omega arith) ∙ ap f first)
     ∙ ap (λ rest. f k ∷ rest)
     (all_from of f (k + 1) workers (λ i d low. let e : k + suc i ≡ k + 1 + i = omega arith in
-    each (suc i) d (omega (arith, low))
-    ∙ ap f e))
+    each _ d (omega (arith, low)) ∙ ap f e))
 
 -- their scripts are those of the workload
 pub scripts_are : {M : Type 0} (header_of : M → Header) (script : M → Script) (ahead : M
@@ -146,29 +138,20 @@ pub too_low_at : (w : Workload) (aheads : List ℕ) (limit own : ℕ) (first : O
     → IfSome first (λ caller. own < slice_index aheads caller)
     → IfSome first (λ caller. caller < w.header.callers)
     → IfSome first (λ caller. limit < bounds_of w.header (ops_of caller w.ops))
-too_low_at w aheads limit own None same are long low = tt
-too_low_at w aheads limit own (Some caller) same are long low =
-    let bound = ap (λ xs. slice_index xs caller) are
-    ∙ element_below (λ c. bounds_of w.header (ops_of c w.ops)) w.header.callers caller low in
-    omega (arith, same, long, bound)
+too_low_at w aheads limit own first same are long low = search (element_below, arith)
 
 -- the caller that ended a run is one of the header's
 pub in_range : (h : Header) (limit : ℕ) (scripts : List Script) (history : List Stamped)
     (first : Option ℕ) → HavePlayed h limit scripts history first
     → IfSome first (λ caller. caller < h.callers)
-in_range h limit scripts history None is = tt
-in_range h limit scripts history (Some caller) is = is.in_range
+in_range h limit scripts history first is = search arith
 
 pub both_ok : {A E : Type 0} {P Q R : A → Type 0} (r : Result A E) → IfOk r P → IfOk r Q
     → ((x : A) → P x → Q x → R x) → IfOk r R
-both_ok (Ok x) first second step = step x first second
-both_ok (Err e) first second step = first
+both_ok r first second step = search arith
 
 -- where operations have few events no caller is spent
 pub is_unspent : (w : Workload) (limit : ℕ) (spent : Option ℕ) → KeepsLimits w
     → IsCorrectWithFewEvents w → most_few_events ≤ limit
     → IfSome spent (λ caller. limit < bounds_of w.header (ops_of caller w.ops)) → spent ≡ None
-is_unspent w limit None limits is enough long = refl
-is_unspent w limit (Some caller) limits is enough long =
-    let few : bounds_of w.header (ops_of caller w.ops) ≤ most_few_events =
-    few_events w caller limits is in absurd (omega (arith, long, few, enough))
+is_unspent w limit spent limits is enough long = search (few_events, arith)

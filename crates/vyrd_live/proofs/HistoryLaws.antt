@@ -25,21 +25,14 @@ found_at n (x ∷ xs) e is = at (x.number == n) refl is (λ q. found_at n xs e q
     at : (b : Bool) → (x.number == n) ≡ b → cond b (Some x) (numbered n xs) ≡ Some e
         → (numbered n xs ≡ Some e → (k : ℕ) × (slice_get xs k ≡ Some e) × (e.number ≡ n))
         → (k : ℕ) × (slice_get (x ∷ xs) k ≡ Some e) × (e.number ≡ n)
-    at true b q more = let same : x ≡ e = cc in (
-      0,
-      q,
-      ap (λ (s : Stamped). s.number) (sym same)
-          ∙ same_of x.number n b,
-    )
-    at false b q more = let f = more q in (suc f.0, f.1, f.2)
+    at true b q more = grind arith
+    at false b q more = let f = more q in (suc _, f.1, f.2)
 
 -- what stands in the list is found by its number
 found : (taken : List Stamped) (k : ℕ) (e : Stamped) → slice_get taken k ≡ Some e
     → is_some (numbered e.number taken) ≡ true
 found [] k e is = absurd (cc)
-found (x ∷ xs) zero e is = let same : x ≡ e = cc in
-    ap (λ (b : Bool). is_some (cond b (Some x) (numbered e.number xs)))
-    (eq-eqb x.number e.number (ap (λ (s : Stamped). s.number) same))
+found (x ∷ xs) zero e is = grind arith
 found (x ∷ xs) (suc k) e is = at (x.number == e.number) (found xs k e is)
   where
     at : (b : Bool) → is_some (numbered e.number xs) ≡ true
@@ -56,9 +49,7 @@ take_get (x ∷ xs) (suc n) = ap (λ (l : List Stamped). x ∷ l) (take_get xs n
 in_order : (h taken : List Stamped) → ((n : ℕ) → numbered n taken ≡ slice_get h n) → (n : ℕ)
     → in_order_below n taken ≡ take n h
 in_order h taken same zero = refl
-in_order h taken same (suc n) = ap (λ (l : List Stamped). l ++ option_to_list (numbered n taken))
-    (in_order h taken same n)
-    ∙ ap (λ (o : Option Stamped). take n h ++ option_to_list o) (same n) ∙ take_get h n
+in_order h taken same (suc n) = cc (in_order h taken same n, same n, take_get h n)
 
 past_end : (h : List Stamped) (n : ℕ) → slice_get h n ≡ None → length h ≤ n
 past_end [] n e = omega arith
@@ -99,20 +90,15 @@ in_other : (c : ℕ) (xs ys : List Stamped) → part c xs ≡ part c ys → (k :
     → (i : ℕ) × (slice_get ys i ≡ Some e)
 in_other c xs ys same k e at own =
     let mine = in_part c xs k e at own in
-    let there = part_in c ys mine.0 e
-    (subst (λ (p : List Stamped). mine.0 < length p) same mine.1) in (
-      there.0,
-      there.1 ∙ ap Some (ap (λ (p : List Stamped). slice_index_or p mine.0 e) (sym same)
-          ∙ mine.2 e),
-    )
+    let there = part_in c ys mine.0 e (rw (← same) mine.1) in
+    (there.0, there.1 ∙ ap Some (cc (mine.2 e)))
 
 module _ (z : Cells) (had h : List Stamped) (legal : is_legal z h ≡ true)
     (parts : (c : ℕ) → c < z.callers → part c had ≡ part c h) where
   -- each event that was had stands in the history at its number
   had_stands : All (λ (e : Stamped). e.caller < z.callers) had → StandIn h had
   had_stands senders k e at =
-      let low : e.caller < z.callers = subst (λ (x : Stamped). x.caller < z.callers)
-      (get_or_from_slice_get had k e e at)
+      let low : e.caller < z.callers = rw (← get_or_from_slice_get had k e e at)
       (senders k e (slice_get_within had k e at)) in
       let there = in_other e.caller had h (parts e.caller low) k e at refl in
       ap (slice_get h) (number_at z h legal there.0 e there.1).0 ∙ there.1

@@ -13,5 +13,4 @@ pub dids_of-snoc : (lane : List Stamped) (e : Stamped) → dids_of (lane ++ e �
 dids_of-snoc lane e = ap (map (λ (e : Stamped). e.did)) (newest_first-push lane e)
 
 pub length-dids : (lane : List Stamped) → length (dids_of lane) ≡ length lane
-length-dids lane = length-map (newest_first lane) (λ (e : Stamped). e.did)
-    ∙ length-newest_first lane
+length-dids lane = length-map _ _ ∙ length-newest_first _

@@ -37,23 +37,18 @@ part_onto c earlier (e ∷ es) = part_onto c (e ∷ earlier) es ∙ by_caller (e
 
 -- what a caller did is what the events of its part did
 pub done_by-part : (c : ℕ) (history : List Stamped) → done_by c history ≡ dids_of (part c history)
-done_by-part c history = of_part c (newest_first history) ∙ ap (map (λ (e : Stamped). e.did))
-    (part_onto c [] history)
+done_by-part c history = cc (of_part c (newest_first history), part_onto c [] history)
 
 -- a caller that no event has did nothing
 pub no_part : (c : ℕ) (es : List Stamped)
     → ((i : ℕ) (e : Stamped) → slice_get es i ≡ Some e → e.caller ≢ c) → part c es ≡ []
 no_part c [] apart = refl
 no_part c (e ∷ es) apart = ap (λ b. cond b (e ∷ part c es) (part c es))
-    (ne_eqb e.caller c (apart 0 e refl))
-    ∙ no_part c es (λ i x is. apart (suc i) x is)
+    (ne_eqb _ c (apart 0 e refl)) ∙ no_part c es (λ i x is. apart (suc i) x is)
 
 pub nothing_done : (z : Cells) (c : ℕ) (history : List Stamped) → is_legal z history ≡ true
     → z.callers ≤ c → done_by c history ≡ []
-nothing_done z c history legal out =
-    done_by-part c history
-    ∙ ap dids_of (no_part c history (λ i e is same. let low = (numbered z history legal i e is).1 in
-    absurd (omega (arith, low))))
+nothing_done z c history legal out = search (done_by-part, no_part, numbered, arith)
 
 -- events that are all of this caller
 pub part_all : (c : ℕ) (xs : List Stamped) → All (λ (e : Stamped). e.caller ≡ c) xs → part c xs ≡ xs

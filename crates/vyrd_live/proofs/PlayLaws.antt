@@ -39,19 +39,17 @@ same_callers {M} traced relay n workers ends all count new =
     let a = length-map workers (λ (w : Worker M). w.hand.caller) in
     let b = length-map ends (λ (s : SenderView). s.caller) in
     let l = length-map workers (λ (w : Worker M). w.hand) in
-    ext_get_or 0 (map (λ (w : Worker M). w.hand.caller) workers)
-    (map (λ (s : SenderView). s.caller) ends) (a ∙ count ∙ sym b) (λ i low.
+    ext_get_or 0 _ _ (a ∙ count ∙ sym b) (λ i low.
     let here : i < length workers = omega (arith, low, a) in
     let there : i < length ends = omega (arith, here, count) in
     let w = element_of workers i here in
     let s = element_of ends i there in
     let first : 0 + i ≡ i = omega arith in
-    get_or-map (λ (w : Worker M). w.hand.caller) workers i w 0 here
+    get_or-map _ _ i w 0 here
     ∙ sym (ap (λ (v : HandView). v.caller)
     (get_or-map (λ (w : Worker M). w.hand) workers i w w.hand here))
-    ∙ (all.1 i w.hand (omega (arith, here, l))).1
-    ∙ sym (ap (λ (s : SenderView). s.caller) (new i s there) ∙ first)
-    ∙ sym (get_or-map (λ (s : SenderView). s.caller) ends i s 0 there))
+    ∙ (all.1 i w.hand (omega (arith, here, l))).1 ∙ sym (cc (new i s there))
+    ∙ sym (get_or-map _ _ i s 0 there))
 
 -- each worker has worked, by what stands at its place
 worked_each : {M : Type 0} (header_of : M → Header) (script : M → Script) (ahead : M → ℕ)
@@ -65,13 +63,12 @@ worked_each : {M : Type 0} (header_of : M → Header) (script : M → Script) (a
     (map (λ (d : Done). d.0) done)
 worked_each {M} header_of script ahead traced jobs done count each i w s low =
     let l : i < length jobs = omega (arith, length-map jobs (λ (j : Worker M × Outbox). j.0)) in
-    let j = element_of jobs i l in
+    let j = element_of _ i l in
     let d = element_of done i (omega (arith, l, count)) in
-    let a = get_or-map (λ (j : Worker M × Outbox). j.0) jobs i j w l in
+    let a = get_or-map (λ (j : Worker M × Outbox). j.0) _ i j w l in
     let b = get_or-map (λ (d : Done). d.0) done i d s (omega (arith, l, count)) in
     subst (λ (x : Worker M × Stopped). HasWorked header_of script ahead traced x.0.machine x.0.hand
-    x.1.hand x.1.ending)
-    (λ k. (sym a k, sym b k)) (each i j d l)
+    x.1.hand x.1.ending) (λ k. (sym a k, sym b k)) (each i j d l)
 
 -- each worker has worked, by what its job left
 pub worked_all : {M : Type 0} (header_of : M → Header) (script : M → Script) (ahead : M → ℕ)
@@ -85,11 +82,10 @@ pub worked_all : {M : Type 0} (header_of : M → Header) (script : M → Script)
     (slice_index_or done i d).0.hand (slice_index_or done i d).0.ending)
     → HaveWorked header_of script ahead traced workers stopped × (length stopped ≡ length workers)
 worked_all {M} header_of script ahead traced workers jobs done stopped are left count each = (
-  subst (λ (x : List (Worker M) × List Stopped). HaveWorked header_of script ahead traced x.0 x.1)
-      (λ i. (are i, sym left i))
-      (worked_each header_of script ahead traced jobs done count each),
-  ap (λ (xs : List Stopped). length xs) left ∙ length-map done (λ (d : Done). d.0) ∙ count
-      ∙ sym (length-map jobs (λ (j : Worker M × Outbox). j.0))
+  subst (λ (x : List (Worker M) × List Stopped). HaveWorked header_of script ahead traced x.0
+      x.1) (λ i. (are i, sym left i)) (worked_each _ _ _ _ jobs done count each),
+  ap (λ (xs : List Stopped). length xs) left ∙ length-map _ (λ (d : Done). d.0) ∙ count
+      ∙ sym (length-map _ (λ (j : Worker M × Outbox). j.0))
       ∙ ap (λ (xs : List (Worker M)). length xs) are,
 )
 

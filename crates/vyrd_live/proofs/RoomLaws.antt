@@ -39,19 +39,7 @@ more_time n m le (step act rest) ends = (
 
 has_room : (h : Header) (limit before n : ℕ) (act : Act) → IsNextBound h act n → before + n ≤ limit
     → HasRoom h limit before act
-has_room h limit before n (Load cell) next room = tt
-has_room h limit before n (Store cell value) next room = tt
-has_room h limit before n (Take lock) next room = tt
-has_room h limit before n (Give lock) next room = tt
-has_room h limit before n Done next room = tt
-has_room h limit before n (Mark (Call method args)) next room = let e = next method args refl in
-    omega arith
-has_room h limit before n (Mark (Return reply)) next room = tt
-has_room h limit before n (Mark (Write word value)) next room = tt
-has_room h limit before n (Mark Commit) next room = tt
-has_room h limit before n (Mark BlockOpen) next room = tt
-has_room h limit before n (Mark BlockClose) next room = tt
-has_room h limit before n (Mark BlockCommit) next room = tt
+has_room h limit before n act next room = search arith
 
 -- room that was made, by a number that is the bound of the next operation
 pub room_made : (h : Header) (left : Script) (hand now : HandView) (n : ℕ) → ∥ EndsWithin n left ∥₁
@@ -72,40 +60,11 @@ pub began_with_room : (h : Header) (limit before : ℕ) (act : Act) (answer : �
     → event_of act answer ≡ Some did
     → HasRoom h limit before act
     → BeginsWithRoom h limit before did
-began_with_room h limit before act answer did e room = elim_did act answer did e room
-  where
-    elim_did : (act : Act) (answer : ℕ) (did : Did) → event_of act answer ≡ Some did
-        → HasRoom h limit before act → BeginsWithRoom h limit before did
-    elim_did (Load cell) answer did e room = let is : Read cell answer ≡ did = cc in
-        subst (BeginsWithRoom h limit before) is tt
-    elim_did (Store cell value) answer did e room = let is : Wrote cell value ≡ did = cc in
-        subst (BeginsWithRoom h limit before) is tt
-    elim_did (Take lock) answer did e room = let is : Took lock ≡ did = cc in
-        subst (BeginsWithRoom h limit before) is tt
-    elim_did (Give lock) answer did e room = let is : Gave lock ≡ did = cc in
-        subst (BeginsWithRoom h limit before) is tt
-    elim_did Done answer did e room = cc
-    elim_did (Mark (Call method args)) answer did e room = let is : Marked (Call method args)
-        ≡ did = cc in
-        subst (BeginsWithRoom h limit before) is room
-    elim_did (Mark (Return reply)) answer did e room = let is : Marked (Return reply) ≡ did = cc in
-        subst (BeginsWithRoom h limit before) is tt
-    elim_did (Mark (Write word value)) answer did e room = let is : Marked (Write word value)
-        ≡ did = cc in
-        subst (BeginsWithRoom h limit before) is tt
-    elim_did (Mark Commit) answer did e room = let is : Marked Commit ≡ did = cc in
-        subst (BeginsWithRoom h limit before) is tt
-    elim_did (Mark BlockOpen) answer did e room = let is : Marked BlockOpen ≡ did = cc in
-        subst (BeginsWithRoom h limit before) is tt
-    elim_did (Mark BlockClose) answer did e room = let is : Marked BlockClose ≡ did = cc in
-        subst (BeginsWithRoom h limit before) is tt
-    elim_did (Mark BlockCommit) answer did e room = let is : Marked BlockCommit ≡ did = cc in
-        subst (BeginsWithRoom h limit before) is tt
+began_with_room h limit before act answer did e room = search arith
 
 -- if an act is to come, there is room for one event
 some_room : (n : ℕ) (left : Script) → next_act left ≢ Done → EndsWithin n left → nat_le 1 n ≡ true
-some_room n stop goes ends = absurd (goes refl)
-some_room n (step act rest) goes ends = let low : 1 ≤ n = ends.0 in grind (arith, nat_tests)
+some_room n left goes ends = search (step, arith)
 
 pub room_for_one : (n : ℕ) (left : Script) → next_act left ≢ Done → ∥ EndsWithin n left ∥₁ → 0 < n
 room_for_one n left goes ends = let e : nat_le 1 n ≡ true = ∥∥₁_elim ends (Bool-set _ _)
@@ -115,8 +74,7 @@ room_for_one n left goes ends = let e : nat_le 1 n ≡ true = ∥∥₁_elim end
 next_in_time : (n : ℕ) (left : Script) (answer : ℕ) → is_return (next_act left) ≡ false
     → IsAnswer (next_act left) answer → EndsWithin n left
     → EndsWithin (n - 1) (after_answer left answer)
-next_in_time n stop answer goes is ends = tt
-next_in_time n (step act rest) answer goes is ends = ends.1 goes answer is
+next_in_time n left answer goes is ends = search (step, arith)
 
 -- So an operation that goes on still ends in time. `rests` says that none is under way after a
 -- return.
@@ -130,7 +88,4 @@ still_in_time n left answer rests is in_time goes = ∥∥₁_map in_time
   where
     no_return : (b : _) → is_return (next_act left) ≡ b → is_return (next_act left) ≡ false
     no_return false e = e
-    no_return true e =
-        let zero = return_zero (next_act left) answer e is in
-        let b : true ≡ false = sym (ap (λ a. is_between (after_answer left a)) zero ∙ rests e)
-        ∙ goes in cc
+    no_return true e = grind arith

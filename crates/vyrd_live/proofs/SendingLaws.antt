@@ -18,16 +18,7 @@ pub sent_same : (relay : RelayView) (sender : SenderView) (place : ℕ) (hand af
     → after.caller ≡ hand.caller → after.lane ≡ hand.lane
     → after.forgotten ≡ hand.forgotten → HasSent relay sender place hand
     → HasSent relay sender place after
-sent_same relay sender place hand after caller lane forgotten s = record {
-  queue = s.queue;
-  caller = s.caller ∙ sym caller;
-  gone = let g = s.gone in omega (arith, forgotten, g);
-  within = let l = ap (λ (xs : List Stamped). length xs) lane in let w = s.within in
-      omega (arith, l, w);
-  sent = s.sent ∙ ap (take place) (sym lane);
-  own = subst (λ (x : ℕ × List Stamped). All (λ (e : Stamped). e.caller ≡ x.0) x.1)
-      (λ i. (sym caller i, sym lane i)) s.own;
-}
+sent_same relay sender place hand after caller lane forgotten s = search arith
 
 -- the lane has one event more, which is the caller's
 longer : (relay : RelayView) (sender : SenderView) (place : ℕ) (hand after : HandView) (e : Stamped)
@@ -53,33 +44,21 @@ pub sent_before : (relay : RelayView) (sender : SenderView) (place : ℕ) (act :
     → HasActed act answer hand after → HasSent relay sender place hand
     → HasSent relay sender place after
 sent_before relay sender place act answer hand after acted s =
-    longer relay sender place hand after (stamp acted.number hand.caller acted.did)
-    (ap (λ (v : HandView). v.caller) acted.hand)
-    (ap (λ (v : HandView). v.lane) acted.hand) (ap (λ (v : HandView). v.forgotten) acted.hand) refl
-    s
+    longer relay sender place hand after (stamp acted.number hand.caller acted.did) (cc acted.hand)
+    (cc acted.hand) (cc acted.hand) refl s
 
 -- nothing was sent of an empty lane
 pub sent_nothing : (relay : RelayView) (sender : SenderView) (hand : HandView) → sender.queue
     ≡ relay.queue → sender.caller ≡ hand.caller
     → sender.sent ≡ [] → hand.lane ≡ [] → hand.forgotten ≡ 0 → HasSent relay sender 0 hand
-sent_nothing relay sender hand queue caller sent empty kept = record {
-  queue = queue;
-  caller = caller;
-  gone = omega (arith, kept);
-  within = omega arith;
-  sent = sent;
-  own = subst (All (λ (e : Stamped). e.caller ≡ hand.caller)) (sym empty)
-      (λ k d l. absurd (omega arith));
-}
+sent_nothing relay sender hand queue caller sent empty kept = search arith
 
 -- what was sent of a lane to its end is the lane
 pub sent_whole : (relay : RelayView) (sender : SenderView) (place : ℕ) (hand : HandView)
     → HasSent relay sender place hand
     → place ≡ length hand.lane → lane_sent sender
     ≡ record { caller = hand.caller; items = hand.lane }
-sent_whole relay sender place hand s all =
-    let whole = s.sent ∙ ap (λ n. take n hand.lane) all ∙ take_all (length hand.lane) hand.lane
-    (omega arith) in λ i. record { caller = s.caller i; items = whole i }
+sent_whole relay sender place hand s all = search (take_all, arith)
 
 take_of_take : (m : ℕ) (xs : List Stamped) → take (length (take m xs)) xs ≡ take m xs
 take_of_take zero xs = refl
@@ -93,9 +72,7 @@ module _ (relay : RelayView) (sender : SenderView) (place : ℕ) (hand : HandVie
     (parcel_is : parcel ≡ take m (drop from kept))
     (from_is : hand.forgotten + from ≡ place) where
   next_is : parcel ≡ take m (drop place hand.lane)
-  next_is = parcel_is ∙ ap (λ (l : List Stamped). take m (drop from l)) kept_is
-      ∙ ap (take m) (drop-drop from hand.forgotten hand.lane)
-      ∙ ap (λ (n : ℕ). take m (drop n hand.lane)) from_is
+  next_is = cc (drop-drop from hand.forgotten hand.lane)
 
   pub parcel_own : All (λ (e : Stamped). e.caller ≡ sender.caller) parcel
   parcel_own = subst (λ (x : List Stamped × ℕ). All (λ (e : Stamped). e.caller ≡ x.1) x.0)

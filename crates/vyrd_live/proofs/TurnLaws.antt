@@ -30,21 +30,17 @@ pub run_recorded : (w : Workload) (r : Recording) (words : List ℕ) (run : Run)
     → IsRunByTurns w run
 run_recorded w r words run has_run charter history_is words_is judged =
     let same : run.history.items ≡ has_run.history = history_is ∙ has_run.taken.kept in record {
-      history = subst (RunsTo (work_scripts w) w.turns) (sym same) has_run.runs;
-      words = words_is ∙ has_run.words_are
-          ∙ ap (λ (h : List Stamped). memory_after w.header (newest_first h)) (sym same);
-      verdict_is = judged has_run.history has_run.taken
-          ∙ ap (λ (k : Charter). verdict (rules_by k) [] (log_of has_run.history)) charter
-          ∙ ap (λ (h : List Stamped). verdict (rules_of w.header) [] (log_of h)) (sym same);
+      history = subst (RunsTo _ _) (sym same) has_run.runs;
+      words = cc has_run.words_are;
+      verdict_is = cc (judged has_run.history has_run.taken);
     }
 
 pub turns_accepted : (w : Workload) (run : Run) → KeepsLimits w → IsCorrect w → IsRunByTurns w run
     → run.verdict ≡ accepted (log_of run.history.items)
-turns_accepted w run limits is by_turns =
-    by_turns.verdict_is ∙ schedule_accepted w run.history.items limits is (record {
+turns_accepted w run limits is by_turns = by_turns.verdict_is ∙ schedule_accepted w _ limits is
+    (record {
       legal = run_is_legal w.header (work_scripts w) w.turns run.history.items
-          (scripts_sound w limits)
-          by_turns.history;
-      parts = run_plays w.header (work_scripts w) w.turns run.history.items (scripts_sound w limits)
+          (scripts_sound w limits) by_turns.history;
+      parts = run_plays w.header _ w.turns run.history.items (scripts_sound w limits)
           by_turns.history;
     })

@@ -25,8 +25,7 @@ use Rattle.vyrd_live.proofs.FitLaws.{fits_on, fits_with_room, fits_kept, fits_fr
 answer_is : (act : Act) (answer : ℕ) (did : Did) → event_of act answer ≡ Some did
     → IsAnswer act answer → answer_of did ≡ answer
 answer_is (Load cell) answer did e is = let d : did ≡ Read cell answer = cc in ap answer_of d
-answer_is (Store cell value) answer did e is = let d : did ≡ Wrote cell value = cc in ap answer_of d
-    ∙ sym is
+answer_is (Store cell value) answer did e is = cc
 answer_is (Take lock) answer did e is = let d : did ≡ Took lock = cc in ap answer_of d ∙ sym is
 answer_is (Give lock) answer did e is = let d : did ≡ Gave lock = cc in ap answer_of d ∙ sym is
 answer_is (Mark kind) answer did e is = let d : did ≡ Marked kind = cc in ap answer_of d ∙ sym is
@@ -50,13 +49,12 @@ pub working_with_room : (h : Header) (script left : Script) (hand now : HandView
     → HasRoomAhead h left now
     → IsWorking h script left now
 working_with_room h script left hand now is w room =
-    let lane : now.lane ≡ hand.lane = ap (λ (v : HandView). v.lane) is in
+    let lane : now.lane ≡ hand.lane = cc in
     record {
-      plays = subst (λ (lane : List Stamped). Plays script (dids_of lane)) (sym lane) w.plays;
-      left_is = w.left_is ∙ ap (λ (lane : List Stamped). left_after script (dids_of lane))
-          (sym lane);
-      had_room = subst (λ (v : HandView). HadRoom h v.limit (dids_of v.lane)) (sym is) w.had_room;
-      fits = fits_with_room h left hand now is w.fits;
+      plays = rw lane w.plays;
+      left_is = cc w.left_is;
+      had_room = rw is w.had_room;
+      fits = fits_with_room h _ hand _ is w.fits;
       in_time = λ goes. room.spare;
     }
 
@@ -77,8 +75,7 @@ working_kept h script left forgotten hand now is w = subst (IsWorking h script l
 lane_after : (act : Act) (answer : ℕ) (hand now : HandView) (acted : HasActed act answer hand now)
     → dids_of now.lane ≡ acted.did ∷ dids_of hand.lane
 lane_after act answer hand now acted =
-    ap (λ (v : HandView). dids_of v.lane) acted.hand
-    ∙ dids_of-snoc hand.lane (stamp acted.number hand.caller acted.did)
+    cc (acted.hand, dids_of-snoc hand.lane (stamp acted.number hand.caller acted.did))
 
 -- after one event more
 pub working_on : (h : Header) (script left : Script) (hand now : HandView) (answer : ℕ)
@@ -117,26 +114,19 @@ pub working_turn : (h : Header) (script left later : Script) (hand now after : H
     → now ≡ with_spare hand now.spare → HasRoomAhead h left now
     → (answer : ℕ) × (later ≡ after_answer left answer) × HasActed (next_act left) answer now after
     → IsWorking h script left hand → IsWorking h script later after
-working_turn h script left later hand now after rests is room made w =
-    subst (λ s. IsWorking h script s after) (sym made.1)
-    (working_on h script left now after made.0 rests made.2 room
-    (working_with_room h script left hand now is w room))
+working_turn h script left later hand now after rests is room made w = rw made.1
+    (working_on h _ left now _ made.0 rests made.2 room (working_with_room h _ _ _ _ is w room))
 
 -- the hand is the same except for its lane, its room and what it found
 pub same_hand : (act : Act) (answer : ℕ) (hand now after : HandView)
     → now ≡ with_spare hand now.spare → HasActed act answer now after
     → (after.table ≡ hand.table) × (after.limit ≡ hand.limit) × (after.caller ≡ hand.caller)
-same_hand act answer hand now after is acted = (
-  ap (λ (v : HandView). v.table) acted.hand ∙ ap (λ (v : HandView). v.table) is,
-  ap (λ (v : HandView). v.limit) acted.hand ∙ ap (λ (v : HandView). v.limit) is,
-  ap (λ (v : HandView). v.caller) acted.hand ∙ ap (λ (v : HandView). v.caller) is,
-)
+same_hand act answer hand now after is acted = (cc acted.hand, cc acted.hand, cc acted.hand)
 
 pub one_longer : (act : Act) (answer : ℕ) (before after : HandView)
     → HasActed act answer before after → length after.lane ≡ length before.lane + 1
 one_longer act answer before after acted =
-    ap (λ (v : HandView). length v.lane) acted.hand ∙ length-append before.lane
-    (stamp acted.number before.caller acted.did ∷ [])
+    cc (acted.hand, length-append before.lane (stamp acted.number before.caller acted.did ∷ []))
 
 -- a script that was played to its end
 pub worked_to_the_end : (h : Header) (script left : Script) (hand : HandView)

@@ -60,17 +60,12 @@ hand_left header_of script ahead traced workers stopped worked count all i d low
     let w = element_of workers i low in
     let s : Stopped = record { hand = d; ending = Finished } in
     let here = worked i w s low in
-    let now : slice_index_or (hands stopped) i d
-    ≡ (slice_index_or stopped i s).hand = get_or-map (λ (s : Stopped). s.hand) stopped i s d
-    (omega (arith, low, count)) in
+    let now : slice_index_or (hands stopped) i d ≡ (slice_index_or stopped i s).hand =
+    get_or-map _ _ i s d (omega (arith, low, count)) in
     let before : slice_index_or (first_hands workers) i d ≡ (slice_index_or workers i w).hand =
-    get_or-map (λ (w : _). w.hand) workers i w d low in
+    get_or-map _ _ i w d low in
     let was = (all.1 i d (omega (arith, low, length-map workers (λ (w : _). w.hand)))).1 in
-    subst (λ (v : HandView). IsOf traced v × (v.caller ≡ i)) (sym now) (
-      here.hand_of,
-      here.caller
-          ∙ ap (λ (v : HandView). v.caller) (sym before) ∙ was,
-    )
+    rw now (here.hand_of, cc here.caller)
 
 -- the hands come back in the order of their callers
 pub all_hands : {M : Type 0} (header_of : M → Header) (script : M → Script) (ahead : M
@@ -97,30 +92,26 @@ ended_at : {M : Type 0} (header_of : M → Header) (script : M → Script) (ahea
     → HasEnded h traced.plan.limit (script_of (map (λ w. script w.machine) workers) c)
     (slice_index_or (endings stopped) c Finished) (done_by c history)
 ended_at header_of script ahead traced h workers stopped history worked count all parts made c low =
-    let w = element_of workers c low in
+    let w = element_of _ c low in
     let d = (element_of workers c low).hand in
     let s : Stopped = record { hand = d; ending = Finished } in
     let here = worked c w s low in
-    let now : slice_index_or (hands stopped) c d
-    ≡ (slice_index_or stopped c s).hand = get_or-map (λ (s : Stopped). s.hand) stopped c s d
-    (omega (arith, low, count)) in
+    let now : slice_index_or (hands stopped) c d ≡ (slice_index_or stopped c s).hand =
+    get_or-map _ _ c s d (omega (arith, low, count)) in
     let ending : slice_index_or (endings stopped) c Finished ≡ (slice_index_or stopped c s).ending =
-    get_or-map (λ (s : Stopped). s.ending) stopped c s Finished
-    (omega (arith, low, count)) in
+    get_or-map (λ (s : Stopped). s.ending) stopped c s Finished (omega (arith, low, count)) in
     let own : script_of (map (λ w. script w.machine) workers) c
-    ≡ script (slice_index_or workers c w).machine = get_or-map
-    (λ (w : _). script w.machine) workers c w stop low in
-    let header : header_of (slice_index_or workers c w).machine ≡ h =
-    sym (get_or-map (λ (w : _). header_of w.machine) workers c w h low)
+    ≡ script (slice_index_or workers c w).machine = get_or-map (λ (w : _). script _) workers c w
+    stop low in
+    let header : header_of (slice_index_or workers c w).machine ≡ h = sym (get_or-map _ _ c w h low)
     ∙ made.each c h (omega (arith, low, length-map workers (λ (w : _). header_of w.machine))) in
     let caller =
     (hand_left header_of script ahead traced workers stopped worked count all c d low).1 in
     let part_is = parts c d
     (omega (arith, low, count, length-map stopped (λ (s : Stopped). s.hand))) in
-    let lane : part c history ≡ (slice_index_or stopped c s).hand.lane =
-    ap (λ c. part c history) (sym caller) ∙ part_is ∙ ap (λ (v : HandView). v.lane) now in
-    let done : done_by c history ≡ dids_of (slice_index_or stopped c s).hand.lane =
-    done_by-part c history ∙ ap dids_of lane in
+    let lane : part c history ≡ (slice_index_or stopped c s).hand.lane = cc in
+    let done : done_by c history ≡ dids_of (slice_index_or stopped c s).hand.lane = done_by-part c _
+    ∙ ap dids_of lane in
     subst (λ (x : Header × Script × Ending × List Did). HasEnded x.0 traced.plan.limit x.1 x.2 x.3)
     (λ i. (header i, sym own i, sym ending i, sym done i)) here.ended
 
@@ -138,21 +129,18 @@ pub all_played : {M : Type 0} (header_of : M → Header) (script : M → Script)
 all_played header_of script ahead traced h workers stopped history first worked count all legal
     parts made is =
     let scripts = map (λ w. script w.machine) workers in
-    let callers : length workers ≡ h.callers =
-    sym (length-map workers (λ (w : _). header_of w.machine)) ∙ made.count in
-    let plan : traced.plan.callers ≡ length workers = sym all.0
-    ∙ length-map workers (λ (w : _). w.hand) in
-    played h traced.plan.limit scripts history (endings stopped) first
+    let callers : length workers ≡ h.callers = sym (length-map _ _) ∙ made.count in
+    let plan : traced.plan.callers ≡ length workers = sym all.0 ∙ length-map _ _ in
+    played h traced.plan.limit _ history (endings stopped) _
     (record {
-      each = λ c low. ended_at header_of script ahead traced h workers stopped history worked count
-          all parts made c (omega (arith, low, callers));
+      each = λ c low. ended_at header_of script ahead traced h workers stopped history
+          worked count all parts made c (omega (arith, low, callers));
       others = λ c out. (
-        get_or_past scripts c stop
+        get_or_past _ c _
             (omega (arith, out, callers, length-map workers (λ (w : _). script w.machine))),
         nothing_done (cells_in traced.plan) c history legal (omega (arith, out, callers, plan)),
       );
-    })
-    (subst (λ n. IsFirstSpent (endings stopped) n first) (count ∙ callers) is)
+    }) (rw (← count ∙ callers) is)
 
 -- the machine of the first that was spent had more events before it than the limit allows
 pub first_is_long : {M : Type 0} (header_of : M → Header) (script : M → Script) (ahead : M → ℕ)
@@ -168,7 +156,6 @@ first_is_long header_of script ahead traced workers stopped (Some first) worked 
     let here : first < length workers = let low = is.0 in omega (arith, low, count) in
     let w = element_of workers first here in
     let s : Stopped = record { hand = w.hand; ending = Finished } in
-    subst (λ n. traced.plan.limit < n)
-    (sym (get_or-map (λ (w : _). ahead w.machine) workers first w 0 here))
+    rw (get_or-map (λ (w : _). ahead w.machine) workers first w 0 here)
     ((worked first w s here).long
     (sym (get_or-map (λ (s : Stopped). s.ending) stopped first s Finished is.0) ∙ is.1))

@@ -78,11 +78,7 @@ module _ (n : ℕ) (bytes piece : List ℕ) (few : n < 11) (is : bytes ≡ take 
           → (m ≡ n + part) × (bytes ++ take part piece ≡ take m own_beginning)
       by_test true e f =
           let same = (bytes_eq-Decides (take part piece) (take part (drop n own_beginning))).0 e in
-          let place : m ≡ n + part = cc in (
-            place,
-            (λ i. is i ++ same i) ∙ sym (take-add n part own_beginning)
-                ∙ ap (λ k. take k own_beginning) (sym place),
-          )
+          let place : m ≡ n + part = cc in (place, cc (take-add n part own_beginning))
       by_test false e f = cc
 
   -- the beginning has come as a whole
@@ -91,18 +87,12 @@ module _ (n : ℕ) (bytes piece : List ℕ) (few : n < 11) (is : bytes ≡ take 
   whole_comes found =
       let g = goes_on 11 found in
       let size : part ≡ 11 - n = omega (arith, g.0, few) in
-      ap (λ xs. bytes ++ xs) (sym (take-append-drop part piece))
-      ∙ sym (append_assoc bytes (take part piece) (drop part piece))
-      ∙ (λ i. g.1 i ++ drop (size i) piece)
+      cc (take-append-drop part piece, append_assoc bytes (take part piece) (drop part piece))
 
   -- more of it has come
   pub more_comes : (m : ℕ) → matched_with n piece ≡ Some m → m ≢ 11
       → (m < 11) × (bytes ++ piece ≡ take m own_beginning)
-  more_comes m found other =
-      let g = goes_on m found in
-      let below : m < 11 = omega (arith, g.0, few, other) in
-      let all : length piece ≤ part = omega (arith, g.0, below) in
-      (below, ap (λ xs. bytes ++ xs) (sym (take_all part piece all)) ∙ g.1)
+  more_comes m found other = search (goes_on, take_all, arith)
 
   -- the piece differs from what comes next
   pub other_comes : matched_with n piece ≡ None → (more : List ℕ)
@@ -146,9 +136,7 @@ other_longer bytes more never = search (append_assoc, more, never, arith)
 -- how far bytes match with a piece behind them, if the beginning hasn't come as a whole
 pub matches_on : (n : ℕ) (bytes piece : List ℕ) (now : Option ℕ) → Matches (Some n) bytes
     → now ≡ matched_with n piece → (now ≡ Some 11 → ⊥) → Matches now (bytes ++ piece)
-matches_on n bytes piece None m is other = other_comes n bytes piece m.0 m.1 (sym is)
-matches_on n bytes piece (Some k) m is other =
-    more_comes n bytes piece m.0 m.1 k (sym is) (λ e. other (ap Some e))
+matches_on n bytes piece now m is other = search (other_comes, more_comes, arith)
 
 -- no more has come than there is
 pub within : (n : ℕ) (piece : List ℕ) (m : ℕ) → n < 11 → matched_with n piece ≡ Some m → m ≢ 11
@@ -157,10 +145,8 @@ within n piece m few found other = grind (arith, few, found)
 
 -- what a test of a place tells
 pub is_place : (o : Option ℕ) (n : ℕ) → true ≡ option_eq (λ x y. x == y) o (Some n) → o ≡ Some n
-is_place None n e = cc
-is_place (Some k) n e = let same : k ≡ n = grind (arith, nat_tests) in ap Some same
+is_place o n e = search arith
 
 pub isnt_place : (o : Option ℕ) (n : ℕ) → false ≡ option_eq (λ x y. x == y) o (Some n) → o ≡ Some n
     → ⊥
-isnt_place None n e f = cc
-isnt_place (Some k) n e f = let same : k ≡ n = cc in grind (arith, nat_tests)
+isnt_place o n e f = search arith

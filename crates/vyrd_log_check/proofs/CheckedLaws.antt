@@ -80,8 +80,7 @@ module _ (c : LogCheckerState) (bytes : List ℕ) (sound : IsSound c) (is : c.ow
       let f = by_first c bytes is h in
       IfOk-weaker r (λ v. v ≡ text_verdict c.first.kept.reader.max_lines bytes)
       (λ v. v ≡ log_verdict c.max_lines bytes)
-      (λ v e. e ∙ ap (λ m. text_verdict m bytes) sound.first
-      ∙ sym (first_whole c.max_lines bytes (matches_isnt c.matched bytes f.1)))
+      (λ v e. cc (sound.first, first_whole c.max_lines bytes (matches_isnt c.matched bytes f.1)))
       (told bytes f.0)
 
   module _ {E : Type 0} (r : Result (Option Verdict) E) (piece : List ℕ) (now : Option ℕ)

@@ -37,10 +37,7 @@ first_cost max bytes is = cc
 line_free : (max : ℕ) (bytes : List ℕ) → lacks 10 bytes ≡ true
     → first_costs.bytes_cost max bytes ≡ 0
 unfolding reading
-line_free max bytes one =
-    ap (λ lines. first_costs.reading_cost
-    (text_read (record { max_lines = max; is_whole = false }) lines))
-    (split_whole 10 bytes one)
+line_free max bytes one = cc (split_whole 10 bytes one)
 
 -- so a part of the beginning costs nothing
 beginning_free : (max n : ℕ) (bytes : List ℕ) → Matches (Some n) bytes → bytes_cost max bytes ≡ 0
@@ -74,34 +71,13 @@ module _ (c : LogCheckerState) (o : OwnChecker) (bytes : List ℕ) (sound : IsSo
       → OnOk r (n + debt_by first (Some new) (bytes ++ piece) + bytes_cost c.max_lines bytes
       ≤ m + checker_debt c bytes + bytes_cost c.max_lines (bytes ++ piece))
   own_paid r piece new first m n paid =
-      let f = by_own c o bytes is h in
-      let limited = limit c o bytes sound is h in
-      on_ok_weaker r (λ e.
-      subst (λ x. n + own_owed.checker_debt (checker_in new) (bytes ++ piece)
-      + bytes_cost c.max_lines bytes
-      ≤ m + debt_by c.first x bytes + bytes_cost c.max_lines (bytes ++ piece)) (sym is)
-      (same_paid n (own_owed.checker_debt (checker_in new) (bytes ++ piece))
-      (own_costs.bytes_cost c.max_lines bytes) m (own_owed.checker_debt (checker_in o) bytes)
-      (own_costs.bytes_cost c.max_lines (bytes ++ piece)) _ _
-      (own_cost c.max_lines bytes f.1)
-      (own_cost c.max_lines (bytes ++ piece) (begins_longer bytes piece f.1))
-      (subst (λ max. n + own_owed.checker_debt (checker_in new) (bytes ++ piece)
-      + own_costs.bytes_cost max bytes
-      ≤ m + own_owed.checker_debt (checker_in o) bytes
-      + own_costs.bytes_cost max (bytes ++ piece)) limited e)))
-      (paid bytes f.0)
+      search (by_own, limit, same_paid, own_cost, begins_longer, arith)
 
   -- and so is what it costs to end
   pub own_ended : (m n : ℕ) → ((xs : List ℕ) → own_checking.HasChecked (checker_in o) xs
       → n ≤ m + own_costs.finish_cost (own_checking.limit_of (checker_in o).kept) xs)
       → n ≤ m + finish_cost c.max_lines bytes
-  own_ended m n paid =
-      let f = by_own c o bytes is h in
-      same_ended n m (own_costs.finish_cost c.max_lines bytes) (finish_cost c.max_lines bytes)
-      (ap (λ b. cond b (own_costs.finish_cost c.max_lines bytes)
-      (first_costs.finish_cost c.max_lines bytes)) f.1)
-      (subst (λ max. n ≤ m + own_costs.finish_cost max bytes)
-      (limit c o bytes sound is h) (paid bytes f.0))
+  own_ended m n paid = search (by_own, same_ended, limit, arith)
 
 -- every other log
 module _ (c : LogCheckerState) (bytes : List ℕ) (sound : IsSound c) (is : c.own ≡ None)
@@ -116,30 +92,12 @@ module _ (c : LogCheckerState) (bytes : List ℕ) (sound : IsSound c) (is : c.ow
       → OnOk r (n + debt_by new c.own (bytes ++ piece) + bytes_cost c.max_lines bytes
       ≤ m + checker_debt c bytes + bytes_cost c.max_lines (bytes ++ piece))
   first_paid r piece now matches new m n paid =
-      let f = by_first c bytes is h in
-      on_ok_weaker r (λ e.
-      subst (λ x. n + debt_by new x (bytes ++ piece) + bytes_cost c.max_lines bytes
-      ≤ m + debt_by c.first x bytes + bytes_cost c.max_lines (bytes ++ piece)) (sym is)
-      (same_paid n (first_owed.checker_debt new (bytes ++ piece))
-      (first_costs.bytes_cost c.max_lines bytes) m (first_owed.checker_debt c.first bytes)
-      (first_costs.bytes_cost c.max_lines (bytes ++ piece)) _ _
-      (first_cost c.max_lines bytes (matches_isnt c.matched bytes f.1))
-      (first_cost c.max_lines (bytes ++ piece) (matches_isnt now (bytes ++ piece) matches))
-      (subst (λ max. n + first_owed.checker_debt new (bytes ++ piece)
-      + first_costs.bytes_cost max bytes
-      ≤ m + first_owed.checker_debt c.first bytes
-      + first_costs.bytes_cost max (bytes ++ piece)) sound.first e)))
-      (paid bytes f.0)
+      search (by_first, same_paid, first_cost, matches_isnt, arith)
 
   pub first_ended : (m n : ℕ) → ((xs : List ℕ) → first_checking.HasChecked c.first xs
       → n ≤ m + first_costs.finish_cost c.first.kept.reader.max_lines xs)
       → n ≤ m + finish_cost c.max_lines bytes
-  first_ended m n paid =
-      let f = by_first c bytes is h in
-      same_ended n m (first_costs.finish_cost c.max_lines bytes) (finish_cost c.max_lines bytes)
-      (ap (λ b. cond b (own_costs.finish_cost c.max_lines bytes)
-      (first_costs.finish_cost c.max_lines bytes)) (matches_isnt c.matched bytes f.1))
-      (subst (λ max. n ≤ m + first_costs.finish_cost max bytes) sound.first (paid bytes f.0))
+  first_ended m n paid = search (by_first, same_ended, matches_isnt, arith)
 
   -- What the checker of the other kind did for a part of the beginning costs nothing, and the one
   -- of a log with a specification has been fed from the start.
@@ -152,15 +110,13 @@ module _ (c : LogCheckerState) (bytes : List ℕ) (sound : IsSound c) (is : c.ow
       ≤ m + checker_debt c bytes + bytes_cost c.max_lines (bytes ++ piece)
   started_paid k piece rest place found left new first m n paid =
       let all = begins_all c bytes sound is h k piece rest place found left in
-      let own : is_own_text (bytes ++ piece) ≡ true =
-      subst (λ xs. is_own_text xs ≡ true) all (begins_longer own_beginning rest refl) in
+      let own : is_own_text (bytes ++ piece) ≡ true = rw (← all)
+      (begins_longer own_beginning rest refl) in
       begun n (own_owed.checker_debt (checker_in new) (bytes ++ piece))
       (bytes_cost c.max_lines bytes) m (checker_debt c bytes)
       (own_costs.bytes_cost c.max_lines (bytes ++ piece)) (bytes_cost c.max_lines (bytes ++ piece))
       (beginning_free c.max_lines k bytes (matched_is c bytes sound is h k place))
-      (own_cost c.max_lines (bytes ++ piece) own)
-      (subst (λ xs. n + own_owed.checker_debt (checker_in new) xs
-      ≤ m + own_costs.bytes_cost c.max_lines xs) all paid)
+      (own_cost c.max_lines (bytes ++ piece) own) (rw (← all) paid)
     where
       begun : (n after was m before cost now : ℕ) → was ≡ 0 → now ≡ cost → n + after ≤ m + cost
           → n + after + was ≤ m + before + now
@@ -181,13 +137,11 @@ pub started_steps : (max : ℕ) (new begun fresh : own_checking.CheckerState) (r
     + own_costs.bytes_cost (own_checking.limit_of begun.kept) (own_beginning ++ rest)
     → n + own_owed.checker_debt new (own_beginning ++ rest)
     ≤ l + own_costs.bytes_cost max (own_beginning ++ rest)
-started_steps max new begun fresh rest l m n limited later owed none first second =
-    grind (arith, begun, limited)
+started_steps max new begun fresh rest l m n limited later owed none first second = search arith
 
 -- what is always so is so if there is an answer
 pub always : {E V : Type 0} (r : Result V E) {P : Type 0} → P → OnOk r P
-always (Ok v) p = p
-always (Err e) p = tt
+always r p = search arith
 
 -- a whole log, from the first byte to its end
 pub whole_paid : (max : ℕ) (fresh after : LogCheckerState) (bytes : List ℕ) (l m n : ℕ)
@@ -197,5 +151,4 @@ pub whole_paid : (max : ℕ) (fresh after : LogCheckerState) (bytes : List ℕ) 
     ≤ l + checker_debt fresh [] + bytes_cost fresh.max_lines bytes
     → n ≤ m + finish_cost after.max_lines bytes
     → n ≤ l + (bytes_cost max bytes + finish_cost max bytes)
-whole_paid max fresh after bytes l m n limited later owed none fed ended =
-    grind (arith, after, limited, fed, ended)
+whole_paid max fresh after bytes l m n limited later owed none fed ended = search arith

@@ -28,8 +28,7 @@ use Rattle.vyrd_log_check.proofs.LineSizes.{last_short, all_short}
 -- a line that spells something is short
 entry_short : (subject : Subject) (line : List ℕ) (e : Entry) → entry_in subject line ≡ Some e
     → length line ≤ 64
-entry_short subject line e is =
-    no_longer 64 line (λ long. let none = long_entry subject line long in cc)
+entry_short subject line e is = search (no_longer, long_entry, arith)
 
 pub start_short : (line : List ℕ) (s : StartWord) → start_in line ≡ Some s → length line ≤ 64
 start_short line s is = no_longer 64 line (λ long. let none = long_start line long in cc)
@@ -46,9 +45,8 @@ module _ (max : ℕ) where
       → (lines_read (so_far max) subject n (line ∷ lines)).fault ≡ None
       → AreShort 64 max n (line ∷ lines)
   lines_short subject n rest [] e = last_short 64 max n BadEntry rest (no_fault n _ e)
-  lines_short subject n line (next ∷ lines) e =
-      by_tests (lines_short subject (n + 1) next lines) (nat_lt max n) (bytes_eq line end_line)
-      refl refl e
+  lines_short subject n line (next ∷ lines) e = by_tests (lines_short subject (n + 1) next lines)
+      (nat_lt max n) (bytes_eq line end_line) refl refl e
     where
       after : Reading
       after = lines_read (so_far max) subject (n + 1) (next ∷ lines)
@@ -59,8 +57,7 @@ module _ (max : ℕ) where
       by_entry : Onward → n ≤ max → (o : Option Entry) → entry_in subject line ≡ o
           → (entry_before n o after).fault ≡ None → AreShort 64 max n (line ∷ next ∷ lines)
       by_entry onward low None is f = cc
-      by_entry onward low (Some entry) is f = one_line 64 max n line (next ∷ lines) low
-          (entry_short subject line entry is) (onward f)
+      by_entry onward low (Some entry) is f = search (one_line, entry_short, arith)
 
       by_tests : Onward → (past is_end : Bool) → nat_lt max n ≡ past
           → bytes_eq line end_line ≡ is_end
@@ -69,33 +66,30 @@ module _ (max : ℕ) where
           (entry_before n (entry_in subject line) after))).fault ≡ None
           → AreShort 64 max n (line ∷ next ∷ lines)
       by_tests onward true is_end p q f = cc
-      by_tests onward false true p q f = one_more 64 max n line (next ∷ lines)
-          (not_below_of max n p) (end_short line q)
-          (nothing_after max (n + 1) next lines (no_fault (n + 1) _ f))
-      by_tests onward false false p q f =
-          by_entry onward (not_below_of max n p) (entry_in subject line) refl f
+      by_tests onward false true p q f = search
+          (one_more, not_below_of, end_short, nothing_after, no_fault, arith)
+      by_tests onward false false p q f = by_entry onward (not_below_of max n p)
+          (entry_in subject line) refl f
 
   -- lines where starting words may stand
   starts_short : (h : Header) (last : Option StartWord) (n : ℕ) (line : List ℕ)
       (lines : List (List ℕ)) → (starts_read (so_far max) h last n (line ∷ lines)).fault ≡ None
       → AreShort 64 max n (line ∷ lines)
   starts_short h last n rest [] e = last_short 64 max n BadEntry rest (no_fault n _ e)
-  starts_short h last n line (next ∷ lines) e =
-      by_start (λ s f. starts_short h (Some s) (n + 1) next lines f) (start_in line) refl e
+  starts_short h last n line (next ∷ lines) e = by_start
+      (λ s f. starts_short h (Some s) (n + 1) next lines f) (start_in line) refl e
     where
       after : StartWord → Reading
       after s = starts_read (so_far max) h (Some s) (n + 1) (next ∷ lines)
 
       Onward : Type 0
-      Onward = (s : StartWord) → (after s).fault ≡ None
-          → AreShort 64 max (n + 1) (next ∷ lines)
+      Onward = (s : StartWord) → (after s).fault ≡ None → AreShort 64 max (n + 1) (next ∷ lines)
 
       by_rule : Onward → n ≤ max → (s : StartWord) → start_in line ≡ Some s
           → (rule : Option Rule) → (start_before n rule s (after s)).fault ≡ None
           → AreShort 64 max n (line ∷ next ∷ lines)
       by_rule onward low s is (Some rule) f = cc
-      by_rule onward low s is None f =
-          one_line 64 max n line (next ∷ lines) low (start_short line s is) (onward s f)
+      by_rule onward low s is None f = search (one_line, start_short, arith)
 
       by_limit : Onward → (s : StartWord) → start_in line ≡ Some s → (past : Bool)
           → nat_lt max n ≡ past
@@ -103,8 +97,8 @@ module _ (max : ℕ) where
           (start_before n (start_rule h last s) s (after s))).fault ≡ None
           → AreShort 64 max n (line ∷ next ∷ lines)
       by_limit onward s is true p f = cc
-      by_limit onward s is false p f =
-          by_rule onward (not_below_of max n p) s is (start_rule h last s) f
+      by_limit onward s is false p f = by_rule onward (not_below_of max n p) s is
+          (start_rule h last s) f
 
       by_start : Onward → (o : Option StartWord) → start_in line ≡ o
           → (elim o as (λ _. Reading) [
@@ -119,14 +113,7 @@ module _ (max : ℕ) where
   -- the lines after the header, in either version
   body_short : (h : Header) (line : List ℕ) (lines : List (List ℕ))
       → (body_read (so_far max) h (line ∷ lines)).fault ≡ None → AreShort 64 max 2 (line ∷ lines)
-  body_short h line lines e = by_version (h.version == 2) e
-    where
-      by_version : (b : Bool)
-          → (cond b (starts_read (so_far max) h None 2 (line ∷ lines))
-          (lines_read (so_far max) h.subject 2 (line ∷ lines))).fault ≡ None
-          → AreShort 64 max 2 (line ∷ lines)
-      by_version true f = starts_short h None 2 line lines f
-      by_version false f = lines_short h.subject 2 line lines f
+  body_short h line lines e = search (starts_short, lines_short, arith)
 
   -- all lines
   parts_short : (parts : List (List ℕ)) → 1 ≤ max → 0 < length parts
@@ -141,8 +128,7 @@ module _ (max : ℕ) where
             | Err rule ↦ stopped 1 (Some rule)
           ]).fault ≡ None
           → AreShort 64 max 1 (line ∷ next ∷ lines)
-      by_header (Ok h) is f = one_line 64 max 1 line (next ∷ lines) low (header_short line h is)
-          (body_short h next lines f)
+      by_header (Ok h) is f = search (one_line, header_short, body_short, arith)
       by_header (Err rule) is f = cc
 
   -- the text

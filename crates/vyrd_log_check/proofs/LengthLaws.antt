@@ -16,13 +16,7 @@ use Rattle.vyrd_log_check.proofs.OwnLengths.{own_bytes_short}
 own_text_right : (max : ℕ) (bytes : List ℕ) → own_text_verdict_so_far max bytes ≡ None
     → (read_so_far max bytes).fault ≡ None
 unfolding own_text_verdict_so_far
-own_text_right max bytes nothing =
-    by_fault (read_so_far max bytes).fault (second_none _ _ nothing)
-  where
-    by_fault : (o : Option TextFault)
-        → option_map (λ fault. Malformed fault.line fault.rule) o ≡ None → o ≡ None
-    by_fault None e = refl
-    by_fault (Some fault) e = cc
+own_text_right max bytes nothing = search (second_none, arith)
 
 -- by whether the bytes begin as a log with a specification in front does
 pub undecided_is_short : (max : ℕ) (bytes : List ℕ) → 1 ≤ max → log_verdict_so_far max bytes ≡ None

@@ -75,26 +75,10 @@ module _ (most max : ℕ) where
       ∷ (nat_lt most (length rest) breaks bad) ∷ (has_any rest && false breaks NoLineFeed)
       ∷ (false breaks NoEnd) ∷ []) ≡ None
       → AreShort n (rest ∷ [])
-  last_short n bad [] none = omega arith
-  last_short n bad (x ∷ xs) none =
-      by_tests (nat_lt max n) (nat_lt most (length (x ∷ xs))) refl refl none
-    where
-      by_tests : (past long : Bool) → nat_lt max n ≡ past → nat_lt most (length (x ∷ xs)) ≡ long
-          → first_broken ((past breaks TooManyLines) ∷ (long breaks bad)
-          ∷ (false breaks NoLineFeed) ∷ (false breaks NoEnd) ∷ []) ≡ None
-          → AreShort n ((x ∷ xs) ∷ [])
-      by_tests true long p l e = cc
-      by_tests false true p l e = cc
-      by_tests false false p l e =
-          let low : n ≤ max = not_below_of max n p in
-          let short : length (x ∷ xs) ≤ most = not_below_of most (length (x ∷ xs)) l in
-          omega (arith, room_more n low, short)
+  last_short n bad rest none = search (not_below_of, room_more, arith)
 
   -- the text that was cut into them
   pub all_short : (bytes : List ℕ) → AreShort 1 (slice_split (λ b. b == 10) bytes)
       → length bytes ≤ (most + 1) * max
   unfolding room_from
-  all_short bytes short =
-      let lines : max + 1 - 1 ≡ max = omega arith in
-      let room : (most + 1) * (max + 1 - 1) ≡ (most + 1) * max = ap (λ k. (most + 1) * k) lines in
-      omega (arith, size_of_split (λ b. b == 10) bytes, short, room)
+  all_short bytes short = search (size_of_split, arith)

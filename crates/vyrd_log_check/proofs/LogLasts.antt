@@ -24,14 +24,12 @@ use Rattle.vyrd_log_check.proofs.BeginningLaws.{begins_longer, part_of}
 pub own_so_far : (max : ℕ) (bytes : List ℕ) → is_own_text bytes ≡ true
     → log_verdict_so_far max bytes ≡ own_text_verdict_so_far max bytes
 unfolding log_verdict_so_far
-own_so_far max bytes is =
-    ap (λ b. cond b (own_text_verdict_so_far max bytes) (text_verdict_so_far max bytes)) is
+own_so_far max bytes is = search arith
 
 pub first_so_far : (max : ℕ) (bytes : List ℕ) → is_own_text bytes ≡ false
     → log_verdict_so_far max bytes ≡ text_verdict_so_far max bytes
 unfolding log_verdict_so_far
-first_so_far max bytes is =
-    ap (λ b. cond b (own_text_verdict_so_far max bytes) (text_verdict_so_far max bytes)) is
+first_so_far max bytes is = search arith
 
 pub own_whole : (max : ℕ) (bytes : List ℕ) → is_own_text bytes ≡ true
     → log_verdict max bytes ≡ own_text_verdict max bytes
@@ -55,15 +53,7 @@ unfolding text_verdict_so_far reading
 unfinished max bytes low one few =
     let allowed : nat_lt max 1 ≡ false = grind (arith, nat_tests) in
     let short : nat_lt 64 (length bytes) ≡ false = grind (arith, nat_tests) in
-    ap (λ lines. known_verdict (text_read (record { max_lines = max; is_whole = false }) lines))
-    (split_whole 10 bytes one)
-    ∙ (λ i. known_verdict (stopped 1 (first_broken (
-    (has_any bytes && allowed i breaks TooManyLines)
-    ∷ (short i breaks BadHeader) ∷ (has_any bytes && false breaks NoLineFeed)
-    ∷ (false breaks NoEnd) ∷ []))))
-    ∙ ap (λ b. known_verdict (stopped 1 (first_broken ((b breaks TooManyLines)
-    ∷ (false breaks BadHeader) ∷ (b breaks NoLineFeed) ∷ (false breaks NoEnd)
-    ∷ [])))) (and-false (has_any bytes))
+    cc (split_whole 10 bytes one, and-false (has_any bytes))
 
 pub lacks_take : (b n : ℕ) (xs : List ℕ) → lacks b xs ≡ true → lacks b (take n xs) ≡ true
 lacks_take b zero xs e = refl
@@ -81,8 +71,7 @@ part_has_none max n low few =
 
 never : (max : ℕ) (bytes more : List ℕ) (v : Verdict) → 1 ≤ max → is_own_text bytes ≡ false
     → is_own_text (bytes ++ more) ≡ true → text_verdict_so_far max bytes ≡ Some v → ⊥
-never max bytes more v low isnt later found =
-    grind (arith, more, isnt, found, part_of, part_has_none)
+never max bytes more v low isnt later found = search (part_of, part_has_none, arith)
 
 -- a verdict about bytes that stands stands for all longer bytes
 pub log_verdict_lasts : (max : ℕ) (bytes more : List ℕ) (v : Verdict) → 1 ≤ max → max ≤ most_lines
@@ -101,17 +90,15 @@ log_verdict_lasts max bytes more v low high found =
 
 pub log_verdict_stands : (max : ℕ) (bytes more : List ℕ) (v : Verdict) → 1 ≤ max → max ≤ most_lines
     → log_verdict_so_far max bytes ≡ Some v → log_verdict max (bytes ++ more) ≡ v
-log_verdict_stands max bytes more v low high found =
-    by_kind (is_own_text bytes) (is_own_text (bytes ++ more)) refl refl
+log_verdict_stands max bytes more v low high found = by_kind (is_own_text bytes)
+    (is_own_text (bytes ++ more)) refl refl
   where
     by_kind : (b c : Bool) → is_own_text bytes ≡ b → is_own_text (bytes ++ more) ≡ c
         → log_verdict max (bytes ++ more) ≡ v
-    by_kind true c is later =
-        own_whole max (bytes ++ more) (begins_longer bytes more is)
+    by_kind true c is later = own_whole max (bytes ++ more) (begins_longer bytes more is)
         ∙ own_verdict_stands max bytes more v (record { low = low; high = high })
         (sym (own_so_far max bytes is) ∙ found)
     by_kind false true is later = search (never, more, first_so_far, found, arith)
-    by_kind false false is later =
-        search (first_whole, more, text_verdict_stands, first_so_far, found, arith)
+    by_kind false false is later = search (first_whole, text_verdict_stands, first_so_far, arith)
 
 pub ruleset lasting = (log_verdict_lasts, log_verdict_stands)

@@ -39,8 +39,7 @@ use Rattle.vyrd_log_check.proofs.LengthFacts.{start_short, end_short}
 -- a line that spells something is short
 entry_short : (w : Written) (line : List ℕ) (e : Entry) → AllCallable w
     → own_entry_in w line ≡ Some e → length line ≤ 200
-entry_short w line e all is =
-    no_longer 200 line (λ long. let none = long_entry line long w all in cc)
+entry_short w line e all is = search (no_longer, long_entry, arith)
 
 header_short : (line : List ℕ) (h : Header) → own_header_in line ≡ Some h → length line ≤ 200
 header_short line h is = no_longer 200 line (λ long. let none = long_header line long in cc)
@@ -61,9 +60,8 @@ module _ (max : ℕ) where
       → (entries_read (so_far max) w n (line ∷ lines)).fault ≡ None
       → AreShort 200 max n (line ∷ lines)
   entries_short w all n rest [] e = last_short 200 max n BadEntry rest (no_fault n _ e)
-  entries_short w all n line (next ∷ lines) e =
-      by_tests (entries_short w all (n + 1) next lines) (nat_lt max n) (is_note line)
-      (bytes_eq line end_line) refl refl refl e
+  entries_short w all n line (next ∷ lines) e = by_tests (entries_short w all (n + 1) next lines)
+      (nat_lt max n) (is_note line) (bytes_eq line end_line) refl refl refl e
     where
       after : OwnReading
       after = entries_read (so_far max) w (n + 1) (next ∷ lines)
@@ -74,8 +72,7 @@ module _ (max : ℕ) where
       by_entry : Onward → n ≤ max → (o : Option Entry) → own_entry_in w line ≡ o
           → (own_entry_before n o after).fault ≡ None → AreShort 200 max n (line ∷ next ∷ lines)
       by_entry onward low None is f = cc
-      by_entry onward low (Some entry) is f = one_line 200 max n line (next ∷ lines) low
-          (entry_short w line entry all is) (onward f)
+      by_entry onward low (Some entry) is f = search (one_line, entry_short, arith)
 
       by_tests : Onward → (past note is_end : Bool) → nat_lt max n ≡ past → is_note line ≡ note
           → bytes_eq line end_line ≡ is_end
@@ -84,13 +81,12 @@ module _ (max : ℕ) where
           (own_entry_before n (own_entry_in w line) after)))).fault ≡ None
           → AreShort 200 max n (line ∷ next ∷ lines)
       by_tests onward true note is_end p m q f = cc
-      by_tests onward false true is_end p m q f = one_line 200 max n line (next ∷ lines)
-          (not_below_of max n p) (note_short line m) (onward f)
+      by_tests onward false true is_end p m q f = search (one_line, not_below_of, note_short, arith)
       by_tests onward false false true p m q f = one_more 200 max n line (next ∷ lines)
           (not_below_of max n p) (omega (arith, end_short line q))
           (nothing_after max (n + 1) next lines (no_fault (n + 1) _ f))
-      by_tests onward false false false p m q f =
-          by_entry onward (not_below_of max n p) (own_entry_in w line) refl f
+      by_tests onward false false false p m q f = by_entry onward (not_below_of max n p)
+          (own_entry_in w line) refl f
 
   -- lines where starting words may stand
   starts_short : (h : Header) (w : Written) → AllCallable w → (last : Option StartWord) (n : ℕ)
@@ -136,8 +132,7 @@ module _ (max : ℕ) where
       by_start onward (Some s) is f = by_limit onward s is (nat_lt max n) refl f
 
       within : (past : Bool) → nat_lt max n ≡ past → not past ≡ true → n ≤ max
-      within false p e' = not_below_of max n p
-      within true p e' = cc
+      within past p e' = search (not_below_of, arith)
 
       by_note : Onward → (b : Bool) → (is_note line && not (nat_lt max n)) ≡ b
           → (cond b (after last) (elim (start_in line) as (λ _. OwnReading) [
@@ -156,11 +151,10 @@ module _ (max : ℕ) where
       → (n : ℕ) (line : List ℕ) (lines : List (List ℕ))
       → (specification_read (so_far max) h s n (line ∷ lines)).fault ≡ None
       → AreShort 200 max n (line ∷ lines)
-  specification_short h s all n rest [] e =
-      last_short 200 max n (long_rule s) rest (no_fault n _ e)
-  specification_short h s all n line (next ∷ lines) e =
-      by_limit (specification_short h (read_next s line).1 (next_callable s line all) (n + 1)
-      next lines) (nat_lt max n) refl e
+  specification_short h s all n rest [] e = search (last_short, no_fault, arith)
+  specification_short h s all n line (next ∷ lines) e = by_limit
+      (specification_short h (read_next s line).1 (next_callable s line all) (n + 1) next lines)
+      (nat_lt max n) refl e
     where
       after : OwnReading
       after = specification_read (so_far max) h (read_next s line).1 (n + 1) (next ∷ lines)
@@ -169,22 +163,22 @@ module _ (max : ℕ) where
       Onward = after.fault ≡ None → AreShort 200 max (n + 1) (next ∷ lines)
 
       read_as : SpecificationLine → OwnReading
-      read_as says = elim says as (λ _. OwnReading) [
-        | said.More ↦ line_before line after
-        | said.Log ↦ own_starts_read (so_far max) h s.specification None (n + 1) (next ∷ lines)
-        | said.Refused rule column ↦ own_stopped n (Some (Specification rule))
-      ]
+      read_as says =
+          elim says as (λ _. OwnReading) [
+            | said.More ↦ line_before line after
+            | said.Log ↦
+                own_starts_read (so_far max) h s.specification None (n + 1) (next ∷ lines)
+            | said.Refused rule column ↦ own_stopped n (Some (Specification rule))
+          ]
 
       callable : AllCallable s.specification
       callable = second_true (nat_le (length s.specification.methods) 64) _ all
 
       by_line : Onward → n ≤ max → (says : SpecificationLine) → (read_next s line).0 ≡ says
           → (read_as says).fault ≡ None → AreShort 200 max n (line ∷ next ∷ lines)
-      by_line onward low said.More is f =
-          one_line 200 max n line (next ∷ lines) low (next_short s line is) (onward f)
-      by_line onward low said.Log is f =
-          one_line 200 max n line (next ∷ lines) low (log_short s line is)
-          (starts_short h s.specification callable None (n + 1) next lines f)
+      by_line onward low said.More is f = search (one_line, next_short, arith)
+      by_line onward low said.Log is f = one_line 200 max n line (next ∷ lines) low
+          (log_short s line is) (starts_short h s.specification callable None (n + 1) next lines f)
       by_line onward low (said.Refused rule column) is f = cc
 
       by_limit : Onward → (past : Bool) → nat_lt max n ≡ past
@@ -192,8 +186,7 @@ module _ (max : ℕ) where
           (read_as (read_next s line).0)).fault ≡ None
           → AreShort 200 max n (line ∷ next ∷ lines)
       by_limit onward true p f = cc
-      by_limit onward false p f =
-          by_line onward (not_below_of max n p) (read_next s line).0 refl f
+      by_limit onward false p f = by_line onward (not_below_of max n p) (read_next s line).0 refl f
 
   -- all lines
   parts_short : (parts : List (List ℕ)) → 1 ≤ max → 0 < length parts

@@ -67,11 +67,7 @@ fault_bad (Some fault) = tt
 module _ (r : Rules) (starting : List StartWord) where
   front_bad : (well_formed : List Entry) → IsBad (first_fault r starting well_formed)
   unfolding first_fault
-  front_bad well_formed =
-      let states = states_along r starting well_formed in
-      first_bad (violation_at r starting states)
-      (λ place. violation_bad (line_of starting _) (fault_at r starting states place))
-      (places well_formed)
+  front_bad well_formed = first_bad (violation_at r _ _) (λ place. violation_bad _ _) (places _)
 
   begun_bad : (entries : List Entry) → IsBad (begun_verdict r starting entries)
   begun_bad [] = tt
@@ -80,32 +76,26 @@ module _ (r : Rules) (starting : List StartWord) where
   log_bad : (entries : List Entry) → IsBad (verdict_so_far r starting entries)
   unfolding verdict_so_far shape_verdict
   log_bad entries = or_bad (begun_verdict r starting entries) _ (begun_bad entries)
-      (or_bad (first_fault r starting (front r.header entries)) _
-      (front_bad (front r.header entries))
-      (malformed_bad (line_of starting _) (first_break r.header entries)))
+      (or_bad (first_fault r _ _) _ (front_bad _) (malformed_bad _ _))
 
   end_bad : (entries : List Entry) → IsBad (end_verdict r starting entries)
   unfolding end_verdict
-  end_bad entries = or_bad (start_verdict r starting) _
-      (start_bad (is_none (state_at_start r starting)))
-      (open_bad (line_of starting _) (is_call_open r.header (newest_first entries)))
+  end_bad entries = or_bad (start_verdict r _) _ (start_bad _) (open_bad _ _)
 
   parts_bad : (entries : List Entry) (ended : Bool)
       → IsBad (option_or (verdict_so_far r starting entries)
       (cond ended (end_verdict r starting entries) None))
-  parts_bad entries true = or_bad (verdict_so_far r starting entries) _ (log_bad entries)
-      (end_bad entries)
-  parts_bad entries false = or_bad (verdict_so_far r starting entries) _ (log_bad entries) tt
+  parts_bad entries true = or_bad (verdict_so_far r _ _) _ (log_bad _) (end_bad _)
+  parts_bad entries false = or_bad (verdict_so_far r _ _) _ (log_bad _) tt
 
 -- about a log without a specification in front
 known_bad : (read : Reading) → IsBad (known_verdict read)
 known_bad read = or_bad (option_and_then (entries_verdict read) read.header) _
-    (by_header read.header)
-    (fault_bad read.fault)
+    (by_header read.header) (fault_bad read.fault)
   where
     by_header : (o : Option Header) → IsBad (option_and_then (entries_verdict read) o)
     by_header None = tt
-    by_header (Some h) = parts_bad (rules_of h) read.starting read.entries read.ended
+    by_header (Some h) = parts_bad _ _ _ _
 
 text_bad : (max : ℕ) (bytes : List ℕ) → IsBad (text_verdict_so_far max bytes)
 unfolding text_verdict_so_far
@@ -126,10 +116,7 @@ known_own_bad read = or_bad (option_and_then (own_entries_verdict read) read.hea
     by_header : (o : Option Header) → IsBad (option_and_then (own_entries_verdict read) o)
     by_header None = tt
     by_header (Some h) = let r = rules_by (own h read.lines) in
-        told_bad read.numbers
-        (option_or (verdict_so_far r read.starting read.entries)
-        (cond read.ended (end_verdict r read.starting read.entries) None))
-        (parts_bad r read.starting read.entries read.ended)
+        told_bad _ _ (parts_bad r _ _ _)
 
 own_bad : (max : ℕ) (bytes : List ℕ) → IsBad (own_text_verdict_so_far max bytes)
 unfolding own_text_verdict_so_far

@@ -54,32 +54,19 @@ pub record Rests (s : Situation) : Type 0 where
   pub in_block : s.in_block ≡ false
 
 rests : (s : Situation) → is_at_rest s ≡ true → Rests s
-rests s e =
-    let parts = four_true (holds_none s) (is_none s.called) (not s.committed) (not s.in_block) e in
-    record {
-      locks = parts.0;
-      called = parts.1;
-      committed = not-true s.committed parts.2;
-      in_block = not-true s.in_block parts.3;
-    }
+rests s e = search (four_true, is_none, arith)
 
 -- what is said where an act may come
 pub may_call : (h : Header) (s : Situation) (method : Method) (args : Args)
     → may_mark h s (Call method args) ≡ true
     → (same_subject (subject_of method) h.subject ≡ true) × (are_args h.size method args ≡ true)
     × Rests s
-may_call h s method args may =
-    let parts = three_true (same_subject (subject_of method) h.subject)
-    (are_args h.size method args) (is_at_rest s) may in
-    (parts.0, parts.1, rests s parts.2)
+may_call h s method args may = search (three_true, rests, arith)
 
 pub may_return : (h : Header) (s : Situation) (reply : ℕ) → may_mark h s (Return reply) ≡ true
     → (is_some s.called ≡ true) × (s.in_block ≡ false) × ((observes s || s.committed) ≡ true)
     × (holds_none s ≡ true)
-may_return h s reply may =
-    let parts = four_true (is_some s.called) (not s.in_block) (observes s || s.committed)
-    (holds_none s) may in
-    (parts.0, not-true s.in_block parts.1, parts.2, parts.3)
+may_return h s reply may = search (four_true, is_some, arith)
 
 -- the caller's own entry
 own_method : (c : ℕ) (kind : Kind) (log : List Entry)
@@ -127,7 +114,6 @@ next_agrees h c d did earlier log b e keeps a = search (own_event, other_event, 
 pub agrees : (h : Header) (c : ℕ) (earlier : List Stamped) → KeepsTo h (part_of c earlier)
     → Agrees c (situation_after (part_of c earlier)) (filter_map log_entry earlier)
 agrees h c [] keeps = record { called = refl; committed = refl; in_block = refl }
-agrees h c (e ∷ earlier) keeps =
-    next_agrees h c e.caller e.did (part_of c earlier) (filter_map log_entry earlier)
-    (e.caller == c) refl keeps
-    (agrees h c earlier (keeps_before h c e earlier keeps))
+agrees h c (e ∷ earlier) keeps = next_agrees h c e.caller e.did (part_of c _)
+    (filter_map log_entry earlier) (e.caller == c) refl keeps
+    (agrees h c earlier (keeps_before h c e _ keeps))

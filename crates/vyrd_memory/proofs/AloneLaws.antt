@@ -50,8 +50,7 @@ pub gives_up : (P : Type 0) (says : ℕ → Memory → Type 0) (o : Option Outco
     → ((reply : ℕ) (after : Memory) → says reply after → (reply ≡ 0 → P) × (P → reply ≡ 0))
     → GivesUpWhere P o
 gives_up P says None e where_zero = absurd e
-gives_up P says (Some outcome) e where_zero = let both = where_zero outcome.reply outcome.memory
-    e in (both.0, both.1)
+gives_up P says (Some outcome) e where_zero = let both = where_zero _ _ e in (both.0, both.1)
 
 -- a free lock is taken
 pub take_played : (c lock : ℕ) (later : Script) (memory : Memory) (Q : Option Outcome → Type 0)
@@ -69,5 +68,4 @@ given_back before during lock cell free same = by_place (cell == lock) refl
   where
     by_place : (b : Bool) → (cell == lock) ≡ b → with_cell during lock 0 cell ≡ before cell
     by_place true e = cc (same_of cell lock e, changed_cell during lock 0)
-    by_place false e = let apart = apart_of cell lock e in other_cell during lock 0 cell apart
-        ∙ same apart
+    by_place false e = let apart = apart_of _ _ e in other_cell during _ 0 cell apart ∙ same apart

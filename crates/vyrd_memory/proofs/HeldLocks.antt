@@ -71,8 +71,7 @@ left_in other lock (x ∷ locks) e = by_place (x == other) refl (left_in other l
     by_place b same rest = search (has_lock, apart_then, arith)
 
 none_held : (locks : List ℕ) (lock : ℕ) → is_nil locks ≡ true → has_lock lock locks ≡ false
-none_held [] lock e = refl
-none_held (x ∷ locks) lock e = cc
+none_held locks lock e = search arith
 
 -- a mark that may be left changes nothing of what is held
 mark_held : (h : Header) (s : Situation) (kind : Kind) (lock : ℕ) → may_mark h s kind ≡ true
@@ -84,55 +83,25 @@ own_held : (h : Header) (c : ℕ) (did : Did) (s : Situation) (earlier : List St
     → may_act h s (act_of_event did) ≡ true
     → is_lock (cells_of h) lock ≡ true → holds s lock ≡ (value_in earlier lock == c + 1)
     → holds (after_act s (act_of_event did)) lock ≡ (value_with earlier lock c did == c + 1)
-own_held h c (Read cell value) s earlier lock may is before = before
-own_held h c (Wrote cell value) s earlier lock may is before =
-    cc (plain_isnt (cells_of h) cell lock ((three_true (is_plain (cells_of h) cell) (nat_lt value (2
-    ^ 63)) (is_some s.called) may).0) is)
-own_held h c (Took other) s earlier lock may is before = by_place (other == lock)
-  where
-    by_place : (b : Bool) → (b || has_lock lock s.locks)
-        ≡ (unwrap_or
-        (option_or (cond b (Some (c + 1)) None)
-        (first_answer (λ e. made_of lock e.caller e.did) earlier)) 0 == c + 1)
-    by_place b = search (same_number, arith)
-own_held h c (Gave other) s earlier lock may is before = by_place (other == lock) refl
-  where
-    by_place : (b : Bool) → (other == lock) ≡ b → has_lock lock (without other s.locks)
-        ≡ (unwrap_or
-        (option_or (cond b (Some 0) None) (first_answer (λ e. made_of lock e.caller e.did) earlier))
-        0 == c + 1)
-    by_place b e = search (taken_out, zero_isnt, left_in, arith)
-own_held h c (Marked kind) s earlier lock may is before = mark_held h s kind lock may ∙ before
+own_held h c did s earlier lock may is before = search
+    (plain_isnt, three_true, is_some, same_number, taken_out, zero_isnt, left_in, mark_held, arith)
 
 -- another caller's event gives the lock to nobody else, and takes it from nobody else
 other_held : (cells : Cells) (c d : ℕ) (did : Did) (earlier : List Stamped) (lock : ℕ)
     → may_do cells earlier d did ≡ true
     → is_lock cells lock ≡ true → (d == c) ≡ false
     → (value_in earlier lock == c + 1) ≡ (value_with earlier lock d did == c + 1)
-other_held cells c d (Read cell value) earlier lock may is apart = refl
-other_held cells c d (Wrote cell value) earlier lock may is apart =
-    search (plain_isnt, first_true, arith)
-other_held cells c d (Took other) earlier lock may is apart = by_place (other == lock) refl
-  where
-    by_place : (b : Bool) → (other == lock) ≡ b → (value_in earlier lock == c + 1)
-        ≡ (unwrap_or
-        (option_or (cond b (Some (d + 1)) None)
-        (first_answer (λ e. made_of lock e.caller e.did) earlier)) 0 == c + 1)
-    by_place true e =
-        let free : (value_in earlier other == 0) ≡ true = second_true (is_lock cells other)
-        (value_in earlier other == 0) may in
-        free_isnt (value_in earlier lock) c
-        (rw (← same_of other lock e) free)
-        ∙ sym (other_isnt c d apart)
-    by_place false e = refl
-other_held cells c d (Gave other) earlier lock may is apart = by_place (other == lock) refl
-  where
-    by_place : (b : Bool) → (other == lock) ≡ b → (value_in earlier lock == c + 1)
-        ≡ (unwrap_or
-        (option_or (cond b (Some 0) None) (first_answer (λ e. made_of lock e.caller e.did) earlier))
-        0 == c + 1)
-    by_place b e = search (second_true, others_isnt, same_of, apart, zero_isnt, arith)
-other_held cells c d (Marked kind) earlier lock may is apart = refl
+other_held cells c d did earlier lock may is apart = search (
+  plain_isnt,
+  first_true,
+  second_true,
+  free_isnt,
+  same_of,
+  other_isnt,
+  others_isnt,
+  zero_isnt,
+  arith,
+)
 
 next_held : (h : Header) (c d : ℕ) (did : Did) (dids : List Did) (earlier : List Stamped) (lock : ℕ)
     (b : Bool) → (d == c) ≡ b
@@ -151,7 +120,6 @@ pub held_is : (h : Header) (c : ℕ) (earlier : List Stamped) (lock : ℕ)
     → is_lock (cells_of h) lock ≡ true → holds (situation_after (part_of c earlier)) lock
     ≡ (value_in earlier lock == c + 1)
 held_is h c [] lock legal keeps is = sym (zero_isnt c)
-held_is h c (e ∷ earlier) lock legal keeps is =
-    next_held h c e.caller e.did (part_of c earlier) earlier lock (e.caller == c) refl
-    (does (cells_of h) earlier e legal.0) keeps is
-    (held_is h c earlier lock legal.1 (keeps_before h c e earlier keeps) is)
+held_is h c (e ∷ earlier) lock legal keeps is = next_held h c e.caller e.did (part_of c _) earlier
+    lock (e.caller == c) refl (does (cells_of h) earlier e legal.0) keeps is
+    (held_is h c earlier lock legal.1 (keeps_before h c e _ keeps) is)

@@ -112,61 +112,51 @@ checks_kept : (h : Header) (c : ℕ) (kind : Kind) (s : Situation) (log : List E
     → OnlyRaced (first_broken (checks_of h log c kind))
 checks_kept h c (Call method args) s log may a =
     let parts = may_call h s method args may in
-    passed (not (same_subject (subject_of method) h.subject)) MethodOther _ (not_false _ parts.0)
+    passed (not (same_subject _ _)) MethodOther _ (not_false _ parts.0)
     (passed (not (are_args h.size method args)) ArgumentRange _ (not_false _ parts.1)
-    (passed (is_some (open_call c log)) CallInCall None (isnt_open c s log a parts.2.called)
-    none_broken))
+    (passed (is_some _) CallInCall None (isnt_open c s _ a parts.2.called) none_broken))
 checks_kept h c (Return reply) s log may a =
     let parts = may_return h s reply may in
-    let done : (is_observing c log || has_committed c log) ≡ true =
-    cc (watches c s log a, a.committed, parts.2) in
-    passed (is_none (open_call c log)) NoCall _ (is_open c s log a parts.0)
-    (passed (has_block c log) ReturnInBlock _ (a.in_block ∙ parts.1)
-    (passed (owes_commit c log && not (has_committed c log)) NoCommit None
-    (nothing_owed (open_call c log) refl (is_open c s log a parts.0) (not_false _ done))
-    none_broken))
+    let done : (is_observing c log || has_committed c log)
+    ≡ true = cc (watches c s log a, a.committed, parts.2) in
+    passed (is_none _) NoCall _ (is_open c s _ a parts.0)
+    (passed (has_block c _) ReturnInBlock _ (a.in_block ∙ parts.1)
+    (passed (owes_commit c _ && not _) NoCommit None
+    (nothing_owed (open_call c _) refl (is_open c s _ a parts.0) (not_false _ done)) none_broken))
   where
     nothing_owed : (o : Option Called) → open_call c log ≡ o → is_none (open_call c log) ≡ false
         → not (is_observing c log || has_committed c log) ≡ false
         → (owes_commit c log && not (has_committed c log)) ≡ false
     nothing_owed None e some done = let no : true ≡ false = ap is_none (sym e) ∙ some in cc
     nothing_owed (Some called) e some done =
-        cc (paid (commits_of called.method) (has_committed c log) (ap (λ o. not (option_map_or (λ k.
-        is_observer k.method) o false || has_committed c log)) (sym e) ∙ done))
+        cc (paid (commits_of called.method) (has_committed c log) (cc))
 checks_kept h c (Write word value) s log may a = cc
 checks_kept h c Commit s log may a =
-    let parts = four_true (is_some s.called) (not (observes s)) (not s.committed)
-    (not s.in_block) may in
-    passed (is_none (open_call c log)) NoCall _ (is_open c s log a parts.0)
-    (passed (is_observing c log) ObserverCommit _
-    (watches c s log a ∙ not-true (observes s) parts.1)
-    (passed (has_committed c log) SecondCommit _ (a.committed ∙ not-true s.committed parts.2)
+    let parts = four_true (is_some _) (not _) (not _) (not _) may in
+    passed (is_none _) NoCall _ (is_open c s _ a parts.0)
+    (passed (is_observing c _) ObserverCommit _ (watches c s _ a ∙ not-true _ parts.1)
+    (passed (has_committed c _) SecondCommit _ (a.committed ∙ not-true _ parts.2)
     (passed (h.version == 1 && has_block c log) CommitInBlock None
     (both_false (h.version == 1) (has_block c log) (a.in_block ∙ not-true s.in_block parts.3))
     none_broken)))
-checks_kept h c BlockOpen s log may a =
-    passed (is_none (open_call c log)) NoCall _
-    (is_open c s log a (first_true (is_some s.called) (not s.in_block) may))
-    (passed (has_block c log) BlockInBlock None
-    (a.in_block ∙ not-true s.in_block (second_true (is_some s.called) (not s.in_block) may))
+checks_kept h c BlockOpen s log may a = passed (is_none _) NoCall _
+    (is_open c s _ a (first_true _ (not _) may))
+    (passed (has_block c _) BlockInBlock None
+    (a.in_block ∙ not-true _ (second_true (is_some s.called) _ may)) none_broken)
+checks_kept h c BlockClose s log may a = passed (is_none _) NoCall _
+    (is_open c s _ a (first_true _ s.in_block may))
+    (passed (not _) NoBlock None (not_false _ (a.in_block ∙ second_true (is_some s.called) _ may))
     none_broken)
-checks_kept h c BlockClose s log may a =
-    passed (is_none (open_call c log)) NoCall _
-    (is_open c s log a (first_true (is_some s.called) s.in_block may))
-    (passed (not (has_block c log)) NoBlock None
-    (not_false _ (a.in_block ∙ second_true (is_some s.called) s.in_block may)) none_broken)
 checks_kept h c BlockCommit s log may a =
-    let parts = four_true (is_some s.called) s.in_block (not (observes s)) (not s.committed) may in
-    passed (is_none (open_call c log)) NoCall _ (is_open c s log a parts.0)
-    (passed (not (has_block c log)) NoBlock _ (not_false _ (a.in_block ∙ parts.1))
-    (passed (is_observing c log) ObserverCommit _
-    (watches c s log a ∙ not-true (observes s) parts.2)
+    let parts = four_true (is_some _) s.in_block (not _) (not _) may in
+    passed (is_none _) NoCall _ (is_open c s _ a parts.0)
+    (passed (not (has_block c _)) NoBlock _ (not_false _ (a.in_block ∙ parts.1))
+    (passed (is_observing c _) ObserverCommit _ (watches c s _ a ∙ not-true _ parts.2)
     (passed (has_committed c log) SecondCommit None (a.committed ∙ not-true s.committed parts.3)
     none_broken)))
 
 pub mark_kept : (h : Header) (c : ℕ) (kind : Kind) (s : Situation) (log : List Entry)
     → c < h.callers → may_mark h s kind ≡ true → Agrees c s log
     → OnlyRaced (broken_rule h log (entry c kind))
-mark_kept h c kind s log low may a =
-    passed (nat_le h.callers c) CallerRange (first_broken (checks_of h log c kind))
-    (isnt_at_most h.callers c low) (checks_kept h c kind s log may a)
+mark_kept h c kind s log low may a = passed (nat_le _ c) CallerRange
+    (first_broken (checks_of h _ c _)) (isnt_at_most _ c low) (checks_kept h c kind s _ may a)

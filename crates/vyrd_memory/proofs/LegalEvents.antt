@@ -30,14 +30,8 @@ legal_onto : (cells : Cells) (earlier xs : List Stamped) → AreLegal cells earl
     → list_all (is_legal_at cells) (places_after earlier xs) ≡ true
     → AreLegal cells (newest_first_onto earlier xs)
 legal_onto cells earlier [] legal e = legal
-legal_onto cells earlier (x ∷ xs) legal e =
-    legal_onto cells (x ∷ earlier) xs (
-      first_true (may_come cells earlier x)
-          (list_all (is_legal_at cells) (places_after (x ∷ earlier) xs)) e,
-      legal,
-    )
-    (second_true (may_come cells earlier x)
-    (list_all (is_legal_at cells) (places_after (x ∷ earlier) xs)) e)
+legal_onto cells earlier (x ∷ xs) legal e = legal_onto cells (x ∷ earlier) xs
+    (first_true _ _ e, legal) (second_true _ _ e)
 
 legal_before : (cells : Cells) (earlier xs : List Stamped)
     → AreLegal cells (newest_first_onto earlier xs) → AreLegal cells earlier
@@ -48,8 +42,7 @@ onto_legal : (cells : Cells) (earlier xs : List Stamped)
     → AreLegal cells (newest_first_onto earlier xs)
     → list_all (is_legal_at cells) (places_after earlier xs) ≡ true
 onto_legal cells earlier [] legal = refl
-onto_legal cells earlier (x ∷ xs) legal =
-    both_true (may_come cells earlier x)
+onto_legal cells earlier (x ∷ xs) legal = both_true _
     (list_all (is_legal_at cells) (places_after (x ∷ earlier) xs))
     (legal_before cells (x ∷ earlier) xs legal).0 (onto_legal cells (x ∷ earlier) xs legal)
 
@@ -84,35 +77,8 @@ next_small : (cells : Cells) (earlier : List Stamped) (cell caller : ℕ) (did :
     → may_do cells earlier caller did ≡ true
     → is_plain cells cell ≡ true
     → value_in earlier cell < 2 ^ 63 → value_with earlier cell caller did < 2 ^ 63
-next_small cells earlier cell caller (Read other value) may plain small = small
-next_small cells earlier cell caller (Wrote other value) may plain small = by_place (other == cell)
-  where
-    by_place : (b : Bool)
-        → unwrap_or (option_or (cond b (Some value) None)
-        (first_answer (λ e. made_of cell e.caller e.did) earlier)) 0 < 2 ^ 63
-    by_place b = search (second_true, small, arith)
-next_small cells earlier cell caller (Took other) may plain small = by_place (other == cell) refl
-  where
-    by_place : (b : Bool) → (other == cell) ≡ b
-        → unwrap_or (option_or (cond b (Some (caller + 1)) None)
-        (first_answer (λ e. made_of cell e.caller e.did) earlier)) 0 < 2 ^ 63
-    by_place true e =
-        grind (
-          arith,
-          not_both other cell e (plain_isnt cells cell other plain (first_true (is_lock
-              cells other) (value_in earlier other == 0) may)),
-        )
-      where
-        not_both : (a b : ℕ) → (a == b) ≡ true → (b == a) ≡ false → ⊥
-        not_both a b e f = grind (arith, nat_tests)
-    by_place false e = small
-next_small cells earlier cell caller (Gave other) may plain small = by_place (other == cell)
-  where
-    by_place : (b : Bool)
-        → unwrap_or (option_or (cond b (Some 0) None)
-        (first_answer (λ e. made_of cell e.caller e.did) earlier)) 0 < 2 ^ 63
-    by_place b = search (small, arith)
-next_small cells earlier cell caller (Marked kind) may plain small = small
+next_small cells earlier cell caller did may plain small = search
+    (second_true, plain_isnt, first_true, arith)
 
 pub plain_small : (cells : Cells) (earlier : List Stamped) (cell : ℕ) → AreLegal cells earlier
     → is_plain cells cell ≡ true
@@ -126,20 +92,7 @@ plain_small cells (e ∷ earlier) cell legal plain =
 answer_is : (cells : Cells) (earlier : List Stamped) (caller : ℕ) (did : Did)
     → AreLegal cells earlier → may_do cells earlier caller did ≡ true
     → IsAnswer (act_of_event did) (answer_of did)
-answer_is cells earlier caller (Read cell value) legal may =
-    let small : value_in earlier cell
-    < 2 ^ 63 = plain_small cells earlier cell legal
-    (first_true (is_plain cells cell) (value == value_in earlier cell) may) in
-    let same : (value == value_in earlier cell) ≡ true = second_true (is_plain cells cell)
-    (value == value_in earlier cell) may in
-    small_too value (value_in earlier cell) same small
-  where
-    small_too : (a b : ℕ) → (a == b) ≡ true → b < 2 ^ 63 → a < 2 ^ 63
-    small_too a b e small = grind (arith, nat_tests)
-answer_is cells earlier caller (Wrote cell value) legal may = refl
-answer_is cells earlier caller (Took lock) legal may = refl
-answer_is cells earlier caller (Gave lock) legal may = refl
-answer_is cells earlier caller (Marked kind) legal may = refl
+answer_is cells earlier caller did legal may = search (plain_small, first_true, second_true, arith)
 
 pub are_answers : (cells : Cells) (earlier : List Stamped) (c : ℕ) → AreLegal cells earlier
     → AreAnswers (part_of c earlier)

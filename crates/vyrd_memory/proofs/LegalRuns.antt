@@ -46,17 +46,8 @@ event_may : (h : Header) (c : ℕ) (earlier : List Stamped) (s : Situation) (act
     → ((lock : ℕ) → is_lock (cells_of h) lock ≡ true → holds s lock
     ≡ (value_in earlier lock == c + 1))
     → event_now earlier act ≡ Some did → may_do (cells_of h) earlier c did ≡ true
-event_may h c earlier s (Load cell) did may held e = search (both_true, same_number, arith)
-event_may h c earlier s (Store cell value) did may held e = search (first_true, is_some, arith)
-event_may h c earlier s (Take lock) did may held e = by_value (value_in earlier lock == 0) refl e
-  where
-    by_value : (b : Bool) → (value_in earlier lock == 0) ≡ b → cond b (Some (Took lock)) None
-        ≡ Some did → may_do (cells_of h) earlier c did ≡ true
-    by_value b free e = search (free, both_true, first_true, arith)
-event_may h c earlier s (Give lock) did may held e =
-    search (first_true, both_true, held, second_true, arith)
-event_may h c earlier s (Mark kind) did may held e = search (is_mark, arith)
-event_may h c earlier s Done did may held e = cc
+event_may h c earlier s act did may held e = search
+    (both_true, same_number, first_true, is_some, second_true, is_mark, arith)
 
 -- it is the event that the script wants
 event_plays : (earlier : List Stamped) (act : Act) (did : Did) → event_now earlier act ≡ Some did
@@ -67,8 +58,7 @@ next_may : (h : Header) (s : Situation) (script : Script) (earlier : List Stampe
     → IsSound h s script
     → event_now earlier (next_act script) ≡ Some did
     → may_act h s (next_act script) ≡ true
-next_may h s stop earlier did sound e = cc
-next_may h s (step act rest) earlier did sound e = sound.0
+next_may h s script earlier did sound e = search (step, arith)
 
 -- a caller without a script does nothing
 no_script : (scripts : List Script) (c : ℕ) → length scripts ≤ c → script_of scripts c ≡ stop

@@ -31,8 +31,7 @@ AreCallsOf h entries = AllByRecursion (λ e. is_call_of h e.kind ≡ true) entri
 
 mark_fits : (h : Header) (s : Situation) (kind : Kind) → may_mark h s kind ≡ true
     → is_call_of h kind ≡ true
-mark_fits h s (Call method args) may = first_true (same_subject (subject_of method) h.subject
-    && are_args h.size method args) (is_at_rest s) may
+mark_fits h s (Call method args) may = first_true _ (is_at_rest s) may
 mark_fits h s (Return reply) may = refl
 mark_fits h s (Write word value) may = refl
 mark_fits h s Commit may = refl

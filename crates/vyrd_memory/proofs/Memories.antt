@@ -76,24 +76,14 @@ represents h memory state e = record {
     free : list_all (λ lock. is_free (memory lock)) (numbers_from (plain_words h) (lock_words h))
         ≡ true
     free =
-        sym (ap (list_all is_free) (locks_are h memory) ∙ free_list memory (plain_words h)
-        (lock_words h))
-        ∙ second_true (is_sound h.subject h.size (words_in h memory))
-        (list_all is_free (drop (plain_words h) (words_in h memory))) both
+        search (locks_are, free_list, second_true, arith)
 
 -- a memory that is so represents the state
 pub represented : (h : Header) (memory : Memory) (state : Amounts) → Represents h memory state
     → state_in h memory ≡ Some state
 unfolding state_of_words
-represented h memory state s =
-    ap (λ b. then_some b (view_of_words h (words_in h memory)))
-    (both_true _ _ (right_length h memory) (both_true _ _ s.sound free)) ∙ ap Some s.shows
-  where
-    free : list_all is_free (drop (plain_words h) (words_in h memory)) ≡ true
-    free = ap (list_all is_free) (locks_are h memory) ∙ free_list memory (plain_words h)
-        (lock_words h)
-        ∙ pass_all (λ lock. is_free (memory lock)) (plain_words h) (lock_words h)
-        (λ lock from to. ap is_free (s.free lock from to))
+represented h memory state s = search
+    (both_true, right_length, locks_are, free_list, pass_all, arith)
 
 -- the state that a memory represents is a map
 pub is_amounts : (h : Header) (memory : Memory) (state : Amounts) → Represents h memory state

@@ -29,11 +29,8 @@ drop-from f k (suc p) n =
 pub all_pass : (test : ℕ → Bool) (k n : ℕ) → list_all test (numbers_from k n) ≡ true → (i : ℕ)
     → k ≤ i → i < k + n → test i ≡ true
 all_pass test k zero all i from to = absurd (omega (arith, from, to))
-all_pass test k (suc n) all i from to =
-    by_place (k == i) refl
-    (λ apart. all_pass test (k + 1) n
-    (second_true (test k) (list_all test (numbers_from (k + 1) n)) all) i
-    (omega arith) (omega arith))
+all_pass test k (suc n) all i from to = by_place (k == i) refl
+    (λ apart. all_pass test (k + 1) n (second_true (test k) _ all) i (omega arith) (omega arith))
   where
     by_place : (b : Bool) → (k == i) ≡ b → (k ≢ i → test i ≡ true) → test i ≡ true
     by_place b e later = search (first_true, arith)

@@ -41,13 +41,9 @@ done_still : (scripts : List Script) (callers : List ℕ) (earlier : List Stampe
     → list_all (is_still scripts earlier) callers ≡ true
 done_still scripts [] earlier e = refl
 done_still scripts (c ∷ callers) earlier e =
-    let done = first_true (is_done (act_of scripts c earlier))
-    (list_all (λ c. is_done (act_of scripts c earlier)) callers) e in
-    both_true (is_still scripts earlier c) (list_all (is_still scripts earlier) callers)
-    (ap (λ b. b || is_held_up earlier (act_of scripts c earlier)) done)
-    (done_still scripts callers earlier
-    (second_true (is_done (act_of scripts c earlier))
-    (list_all (λ c. is_done (act_of scripts c earlier)) callers) e))
+    let done = first_true (is_done (act_of _ c _)) (list_all (λ c. is_done _) callers) e in
+    both_true (is_still scripts earlier c) (list_all (is_still _ _) callers) (cc)
+    (done_still scripts callers earlier (second_true _ _ e))
 
 -- a round changes nothing
 abbrev AtRest : List Script → List Stamped → Type 0
@@ -78,9 +74,8 @@ later_same : (scripts : List Script) (turns : List Turn) (m n : ℕ) → m ≤ n
     → run_for scripts turns n ≡ run_for scripts turns m
 later_same scripts turns m n low rest =
     let e : n ≡ m + (n - m) = omega (arith, low) in
-    ap (run_for scripts turns) e ∙ more_rounds scripts m (n - m)
-    (after_turns scripts (turns_of turns) [])
-    ∙ rounds_at_rest scripts (n - m) (run_for scripts turns m) rest
+    ap (run_for scripts turns) e ∙ more_rounds scripts m _ (after_turns scripts (turns_of turns) [])
+    ∙ rounds_at_rest scripts (n - m) _ rest
 
 -- two runs that are at rest are the same
 same_rest : (scripts : List Script) (turns : List Turn) (m n : ℕ)
@@ -120,12 +115,11 @@ pub ended_isnt_stuck : (scripts : List Script) (turns : List Turn) (history : Li
     → GetsStuck scripts turns → ⊥
 ended_isnt_stuck scripts turns history to stuck =
     let same = same_rest scripts turns to.rounds stuck.rounds (ended_rests scripts turns history to)
-    (stuck_rests scripts (run_for scripts turns stuck.rounds) stuck.stuck) in
-    let done : are_done scripts (run_for scripts turns stuck.rounds) ≡ true = ap (are_done scripts)
+    (stuck_rests scripts _ stuck.stuck) in
+    let done : are_done scripts (run_for scripts turns stuck.rounds) ≡ true = ap (are_done _)
     (sym same ∙ sym to.history_is) ∙ to.done in
     not_both (are_done scripts (run_for scripts turns stuck.rounds)) done
-    (first_true (not (are_done scripts (run_for scripts turns stuck.rounds)))
-    (list_all (is_still scripts (run_for scripts turns stuck.rounds))
+    (first_true _ (list_all (is_still scripts (run_for scripts turns stuck.rounds))
     (numbers_below (length scripts))) stuck.stuck)
   where
     not_both : (b : Bool) → b ≡ true → not b ≡ true → ⊥

@@ -15,8 +15,8 @@ pub given-changed : (f g : ℕ → List (ℕ × ℕ)) (q k n i : ℕ) → k ≤ 
     → given q (flat_map g (numbers_from k n)) + given q (f i)
     ≡ given q (flat_map f (numbers_from k n)) + given q (g i)
 given-changed f g q k zero i from to same = absurd (omega (arith, from, to))
-given-changed f g q k (suc n) i from to same =
-    by_place (k == i) refl (λ apart. given-changed f g q (k + 1) n i (omega arith) (omega arith)
+given-changed f g q k (suc n) i from to same = by_place (k == i) refl
+    (λ apart. given-changed f g q (k + 1) n i (omega arith) (omega arith)
     (λ j low high. same j (omega arith) (omega arith)))
   where
     by_place : (b : Bool) → (k == i) ≡ b
@@ -24,28 +24,8 @@ given-changed f g q k (suc n) i from to same =
         ≡ given q (flat_map f (numbers_from (k + 1) n)) + given q (g i))
         → given q (flat_map g (numbers_from k (suc n))) + given q (f i)
         ≡ given q (flat_map f (numbers_from k (suc n))) + given q (g i)
-    by_place true e later =
-        let here : i ≡ k = grind (arith, nat_tests) in
-        let rest : flat_map f (numbers_from (k + 1) n) ≡ flat_map g (numbers_from (k + 1) n) =
-        flat_map_alike f g (k + 1) n
-        (λ j low high. same j (omega arith) (omega arith) (omega arith)) in
-        omega (
-          arith,
-          ap (λ j. given q (f j)) here,
-          ap (λ j. given q (g j)) here,
-          ap (given q) rest,
-          given-append q (f k) (flat_map f (numbers_from (k + 1) n)),
-          given-append q (g k) (flat_map g (numbers_from (k + 1) n)),
-        )
-    by_place false e later =
-        let apart : k ≢ i = grind (arith, nat_tests) in
-        omega (
-          arith,
-          ap (given q) (same k (omega arith) (omega arith) apart),
-          given-append q (f k) (flat_map f (numbers_from (k + 1) n)),
-          given-append q (g k) (flat_map g (numbers_from (k + 1) n)),
-          later apart,
-        )
+    by_place true e later = search (flat_map_alike, given, given-append, arith)
+    by_place false e later = search (given, given-append, arith)
 
 -- the amounts of parts are those of a list of amounts where each key is given as much
 pub collected-is : (parts : List (ℕ × ℕ)) (s : Amounts) → IsAmounts s

@@ -44,43 +44,16 @@ plain_within p l cell e = grind (arith, nat_tests)
 may_within : (h : Header) (s : Situation) (act : Act) → may_act h s act ≡ true
     → within_test (plain_words h + lock_words h) act ≡ true
 unfolding within_test
-may_within h s (Load cell) may = plain_within (plain_words h) (lock_words h) cell may
-may_within h s (Store cell value) may =
-    let both : (nat_lt cell (plain_words h) && nat_lt value (2 ^ 63))
-    ≡ true = first_true (is_plain (cells_of h) cell && nat_lt value (2 ^ 63))
-    (is_some s.called) may in
-    let low : nat_lt cell (plain_words h) ≡ true = first_true (nat_lt cell (plain_words h))
-    (nat_lt value (2 ^ 63)) both in
-    ap (λ b. b && nat_lt value (2 ^ 63)) (plain_within (plain_words h) (lock_words h) cell low)
-    ∙ second_true (nat_lt cell (plain_words h)) (nat_lt value (2 ^ 63)) both
-may_within h s (Take lock) may =
-    second_true (nat_le (plain_words h) lock) (nat_lt lock (plain_words h + lock_words h))
-    (first_true (is_lock (cells_of h) lock) (not (holds s lock)) may)
-may_within h s (Give lock) may =
-    second_true (nat_le (plain_words h) lock) (nat_lt lock (plain_words h + lock_words h))
-    (first_true (is_lock (cells_of h) lock) (holds s lock) may)
-may_within h s (Mark kind) may = refl
-may_within h s Done may = refl
+may_within h s act may = search (plain_within, first_true, is_some, second_true, arith)
 
 tested : (n : ℕ) (act : Act) → within_test n act ≡ true → IsWithin n act
 unfolding within_test
-tested n (Load cell) e = grind (arith, nat_tests)
-tested n (Store cell value) e =
-    let a : nat_lt cell n ≡ true = first_true (nat_lt cell n) (nat_lt value (2 ^ 63)) e in
-    let b : nat_lt value (2 ^ 63) ≡ true = second_true (nat_lt cell n) (nat_lt value (2 ^ 63)) e in
-    let low : cell < n = grind (arith, nat_tests) in
-    let small : value < 2 ^ 63 = grind (arith, nat_tests) in
-    (low, small)
-tested n (Take lock) e = grind (arith, nat_tests)
-tested n (Give lock) e = grind (arith, nat_tests)
-tested n (Mark kind) e = tt
-tested n Done e = tt
+tested n act e = search (first_true, second_true, arith)
 
 sound_within : (h : Header) (script : Script) → (s : Situation) × IsSound h s script
     → within_test (plain_words h + lock_words h) (next_act script) ≡ true
 unfolding within_test
-sound_within h stop sound = refl
-sound_within h (step act rest) sound = may_within h sound.0 act sound.1.0
+sound_within h script sound = search (step, may_within, arith)
 
 -- what a sound script does next keeps to its memory
 pub within : (h : Header) (script : Script) (n : ℕ) → n ≡ plain_words h + lock_words h
@@ -100,10 +73,7 @@ same_event h earlier act is = grind (arith, element_below)
 set_from : (f g : ℕ → ℕ) (k n i v : ℕ) → i < n → g (k + i) ≡ v → ((j : ℕ) → j ≢ k + i → f j ≡ g j)
     → set (map f (numbers_from k n)) i v ≡ map g (numbers_from k n)
 set_from f g k zero i v low is same = absurd (omega (arith, low))
-set_from f g k (suc n) zero v low is same =
-    let here : k + 0 ≡ k = omega arith in
-    ap (λ x. x ∷ map f (numbers_from (k + 1) n)) (sym is ∙ ap g here)
-    ∙ ap (λ xs. g k ∷ xs) (map_alike_from f g (k + 1) n (λ j from to. same j (omega arith)))
+set_from f g k (suc n) zero v low is same = search (map_alike_from, arith)
 set_from f g k (suc n) (suc i) v low is same =
     let there : k + 1 + i ≡ k + suc i = omega arith in
     ap (λ x. x ∷ set (map f (numbers_from (k + 1) n)) i v) (same k (omega arith))
@@ -123,19 +93,7 @@ changed_memory : (h : Header) (e : Stamped) (earlier : List Stamped) (cell value
     → cell < plain_words h + lock_words h
     → ((n : ℕ) → made_of n e.caller e.did ≡ cond (cell == n) (Some value) None)
     → set (memory_after h earlier) cell value ≡ memory_after h (e ∷ earlier)
-changed_memory h e earlier cell value low made =
-    let here : 0 + cell ≡ cell = omega arith in
-    set_from (value_in earlier) (value_in (e ∷ earlier)) 0 (plain_words h + lock_words h) cell value
-    low
-    (ap (λ o. unwrap_or
-    (option_or o (first_answer (λ e. made_of (0 + cell) e.caller e.did) earlier)) 0)
-    (made (0 + cell))
-    ∙ made_here (0 + cell) cell value
-    (first_answer (λ e. made_of (0 + cell) e.caller e.did) earlier) here)
-    (λ j apart. made_there j cell value (first_answer (λ e. made_of j e.caller e.did) earlier)
-    (λ e. apart (e ∙ sym here))
-    ∙ ap (λ o. unwrap_or (option_or o (first_answer (λ e. made_of j e.caller e.did) earlier)) 0)
-    (sym (made j)))
+changed_memory h e earlier cell value low made = search (set_from, made_here, made_there, arith)
 
 -- what an event has to keep to: that of an act that keeps to the memory
 WithinMemory : ℕ → Did → Type 0
@@ -148,36 +106,14 @@ WithinMemory n (Marked kind) = Unit {0}
 event_within : (n : ℕ) (words : List ℕ) (act : Act) (did : Did) → IsWithin n act
     → event_in words act ≡ Some did → WithinMemory n did
 unfolding WithinMemory
-event_within n words (Load cell) did is e = subst (WithinMemory n)
-    (same_Some (Read cell (slice_index words cell)) did e) is
-event_within n words (Store cell value) did is e = subst (WithinMemory n)
-    (same_Some (Wrote cell value) did e) is
-event_within n words (Take lock) did is e = by_value (slice_index words lock == 0) e
-  where
-    by_value : (b : Bool) → cond b (Some (Took lock)) None ≡ Some did → WithinMemory n did
-    by_value true e = subst (WithinMemory n) (same_Some (Took lock) did e) is
-    by_value false e = cc
-event_within n words (Give lock) did is e = subst (WithinMemory n) (same_Some (Gave lock) did e) is
-event_within n words (Mark kind) did is e = subst (WithinMemory n) (same_Some (Marked kind) did e)
-    tt
-event_within n words Done did is e = cc
+event_within n words act did is e = search arith
 
 next_memory : (h : Header) (earlier : List Stamped) (number c : ℕ) (did : Did)
     → WithinMemory (plain_words h + lock_words h) did
     → words_with (memory_after h earlier) c did ≡ memory_after h
     (record { number = number; caller = c; did = did } ∷ earlier)
 unfolding WithinMemory
-next_memory h earlier number c (Read cell value) is = refl
-next_memory h earlier number c (Wrote cell value) is =
-    changed_memory h (record { number = number; caller = c; did = Wrote cell value }) earlier cell
-    value is.0 (λ n. refl)
-next_memory h earlier number c (Took lock) is =
-    changed_memory h (record { number = number; caller = c; did = Took lock }) earlier lock
-    (c + 1) is (λ n. refl)
-next_memory h earlier number c (Gave lock) is =
-    changed_memory h (record { number = number; caller = c; did = Gave lock }) earlier lock 0 is
-    (λ n. refl)
-next_memory h earlier number c (Marked kind) is = refl
+next_memory h earlier number c did is = search (changed_memory, arith)
 
 small_set : (words : List ℕ) (i v : ℕ) → i < length words → v < 2 ^ 63
     → ((cell : ℕ) → slice_index words cell < 2 ^ 63) → (cell : ℕ)
@@ -193,11 +129,7 @@ next_small : (words : List ℕ) (c : ℕ) (did : Did) → c < 2 ^ 32 → WithinM
     → ((cell : ℕ) → slice_index words cell < 2 ^ 63)
     → (cell : ℕ) → slice_index (words_with words c did) cell < 2 ^ 63
 unfolding WithinMemory
-next_small words c (Read cell value) low is all = all
-next_small words c (Wrote cell value) low is all = small_set words cell value is.0 is.1 all
-next_small words c (Took lock) low is all = small_set words lock (c + 1) is (omega (arith, low)) all
-next_small words c (Gave lock) low is all = small_set words lock 0 is (omega arith) all
-next_small words c (Marked kind) low is all = all
+next_small words c did low is all cell = search (small_set, arith)
 
 next_length : (words : List ℕ) (c : ℕ) (did : Did) → length (words_with words c did) ≡ length words
 next_length words c did = grind (arith, length-set)
@@ -240,9 +172,8 @@ turn_within : {M : Type 0} (h : Header) (header_of : M → Header) (script : M
     → Script) (machines : List M) (c : ℕ) (m n : M) (words : List ℕ) (did : Did)
     → IsTurn h header_of script machines c m n words did → IsWithin (plain_words h + lock_words h)
     (next_act (script m))
-turn_within h header_of script machines c m n words did t =
-    within h (script m) (plain_words h + lock_words h) refl
-    (subst (λ h. IsSoundSomewhere h (script m)) (t.ready.made c m t.here) t.sound)
+turn_within h header_of script machines c m n words did t = within h (script m)
+    (plain_words h + lock_words h) refl (rw (← t.ready.made c m t.here) t.sound)
 
 turn_did_within : {M : Type 0} (h : Header) (header_of : M → Header) (script : M
     → Script) (machines : List M) (c : ℕ) (m n : M) (words : List ℕ) (did : Did)
@@ -286,17 +217,20 @@ pub next_playing : {M : Type 0} (h : Header) (header_of : M → Header) (script 
     → IsPlaying h script scripts machines words history
     → IsPlaying h script scripts (set machines c n) (words_with words c did)
     (history ++ record { number = number; caller = c; did = did } ∷ [])
-next_playing h header_of script machines c number m n words did history t scripts playing = record {
-  count = length-set machines c n ∙ playing.count;
-  left =
-      λ i x is. ap_left i (newest_first-push history event)
-      (by_place i x (i == c) refl
-      (sym (slice_get-set machines c i n (slice_get_within machines c m t.here)) ∙ is));
-  words_are = ap (λ words. words_with words c did) playing.words_are
-      ∙ next_memory h (newest_first history) number c did
-      (turn_did_within h header_of script machines c m n words did t)
-      ∙ ap (memory_after h) (sym (newest_first-push history event));
-}
+next_playing h header_of script machines c number m n words did history t scripts playing =
+    record {
+      count = length-set machines c n ∙ playing.count;
+      left = λ i x is. ap_left i
+          (newest_first-push history event)
+          (by_place i x (i == c) refl
+          (sym (slice_get-set machines c i n (slice_get_within machines c m t.here)) ∙ is));
+      words_are = cc (
+        playing.words_are,
+        next_memory h (newest_first history) number c did
+            (turn_did_within h header_of script machines c m n words did t),
+        newest_first-push history event,
+      );
+    }
   where
     event : Stamped
     event = record { number = number; caller = c; did = did }
@@ -304,23 +238,13 @@ next_playing h header_of script machines c number m n words did history t script
     ap_left : (i : ℕ) {s : Script} {later : List Stamped} → later ≡ event ∷ newest_first history
         → s ≡ left_after (script_of scripts i) (part_of i (event ∷ newest_first history))
         → s ≡ left_after (script_of scripts i) (part_of i later)
-    ap_left i e is = is ∙ ap (λ later. left_after (script_of scripts i) (part_of i later)) (sym e)
+    ap_left i e is = cc
 
     by_place : (i : ℕ) (x : _) (b : Bool) → (i == c) ≡ b → cond b (Some n) (slice_get machines i)
         ≡ Some x
         → script x ≡ left_after (script_of scripts i) (part_of i (event ∷ newest_first history))
-    by_place i x true e is =
-        let same : i ≡ c = grind (arith, nat_tests) in
-        ap script (sym (same_Some n x is)) ∙ t.script_is ∙ ap (λ s. after_answer s (answer_of did))
-        (playing.left c m t.here)
-        ∙ ap (λ part. left_after (script_of scripts c) part)
-        (sym (part_here c number did (newest_first history)))
-        ∙ ap (λ i. left_after (script_of scripts i) (part_of i (event ∷ newest_first history)))
-        (sym same)
-    by_place i x false e is =
-        let apart : (c == i) ≡ false = grind (arith, nat_tests) in
-        playing.left i x is ∙ ap (left_after (script_of scripts i))
-        (sym (part_there i c number did (newest_first history) apart))
+    by_place i x true e is = search (part_here, part_of, arith)
+    by_place i x false e is = search (part_there, arith)
 
 -- the act of a machine is that of its caller
 pub act_is : {M : Type 0} (h : Header) (script : M
@@ -350,12 +274,11 @@ pub turn_is : {M : Type 0} (h : Header) (header_of : M → Header) (script : M
     → newest_first (history ++ record { number = length history; caller = c; did = did } ∷ [])
     ≡ after_turn scripts c (newest_first history)
 turn_is h header_of script machines c m n words did history t scripts playing =
-    newest_first-push history (record { number = length history; caller = c; did = did })
+    newest_first-push history _
     ∙ ap (λ k. record { number = k; caller = c; did = did } ∷ newest_first history)
-    (sym (length-newest_first history))
-    ∙ ap (with_event c (newest_first history))
+    (sym (length-newest_first history)) ∙ ap (with_event c (newest_first history))
     (sym (event_is h script scripts machines words history c m playing t.here
-    (turn_within h header_of script machines c m n words did t) ∙ t.event))
+    (turn_within h _ _ _ c m n _ _ t) ∙ t.event))
 
 -- a turn without an event is too
 pub no_turn_is : {M : Type 0} (h : Header) (header_of : M → Header) (script : M
@@ -377,10 +300,8 @@ pub machine_within : {M : Type 0} (h : Header) (header_of : M → Header) (scrip
     → IsReady h header_of machines words → slice_get machines c ≡ Some m
     → IsSoundSomewhere (header_of m) (script m) → act ≡ next_act (script m)
     → IsWithin (length words) act
-machine_within h header_of script machines c m words act ready here sound is =
-    subst (IsWithin (length words)) (sym is)
-    (within h (script m) (length words) ready.room
-    (subst (λ h. IsSoundSomewhere h (script m)) (ready.made c m here) sound))
+machine_within h header_of script machines c m words act ready here sound is = subst (IsWithin _)
+    (sym is) (within h (script m) (length _) ready.room (rw (← ready.made c m here) sound))
 
 -- the turn that has been played
 pub turn_played : {M : Type 0} (h : Header) (header_of : M → Header) (script : M
@@ -391,20 +312,17 @@ pub turn_played : {M : Type 0} (h : Header) (header_of : M → Header) (script :
     → HasPlayed h header_of script (c ∷ []) (scene machines words history)
     (scene (set machines c n) later_words later_history)
 turn_played h header_of script machines c m n words later_words did history later_history t
-    words_are history_is = record {
-      ready = subst (IsReady h header_of (set machines c n)) (sym words_are)
-          (next_ready h header_of script machines c m n words did t);
-      count = length-set machines c n;
+    words_are history_is =
+    record {
+      ready = subst (IsReady h _ _) (sym words_are) (next_ready h _ _ _ c m n _ _ t);
+      count = length-set _ c n;
       plays = λ scripts playing. subst
           (λ words. IsPlaying h script scripts (set machines c n) words later_history)
           (sym words_are)
-          (subst (IsPlaying h script scripts (set machines c n) (words_with words c did))
-          (sym history_is)
-          (next_playing h header_of script machines c (length history) m n words did history t
-          scripts
-          playing));
+          (subst (IsPlaying h _ scripts _ _) (sym history_is)
+          (next_playing h _ _ _ c _ m n _ _ _ t _ playing));
       history = λ scripts playing. ap newest_first history_is
-          ∙ turn_is h header_of script machines c m n words did history t scripts playing;
+          ∙ turn_is h _ _ _ c m n _ _ history t scripts playing;
     }
 
 -- a turn without an event has been played too
@@ -417,6 +335,5 @@ pub no_turn_played : {M : Type 0} (h : Header) (header_of : M → Header) (scrip
     → later_words ≡ words
     → HasPlayed h header_of script (c ∷ []) (scene machines words history)
     (scene machines later_words history)
-no_turn_played h header_of script machines c m words later_words history ready here sound none
-    words_are =
-    grind (arith, no_turn_is h header_of script machines c m words history ready here sound none)
+no_turn_played h header_of script machines c m words later_words history e9 e10 e11 e12 e13 = search
+    (no_turn_is, arith)

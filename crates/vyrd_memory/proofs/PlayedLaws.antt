@@ -25,15 +25,8 @@ pub played_more : {M : Type 0} (h : Header) (header_of : M → Header) (script :
     (xs ys zs : List ℕ) (a b c : Scene M)
     → HasPlayed h header_of script xs a b → HasPlayed h header_of script ys b c → zs ≡ xs ++ ys
     → HasPlayed h header_of script zs a c
-played_more h header_of script xs ys zs a b c first second e = record {
-  ready = second.ready;
-  count = second.count ∙ first.count;
-  plays = λ scripts is. second.plays scripts (first.plays scripts is);
-  history = λ scripts is. second.history scripts (first.plays scripts is)
-      ∙ ap (after_turns scripts ys) (first.history scripts is)
-      ∙ sym (after_turns-append scripts xs ys (newest_first a.history))
-      ∙ ap (λ zs. after_turns scripts zs (newest_first a.history)) (sym e);
-}
+played_more h header_of script xs ys zs a b c first second e = search
+    (after_turns, after_turns-append, arith)
 
 pub one_more : {A : Type 0} (n : ℕ) (x : A) → replicate (n + 1) x ≡ replicate n x ++ x ∷ []
 one_more zero x = refl
@@ -104,19 +97,15 @@ unmoved : (scripts : List Script) (callers : List ℕ) (earlier : List Stamped)
     → length (after_turns scripts callers earlier) ≡ length earlier
     → after_turns scripts callers earlier ≡ earlier
 unmoved scripts [] earlier same = refl
-unmoved scripts (c ∷ callers) earlier same = by_event (event_now earlier (act_of scripts c earlier))
-    refl (unmoved scripts callers earlier)
+unmoved scripts (c ∷ callers) earlier same = by_event (event_now earlier (act_of _ c _)) refl
+    (unmoved scripts callers earlier)
   where
     by_event : (o : Option Did) → event_now earlier (act_of scripts c earlier) ≡ o
         → (length (after_turns scripts callers earlier) ≡ length earlier
         → after_turns scripts callers earlier ≡ earlier)
         → after_turns scripts (c ∷ callers) earlier ≡ earlier
-    by_event None e others =
-        let here : after_turn scripts c earlier ≡ earlier = ap (with_event c earlier) e in
-        ap (after_turns scripts callers) here
-        ∙ others (cc)
-    by_event (Some did) e others =
-        grind (arith, turns_grow scripts callers (after_turn scripts c earlier))
+    by_event None e others = grind arith
+    by_event (Some did) e others = search (turns_grow, arith)
 
 -- a round without an event is the last
 pub come_to_rest : {M : Type 0} (h : Header) (header_of : M → Header) (script : M → Script)

@@ -51,8 +51,7 @@ only_before h earlier [] only = only
 only_before h earlier (x ∷ xs) only = (only_before h (x ∷ earlier) xs only).1
 
 or_only : (a b : Option Rule) → OnlyRaced a → OnlyRaced b → OnlyRaced (option_or a b)
-or_only None b first later = later
-or_only (Some rule) b first later = first
+or_only a b first later = search arith
 
 break_only : (h : Header) (earlier xs : List Entry) → AreOnlyRaced h (newest_first_onto earlier xs)
     → OnlyRaced (break_after h earlier xs)
@@ -110,8 +109,7 @@ none_open h earlier keep rest = none_any (λ c. is_some (open_call c (filter_map
     0 h.callers (λ c from to.
     let low : c < h.callers = omega arith in
     isnt_open c (situation_after (part_of c earlier)) (filter_map log_entry earlier)
-    (agrees h c earlier (keep c low))
-    (ap (λ s. is_none s.called) (rest c low)))
+    (agrees h c earlier (keep c low)) (cc (rest c low)))
 
 -- a fault is no broken rule
 fault_isnt : (h : Header) (states : List State) (ps : List (Place Entry)) (line : ℕ) (rule : Rule)
@@ -130,8 +128,7 @@ fault_isnt h states (place ∷ ps) line rule e = by_fault (fault_at (rules_of h)
 first_fault_isnt : (h : Header) (entries : List Entry) (line : ℕ) (rule : Rule)
     → first_fault (rules_of h) [] entries ≡ Some (Malformed line rule) → ⊥
 unfolding first_fault
-first_fault_isnt h entries line rule e = fault_isnt h (states_along (rules_of h) [] entries)
-    (places entries) line rule e
+first_fault_isnt h entries line rule e = search (fault_isnt, arith)
 
 -- a verdict that names a rule names a broken one
 named : (fault : Option Verdict) (broken : Option Rule) (open_ : Bool) (at end : ℕ) (good : Verdict)
@@ -157,26 +154,16 @@ parts : (h : Header) (entries : List Entry) → verdict (rules_of h) [] entries 
     (then_some (is_call_open h (newest_first entries))
     (Malformed (line_of [] (length entries)) CallOpen))) (accepted entries)
 unfolding verdict
-parts h entries =
-    ap (λ o. unwrap_or (option_or o (end_verdict (rules_of h) [] entries)) (accepted entries))
-    (verdict_so_far-none h entries)
-    ∙ ap (λ o. unwrap_or
-    (option_or (option_or (first_fault (rules_of h) [] (front h entries))
-    (shape_verdict h [] entries)) o) (accepted entries))
-    (end_verdict-none h entries)
+parts h entries = search (verdict_so_far-none, front, end_verdict-none, arith)
 
 named_is_broken : (h : Header) (entries : List Entry) (line : ℕ) (rule : Rule)
     → is_call_open h (newest_first entries) ≡ false
     → verdict (rules_of h) [] entries ≡ Malformed line rule
     → first_break h entries ≡ Some rule
 unfolding verdict shape_verdict
-named_is_broken h entries line rule closed e =
-    named (first_fault (rules_of h) [] (front h entries)) (first_break h entries)
-    (is_call_open h (newest_first entries))
-    (line_of [] (length (front h entries))) (line_of [] (length entries))
-    (accepted entries) line rule (first_fault_isnt h (front h entries) line rule) closed
-    (accepted_isnt entries line rule)
-    (sym (parts h entries) ∙ e)
+named_is_broken h entries line rule closed e = named (first_fault _ [] _) _ (is_call_open h _)
+    (line_of [] _) (line_of [] _) (accepted _) line _ (first_fault_isnt h _ _ _) closed
+    (accepted_isnt _ _ _) (sym (parts h _) ∙ e)
 
 -- in a legal history sound scripts that are played keep to what may be done, and at their end the
 -- caller is at rest
@@ -184,8 +171,7 @@ pub all_keep : (h : Header) (scripts : List Script) (history : List Stamped)
     → AreSoundScripts h scripts
     → AreLegal (cells_of h) (newest_first history)
     → PlayToTheEnd scripts history → AllKeep h (newest_first history)
-all_keep h scripts history sound legal played =
-    grind (arith, played, part_of, sound_keeps, are_answers)
+all_keep h scripts history sound legal played = search (part_of, sound_keeps, are_answers, arith)
 
 pub all_rest : (h : Header) (scripts : List Script) (history : List Stamped)
     → AreSoundScripts h scripts → AreLegal (cells_of h) (newest_first history)

@@ -31,9 +31,8 @@ rounds_are : (scripts : List Script) (rounds : ℕ) (earlier : List Stamped)
     → after_turns scripts (rounds_over (length scripts) rounds) earlier
     ≡ after_rounds scripts rounds earlier
 rounds_are scripts zero earlier = refl
-rounds_are scripts (suc rounds) earlier =
-    after_turns-append scripts (numbers_below (length scripts))
-    (rounds_over (length scripts) rounds) earlier
+rounds_are scripts (suc rounds) earlier = after_turns-append scripts
+    (numbers_below (length scripts)) (rounds_over (length _) rounds) earlier
     ∙ rounds_are scripts rounds (after_turns scripts (numbers_below (length scripts)) earlier)
 
 -- one test of machines, and one of their numbers
@@ -60,12 +59,7 @@ done_is h script = search (all_by_number, act_is, arith)
 no_event : (scripts : List Script) (c : ℕ) (callers : List ℕ) (earlier : List Stamped)
     → after_turns scripts (c ∷ callers) earlier ≡ earlier
     → event_now earlier (act_of scripts c earlier) ≡ None
-no_event scripts c callers earlier same = by_event (event_now earlier (act_of scripts c earlier))
-    refl
-  where
-    by_event : (o : Option Did) → event_now earlier (act_of scripts c earlier) ≡ o → o ≡ None
-    by_event None e = refl
-    by_event (Some did) e = grind (arith, turns_grow scripts callers (after_turn scripts c earlier))
+no_event scripts c callers earlier same = search (turns_grow, arith)
 
 -- an act without an event is none, or is held up
 held_up : (earlier : List Stamped) (act : Act) → event_now earlier act ≡ None
@@ -78,14 +72,10 @@ all_held_up : (scripts : List Script) (earlier : List Stamped) (k n : ℕ)
     (act_of scripts c earlier)) (numbers_from k n) ≡ true
 all_held_up scripts earlier k zero same = refl
 all_held_up scripts earlier k (suc n) same =
-    let none = no_event scripts k (numbers_from (k + 1) n) earlier same in
-    both_true (is_done (act_of scripts k earlier) || is_held_up earlier (act_of scripts k earlier))
-    (list_all (λ c. is_done (act_of scripts c earlier) || is_held_up earlier
-    (act_of scripts c earlier)) (numbers_from (k + 1) n))
-    (held_up earlier (act_of scripts k earlier) none)
-    (all_held_up scripts earlier (k + 1) n
-    (sym (ap (λ o. after_turns scripts (numbers_from (k + 1) n) (with_event k earlier o)) none)
-    ∙ same))
+    let none = no_event scripts k (numbers_from _ n) earlier same in
+    both_true (is_done (act_of _ k _) || is_held_up earlier (act_of _ k _))
+    (list_all (λ c. is_done (act_of _ c _) || is_held_up earlier (act_of _ c _)) (numbers_from _ n))
+    (held_up earlier (act_of _ k _) none) (all_held_up scripts earlier (k + 1) n (sym (cc) ∙ same))
 
 -- what holds of each element holds of the one at a place
 all_at : {A : Type 0} (P : A → Type 0) (xs : List A) → All P xs → (i : ℕ) (x : A) → slice_get xs i
@@ -162,10 +152,9 @@ gets_stuck : {M : Type 0} (h : Header) (header_of : M → Header) (script : M �
     → GetsStuck (map script a.machines) turns
 gets_stuck h header_of script turns a b c start none first rest undone =
     let scripts = map script a.machines in
-    let end = rest.played.plays scripts (first.plays scripts start) in
+    let end = rest.played.plays scripts (first.plays _ start) in
     let still = ap (λ n. after_turns scripts (numbers_below n) (newest_first c.history))
-    (sym (first.count ∙ start.count))
-    ∙ rest.still scripts (first.plays scripts start) in
+    (sym (first.count ∙ start.count)) ∙ rest.still scripts (first.plays _ start) in
     record {
       rounds = rest.rounds;
       stuck = ap (are_stuck scripts)
@@ -189,11 +178,10 @@ pub stuck_there : {M : Type 0} (h : Header) (header_of : M → Header) (script :
 unfolding gets_stuck
 stuck_there h header_of script turns a b c start none first rest undone =
     let scripts = map script a.machines in
-    let end = rest.played.plays scripts (first.plays scripts start) in
-    let stuck = gets_stuck h header_of script turns a b c start none first rest undone in
+    let end = rest.played.plays scripts (first.plays _ start) in
+    let stuck = gets_stuck h header_of _ _ a b c start none first rest undone in
     record {
       stuck = stuck;
-      left = λ i m is. end.left i m is
-          ∙ ap (λ earlier. left_after (script_of scripts i) (part_of i earlier))
-          (history_is h header_of script turns a b c start none first rest);
+      left = λ i m is. cc
+          (end.left i m is, history_is h header_of script turns a b c start none first rest);
     }

@@ -68,11 +68,9 @@ rest_shown h header_of script has_taken count counted a b c rounds first second 
     record {
       later = now.later;
       taken = now.taken;
-      rest = come_to_rest h header_of script (scene a.machines a.words history)
-          (scene b.machines b.words before.later)
-          (scene c.machines c.words now.later) rounds before.played now.played
-          (sym (counted c.sink now.later now.taken) ∙ same
-          ∙ counted b.sink before.later before.taken);
+      rest = come_to_rest h _ _ _
+          (scene _ _ _) _ rounds before.played now.played (sym (counted _ _ now.taken) ∙ same
+          ∙ counted _ _ before.taken);
     }
 
 -- what several machines have ahead
@@ -95,9 +93,8 @@ pub has_run : {M S : Type 0} (h : Header) (header_of : M → Header) (script : M
 has_run h header_of script has_taken turns a b c start none first rest done =
     let before = first.shown [] none in
     let now = rest before.later before.taken in
-    let run = runs_to h header_of script turns (scene a.machines a.words [])
-    (scene b.machines b.words before.later)
-    (scene c.machines c.words now.later) start refl before.played now.rest done in
+    let run = runs_to h header_of _ _ (scene _ _ []) (scene _ _ _) (scene _ _ _) start refl
+    before.played now.rest done in
     record { history = now.later; taken = now.taken; runs = run.0; words_are = run.1 }
 
 pub are_stuck_there : {M S : Type 0} (h : Header) (header_of : M → Header) (script : M → Script)
@@ -112,6 +109,5 @@ pub are_stuck_there : {M S : Type 0} (h : Header) (header_of : M → Header) (sc
 are_stuck_there h header_of script has_taken turns a b c start none first rest undone =
     let before = first.shown [] none in
     let now = rest before.later before.taken in
-    stuck_there h header_of script turns (scene a.machines a.words [])
-    (scene b.machines b.words before.later)
-    (scene c.machines c.words now.later) start refl before.played now.rest undone
+    stuck_there h header_of _ _ (scene _ _ []) (scene _ _ _) (scene _ _ _) start refl before.played
+    now.rest undone

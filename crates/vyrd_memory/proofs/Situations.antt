@@ -59,9 +59,8 @@ sound_step : (h : Header) (s : Situation) (script : Script) (did : Did) → IsSo
     (after_answer script (answer_of did))
 sound_step h s stop did sound e answer = cc
 sound_step h s (step act rest) did sound e answer =
-    let same : act ≡ act_of_event did = event_act act did e in
-    subst (λ act. IsSound h (after_act s act) (rest (answer_of did))) same
-    (sound.1 (answer_of did) (subst (λ act. IsAnswer act (answer_of did)) (sym same) answer))
+    let same : act ≡ act_of_event did = event_act _ _ e in
+    rw (← same) (sound.1 (answer_of did) (rw same answer))
 
 -- what is left of a sound script that was played so far
 pub sound_left : (h : Header) (script : Script) (dids : List Did) → IsSound h at_rest script

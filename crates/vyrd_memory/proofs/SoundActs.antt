@@ -36,8 +36,7 @@ store_sound h s cell value later plain low called sound = search (both_true, pla
 pub either : (h : Header) (s : Situation) (b : Bool) (x y : Script) → (b ≡ true → IsSound h s x)
     → (b ≡ false → IsSound h s y)
     → IsSound h s (cond b x y)
-either h s true x y e f = e refl
-either h s false x y e f = f refl
+either h s b x y e f = search arith
 
 -- a lock that was given back isn't held any more
 pub gone : (lock : ℕ) (locks : List ℕ) → filter (λ held. not (held == lock)) (lock ∷ locks)

@@ -31,8 +31,7 @@ acts_in n act later on ends = grind (arith, ends, not_both, in_more)
 -- one way or the other
 pub either_in : (n : ℕ) (b : Bool) (x y : Script) → EndsByReturn n x → EndsByReturn n y
     → EndsByReturn n (cond b x y)
-either_in n true x y e f = e
-either_in n false x y e f = f
+either_in n b x y e f = search arith
 
 -- the return itself, and a commit before it
 pub returns_in : (reply : ℕ) → EndsByReturn 1 (returns reply)

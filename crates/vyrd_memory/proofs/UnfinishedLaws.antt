@@ -49,13 +49,8 @@ first_left_out : (scripts : List Script) (keep : ℕ → Bool) (n k count : ℕ)
     (cond b (k ∷ filter keep (numbers_from (k + 1) count))
     (filter keep (numbers_from (k + 1) count))) earlier
     ≡ after_turns scripts (numbers_from (k + 1) count) (after_turn scripts k earlier)
-first_left_out scripts keep n k count earlier within done rest true kept =
-    rest (after_turn scripts k earlier)
-    (λ c low left. ap is_done
-    (other_act scripts k c earlier (event_now earlier (act_of scripts k earlier))
-    (true_isnt_false keep k c kept left)) ∙ done c low left)
-first_left_out scripts keep n k count earlier within done rest false left =
-    cc (rest earlier done, no_event earlier (act_of scripts k earlier) (done k within left))
+first_left_out scripts keep n k count earlier within done rest b kept = search
+    (other_act, true_isnt_false, no_event, arith)
 
 turns_left_out : (scripts : List Script) (keep : ℕ → Bool) (n k count : ℕ) (earlier : List Stamped)
     → k + count ≤ n → AreDone scripts keep n earlier
@@ -116,9 +111,7 @@ kept_first : (keep : ℕ → Bool) (k : ℕ) (rest : List ℕ)
     → ((i : ℕ) → i < length rest → keep (get_or rest i 0) ≡ true)
     → (b : Bool) → keep k ≡ b → (i : ℕ) → i < length (cond b (k ∷ rest) rest)
     → keep (get_or (cond b (k ∷ rest) rest) i 0) ≡ true
-kept_first keep k rest later true kept zero low = kept
-kept_first keep k rest later true kept (suc i) low = later i (omega arith)
-kept_first keep k rest later false left i low = later i low
+kept_first keep k rest later b kept i low = search arith
 
 kept_at : (keep : ℕ → Bool) (k count i : ℕ) → i < length (filter keep (numbers_from k count))
     → keep (get_or (filter keep (numbers_from k count)) i 0) ≡ true
@@ -135,9 +128,8 @@ below_at : (keep : ℕ → Bool) (n k count i : ℕ) → k + count ≤ n
     → i < length (filter keep (numbers_from k count))
     → get_or (filter keep (numbers_from k count)) i 0 < n
 below_at keep n k zero i within low = absurd (omega arith)
-below_at keep n k (suc count) i within low =
-    below_first k n (filter keep (numbers_from (k + 1) count)) (omega arith)
-    (λ j l. below_at keep n (k + 1) count j (omega arith) l) (keep k) i low
+below_at keep n k (suc count) i within low = below_first k n (filter keep (numbers_from _ _))
+    (omega arith) (λ j l. below_at keep n (k + 1) count j (omega arith) l) (keep k) i low
 
 pub callers_below : {M : Type 0} (script : M → Script) (machines : List M) (callers : List ℕ)
     → LeavesOut script machines callers

@@ -30,11 +30,9 @@ none_at : {B : Type 0} (f : Place Stamped → Option B) (earlier before : List S
     → first_answer f (places_after earlier (before ++ x ∷ later)) ≡ None
     → f (record { earlier = newest_first_onto earlier before; here = x; later = later }) ≡ None
 none_at f earlier [] x later e =
-    let both = both_none (f (record { earlier = earlier; here = x; later = later }))
-    (first_answer f (places_after (x ∷ earlier) later)) e in both.0
+    let both = both_none _ _ e in both.0
 none_at f earlier (y ∷ before) x later e =
-    let both = both_none (f (record { earlier = earlier; here = y; later = before ++ x ∷ later }))
-    (first_answer f (places_after (y ∷ earlier) (before ++ x ∷ later))) e in
+    let both = both_none _ _ e in
     none_at f (y ∷ earlier) before x later both.1
 
 said_reducible : (o : Option (ℕ × ℕ)) (count n : ℕ) → said_of o count ≡ Reducible n → o ≡ None

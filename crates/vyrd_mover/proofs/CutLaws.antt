@@ -19,17 +19,15 @@ cuts free (e ∷ later) = list_all (is_left_mover free) later
 cut_then : (free : ℕ → Bool) (events : List Stamped) (i : ℕ) → is_cut free events i ≡ true
     → cuts free events ≡ true
 cut_then free [] i h = refl
-cut_then free (e ∷ later) zero h = or_left (list_all (is_left_mover free) later) _ h
+cut_then free (e ∷ later) zero h = or_left _ _ h
 cut_then free (e ∷ later) (suc i) h =
     let at : is_cut free (e ∷ later) (suc i)
     ≡ ((is_right_mover free e && list_all (is_right_mover free) (take i later))
-    && list_all (is_left_mover free) (drop (i + 1) later)) =
-    cc (move i) in
+    && list_all (is_left_mover free) (drop (i + 1) later)) = cc (move i) in
     let here : ((is_right_mover free e && list_all (is_right_mover free) (take i later))
     && list_all (is_left_mover free) (drop (i + 1) later)) ≡ true = sym at ∙ h in
-    or_right (list_all (is_left_mover free) later) _ (both_true (is_right_mover free e) _
-    (first_true (is_right_mover free e) _
-    (first_true (is_right_mover free e && list_all (is_right_mover free) (take i later)) _ here))
+    or_right (list_all (is_left_mover _) later) _
+    (both_true (is_right_mover _ e) _ (first_true _ _ (first_true _ _ here))
     (cut_then free later i (both_true (list_all (is_right_mover free) (take i later)) _
     (second_true (is_right_mover free e) _
     (first_true (is_right_mover free e && list_all (is_right_mover free) (take i later)) _ here))
@@ -56,8 +54,7 @@ later_cut free e later right (i, low, h) =
 
 then_cut : (free : ℕ → Bool) (events : List Stamped) → cuts free events ≡ true → Cut free events
 then_cut free [] h = (0, omega arith, refl)
-then_cut free (e ∷ later) h = go (λ k. then_cut free later k)
-    (either_true (list_all (is_left_mover free) later) _ h)
+then_cut free (e ∷ later) h = go (λ k. then_cut free later k) (either_true _ _ h)
   where
     go : (cuts free later ≡ true → Cut free later)
         → (list_all (is_left_mover free) later ≡ true)
@@ -75,9 +72,7 @@ has_cut-cuts free events = same_truth _ _ to from
   where
     to : list_any (is_cut free events) (numbers_below (length events + 1)) ≡ true → cuts free events
         ≡ true
-    to h =
-        let found = any_tells (is_cut free events) 0 (length events + 1) h in
-        cut_then free events found.0 found.3
+    to h = search (any_tells, cut_then, arith)
 
     from : cuts free events ≡ true → list_any (is_cut free events)
         (numbers_below (length events + 1)) ≡ true

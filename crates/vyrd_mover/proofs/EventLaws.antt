@@ -60,84 +60,58 @@ checked subject line number caller did e acts true t f =
     let event : is_event_of subject (stamped number caller did) ≡ true = first_true _ _ t in
     record {
       numbered = cc;
-      caller = ap (λ x. nat_lt x.caller (2 ^ 32)) (sym same) ∙ first_true _ _ event;
+      caller = ap (λ x. nat_lt x.caller (2 ^ 32)) (sym same)
+          ∙ first_true _ _ event;
       act = cc (second_true (nat_lt caller (2 ^ 32)) _ event);
-      line_is = sym
-          ((bytes_eq-Decides (did_line caller did) line).0
-          (second_true (is_event_of subject (stamped number caller did)) _ t)) ∙ ap event_line same;
+      line_is = sym ((bytes_eq-Decides _ _).0 (second_true _ _ t)) ∙ ap event_line same;
     }
 
 act_from_sound : (subject : Subject) (line : List ℕ) (number : ℕ) (parts : List (List ℕ))
     (e : Stamped) → act_from subject line number parts ≡ Some e
     → IsAct number line e
-act_from_sound subject line number [] e f = cc
-act_from_sound subject line number (a ∷ []) e f = cc
-act_from_sound subject line number (a ∷ b ∷ []) e f = cc
-act_from_sound subject line number (a ∷ b ∷ c ∷ []) e f = by_word (bytes_eq b (codes "took")) f
-  where
-    by_word : (t : Bool) → event_if subject line number (number_of a)
-        (cond t (Took (number_of c)) (Gave (number_of c))) ≡ Some e → IsAct number line e
-    by_word t f = search (checked, arith)
-act_from_sound subject line number (a ∷ b ∷ c ∷ d ∷ []) e f = by_word (bytes_eq b (codes "read")) f
-  where
-    by_word : (t : Bool) → event_if subject line number (number_of a)
-        (cond t (Read (number_of c) (number_of d)) (Wrote (number_of c) (number_of d))) ≡ Some e
-        → IsAct number line e
-    by_word t f = search (checked, arith)
-act_from_sound subject line number (a ∷ b ∷ c ∷ d ∷ x ∷ more) e f = cc
+act_from_sound subject line number parts e f = search (checked, arith)
 
 -- the fields of an access, and of a take or a give
 module _ (caller : ℕ) (word : List ℕ) (cell value : ℕ) (w : is_plain_field word ≡ true)
     (lc : caller < 2 ^ 64) (lx : cell < 2 ^ 64) (lv : value < 2 ^ 64) where
   plain_pair : list_all is_plain_field (decimal caller ∷ word ∷ decimal cell ∷ decimal value ∷ [])
       ≡ true
-  plain_pair = both_true _ _ (plain_number caller lc)
-      (both_true _ _ w
-      (both_true _ _ (plain_number cell lx) (both_true _ _ (plain_number value lv) refl)))
+  plain_pair = search (both_true, plain_number, arith)
 
   plain_one : list_all is_plain_field (decimal caller ∷ word ∷ decimal cell ∷ []) ≡ true
-  plain_one = both_true _ _ (plain_number caller lc)
-      (both_true _ _ w (both_true _ _ (plain_number cell lx) refl))
+  plain_one = search (both_true, plain_number, arith)
 
 -- an act is read back from the fields of its line
 guess_back : (subject : Subject) (line : List ℕ) (number caller : ℕ) (did : Did) → caller < 2 ^ 64
     → is_act did ≡ true
     → act_from subject line number (fields_of (did_line caller did))
     ≡ event_if subject line number caller did
-guess_back subject line number caller (Read cell value) low e =
-    let lx = below_32 cell (first_true _ _ e) in
-    let lv = below_of value (2 ^ 64) (second_true (nat_lt cell (2 ^ 32)) _ e) in
-    ap (act_from subject line number)
-    (split-join 32 (decimal caller) (codes "read" ∷ decimal cell ∷ decimal value ∷ [])
-    (plain_spaces (decimal caller ∷ codes "read" ∷ decimal cell ∷ decimal value ∷ [])
-    (plain_pair caller (codes "read") cell value refl low lx lv)))
-    ∙ λ i. event_if subject line number (number_of_decimal caller low i)
-    (Read (number_of_decimal cell lx i) (number_of_decimal value lv i))
-guess_back subject line number caller (Wrote cell value) low e =
-    let lx = below_32 cell (first_true _ _ e) in
-    let lv = below_of value (2 ^ 64) (second_true (nat_lt cell (2 ^ 32)) _ e) in
-    ap (act_from subject line number)
-    (split-join 32 (decimal caller) (codes "wrote" ∷ decimal cell ∷ decimal value ∷ [])
-    (plain_spaces (decimal caller ∷ codes "wrote" ∷ decimal cell ∷ decimal value ∷ [])
-    (plain_pair caller (codes "wrote") cell value refl low lx lv)))
-    ∙ λ i. event_if subject line number (number_of_decimal caller low i)
-    (Wrote (number_of_decimal cell lx i) (number_of_decimal value lv i))
-guess_back subject line number caller (Took lock) low e =
-    let lx = below_32 lock e in
-    ap (act_from subject line number)
-    (split-join 32 (decimal caller) (codes "took" ∷ decimal lock ∷ [])
-    (plain_spaces (decimal caller ∷ codes "took" ∷ decimal lock ∷ [])
-    (plain_one caller (codes "took") lock 0 refl low lx (omega arith))))
-    ∙ λ i. event_if subject line number (number_of_decimal caller low i)
-    (Took (number_of_decimal lock lx i))
-guess_back subject line number caller (Gave lock) low e =
-    let lx = below_32 lock e in
-    ap (act_from subject line number)
-    (split-join 32 (decimal caller) (codes "gave" ∷ decimal lock ∷ [])
-    (plain_spaces (decimal caller ∷ codes "gave" ∷ decimal lock ∷ [])
-    (plain_one caller (codes "gave") lock 0 refl low lx (omega arith))))
-    ∙ λ i. event_if subject line number (number_of_decimal caller low i)
-    (Gave (number_of_decimal lock lx i))
+guess_back subject line number caller (Read cell value) low e = search (
+  below_32,
+  first_true,
+  below_of,
+  second_true,
+  split-join,
+  plain_spaces,
+  plain_pair,
+  number_of_decimal,
+  arith,
+)
+guess_back subject line number caller (Wrote cell value) low e = search (
+  below_32,
+  first_true,
+  below_of,
+  second_true,
+  split-join,
+  plain_spaces,
+  plain_pair,
+  number_of_decimal,
+  arith,
+)
+guess_back subject line number caller (Took lock) low e = search
+    (below_32, split-join, plain_spaces, plain_one, number_of_decimal, arith)
+guess_back subject line number caller (Gave lock) low e = search
+    (below_32, split-join, plain_spaces, plain_one, number_of_decimal, arith)
 guess_back subject line number caller (Marked kind) low e = cc
 
 act_back : (subject : Subject) (number caller : ℕ) (did : Did) → nat_lt caller (2 ^ 32) ≡ true
@@ -196,80 +170,57 @@ pub record IsSpelled (subject : Subject) (number : ℕ) (line : List ℕ) (e : S
 
 act_spelled : (subject : Subject) (number : ℕ) (line : List ℕ) (e : Stamped) → IsAct number line e
     → IsSpelled subject number line e
-act_spelled subject number line e is =
-    record {
-      numbered = is.numbered;
-      line_is = is.line_is;
-      is = act_is_event subject e.number
-          e.caller e.did is.caller is.act;
-    }
+act_spelled subject number line e is = search (act_is_event, arith)
 
 mark_spelled : (subject : Subject) (number : ℕ) (line : List ℕ) (y : Entry) (e : Stamped)
     → line ≡ entry_line y → is_entry_of subject y ≡ true
     → (b : Bool) → is_write y.kind ≡ b
     → cond b None (Some (stamped number y.caller (Marked y.kind))) ≡ Some e
     → IsSpelled subject number line e
-mark_spelled subject number line y e spelled is true w f = cc
-mark_spelled subject number line y e spelled is false w f =
-    let same : stamped number y.caller (Marked y.kind) ≡ e = cc in
-    record {
-      numbered = ap (λ x. x.number) (sym same);
-      line_is = spelled ∙ ap event_line same;
-      is = ap (is_event_of subject) (sym same)
-          ∙ both_true _ _ (first_true _ _ is)
-          (both_true _ _ (second_true (nat_lt y.caller (2 ^ 32)) _ is) (ap not w));
-    }
+mark_spelled subject number line y e spelled is b w f = search
+    (both_true, first_true, second_true, arith)
 
 pub event_in_sound : (subject : Subject) (number : ℕ) (line : List ℕ) (e : Stamped)
     → event_in subject number line ≡ Some e → IsSpelled subject number line e
 unfolding event_in
-event_in_sound subject number line e f = by_entry (entry_in subject line) refl f
+event_in_sound subject number line e f = by_entry (entry_in _ _) refl f
   where
     by_entry : (o : Option Entry) → entry_in subject line ≡ o
         → mark_or number o (act_from subject line number (fields_of line)) ≡ Some e
         → IsSpelled subject number line e
-    by_entry None found f = act_spelled subject number line e
-        (act_from_sound subject line number (fields_of line) e f)
+    by_entry None found f = search (act_spelled, act_from_sound, arith)
     by_entry (Some y) found f =
-        let is = entry_in_sound subject line y found in
-        mark_spelled subject number line y e is.0 is.1 (is_write y.kind) refl f
+        let is = entry_in_sound _ _ y found in
+        mark_spelled _ _ _ y e is.0 is.1 _ refl f
 
 -- an event is read back from its line
 act_read : (subject : Subject) (number caller : ℕ) (did : Did) → nat_lt caller (2 ^ 32) ≡ true
     → is_act did ≡ true
     → event_in subject number (did_line caller did) ≡ Some (stamped number caller did)
 unfolding event_in
-act_read subject number caller did low act =
-    ap (λ o. mark_or number o
-    (act_from subject (did_line caller did) number (fields_of (did_line caller did))))
-    (no_entry subject caller did low act)
-    ∙ act_back subject number caller did low act
+act_read subject number caller did low act = search (no_entry, act_back, arith)
 
 did_back : (subject : Subject) (number caller : ℕ) (did : Did)
     → is_event_of subject (stamped number caller did) ≡ true
     → event_in subject number (did_line caller did) ≡ Some (stamped number caller did)
 unfolding event_in
-did_back subject number caller (Read cell value) is = act_read subject number caller
-    (Read cell value) (first_true _ _ is) (second_true (nat_lt caller (2 ^ 32)) _ is)
-did_back subject number caller (Wrote cell value) is = act_read subject number caller
-    (Wrote cell value) (first_true _ _ is) (second_true (nat_lt caller (2 ^ 32)) _ is)
-did_back subject number caller (Took lock) is = act_read subject number caller (Took lock)
-    (first_true _ _ is) (second_true (nat_lt caller (2 ^ 32)) _ is)
-did_back subject number caller (Gave lock) is = act_read subject number caller (Gave lock)
-    (first_true _ _ is) (second_true (nat_lt caller (2 ^ 32)) _ is)
+did_back subject number caller (Read cell value) is = search
+    (act_read, first_true, second_true, arith)
+did_back subject number caller (Wrote cell value) is = search
+    (act_read, first_true, second_true, arith)
+did_back subject number caller (Took lock) is = search (act_read, first_true, second_true, arith)
+did_back subject number caller (Gave lock) is = search (act_read, first_true, second_true, arith)
 did_back subject number caller (Marked kind) is =
     let kind_is : (is_kind_of subject kind && not (is_write kind)) ≡ true = second_true
-    (nat_lt caller (2 ^ 32)) _ is in
-    let low : nat_lt caller (2 ^ 32) ≡ true = first_true (nat_lt caller (2 ^ 32))
-    (is_did_of subject (Marked kind)) is in
-    let entry : is_entry_of subject (record { caller = caller; kind = kind }) ≡ true =
-    both_true (nat_lt caller (2 ^ 32)) (is_kind_of subject kind) low
-    (first_true (is_kind_of subject kind) (not (is_write kind)) kind_is) in
+    (nat_lt _ _) _ is in
+    let low : nat_lt caller (2 ^ 32) ≡ true = first_true _ (is_did_of subject (Marked kind)) is in
+    let entry : is_entry_of subject (record { caller = caller; kind = kind }) ≡ true = both_true
+    (nat_lt _ _) (is_kind_of subject kind) low (first_true _ (not _) kind_is) in
     let line = did_line caller (Marked kind) in
     ap (λ o. mark_or number o (act_from subject line number (fields_of line)))
-    (entry_in-entry_line subject (record { caller = caller; kind = kind }) entry)
+    (entry_in-entry_line _ _ entry)
     ∙ ap (λ b. cond b None (Some (stamped number caller (Marked kind))))
-    (not-true (is_write kind) (second_true (is_kind_of subject kind) _ kind_is))
+    (not-true _ (second_true (is_kind_of subject kind) _ kind_is))
 
 pub event_in-event_line : (subject : Subject) (e : Stamped) → is_event_of subject e ≡ true
     → event_in subject e.number (event_line e) ≡ Some e

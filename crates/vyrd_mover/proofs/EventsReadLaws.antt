@@ -49,8 +49,7 @@ counted s t r e have count = count ∙ taken_count t r.history have.taken
 -- an event that breaks no rule may be taken in
 pub may_follow : (s : Remembered) (t : Taken) (r : Recorded) (e : Stamped) → HaveRead s t r
     → broken_by r e ≡ None → IsNext t.header r.history e
-may_follow s t r e have none = subst (λ h. IsNext h r.history e) (sym have.same)
-    ((no_rule r e none).0)
+may_follow s t r e have none = rw have.same ((no_rule r e none).0)
 
 -- and its caller and its cell are in range
 pub below_callers : (s : Remembered) (t : Taken) (r : Recorded) (e : Stamped) → HaveRead s t r

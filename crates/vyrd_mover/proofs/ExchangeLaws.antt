@@ -12,23 +12,16 @@ pub exchanged_is_legal : (cells : Cells) (before after : List Stamped) (a b : St
     → is_legal cells (before ++ a ∷ b ∷ after) ≡ true
     → a.caller ≢ b.caller → is_movable (is_race_free cells (before ++ a ∷ b ∷ after)) a b ≡ true
     → is_legal cells (numbered (before ++ b ∷ a ∷ after)) ≡ true
-exchanged_is_legal cells before after a b legal other move =
-    runs_legal cells (before ++ b ∷ a ∷ after)
-    (exchange_runs cells (value_in []) (is_race_free cells (before ++ a ∷ b ∷ after)) before a b
-    after other move
-    (λ cell e. free_of cells (before ++ a ∷ b ∷ after) cell e)
-    (legal_runs cells (before ++ a ∷ b ∷ after) legal))
+exchanged_is_legal cells before after a b legal other move = runs_legal _ _
+    (exchange_runs _ _ (is_race_free _ _) _ a b _ other move (λ cell e. free_of _ _ _ e)
+    (legal_runs _ _ legal))
 
 pub exchanged_is_free : (cells : Cells) (before after : List Stamped) (a b : Stamped)
     → is_legal cells (before ++ a ∷ b ∷ after) ≡ true
     → a.caller ≢ b.caller → is_movable (is_race_free cells (before ++ a ∷ b ∷ after)) a b ≡ true
     → (cell : ℕ) → is_race_free cells (before ++ a ∷ b ∷ after) cell ≡ true
     → is_race_free cells (numbered (before ++ b ∷ a ∷ after)) cell ≡ true
-exchanged_is_free cells before after a b legal other move cell e =
-    is_free cells (numbered (before ++ b ∷ a ∷ after)) cell
-    (free_numbered cells (value_in []) (before ++ b ∷ a ∷ after) cell 0
-    (exchange_frees cells (value_in []) (is_race_free cells (before ++ a ∷ b ∷ after)) before a b
-    after other move
-    (λ cell e. free_of cells (before ++ a ∷ b ∷ after) cell e)
-    (legal_runs cells (before ++ a ∷ b ∷ after) legal)
-    cell (free_of cells (before ++ a ∷ b ∷ after) cell e)))
+exchanged_is_free cells before after a b legal other move cell e = is_free _ _ _
+    (free_numbered _ _ _ _ 0
+    (exchange_frees _ _ (is_race_free _ _) _ a b _ other move (λ cell e. free_of _ _ _ e)
+    (legal_runs _ _ legal) _ (free_of _ _ _ e)))

@@ -48,17 +48,14 @@ only_of cell c (e ∷ later) h = (
 
 is_only : (cell c : ℕ) (es : List Stamped) → Only cell c es → is_used_by_alone es cell c ≡ true
 is_only cell c [] h = refl
-is_only cell c (e ∷ later) h =
-    both_true (not (is_access_of cell e.did) || e.caller == c) _
+is_only cell c (e ∷ later) h = both_true (not _ || e.caller == c) _
     (implies (is_access_of cell e.did) _ (λ access. is_same e.caller c (h.0 access)))
     (is_only cell c later h.1)
 
 unwritten_of : (cell : ℕ) (es : List Stamped) → is_unwritten es cell ≡ true → Unwritten cell es
 unwritten_of cell [] h = tt
-unwritten_of cell (e ∷ later) h = (
-  not-true (is_write_to cell e.did) (first_true (not (is_write_to cell e.did)) _ h),
-  unwritten_of cell later (second_true (not (is_write_to cell e.did)) _ h),
-)
+unwritten_of cell (e ∷ later) h =
+    (not-true _ (first_true _ _ h), unwritten_of cell later (second_true _ _ h))
 
 is_never_written : (cell : ℕ) (es : List Stamped) → Unwritten cell es → is_unwritten es cell ≡ true
 is_never_written cell [] h = refl
@@ -70,13 +67,9 @@ guards_of : (cell lock : ℕ) (earlier es : List Stamped) → list_all (is_guard
     → Guards cell lock (value_in earlier) es
 guards_of cell lock earlier [] h = tt
 guards_of cell lock earlier (e ∷ later) h = (
-  λ access. same_of (value_in earlier lock) (e.caller + 1) (implied (is_access_of cell e.did) _
-      (first_true (is_guarded_at cell lock
-      (record { earlier = earlier; here = e; later = later })) _ h) access),
-  subst (λ m. Guards cell lock m later) (value_step e earlier)
-      (guards_of cell lock (e ∷ earlier) later
-      (second_true
-      (is_guarded_at cell lock (record { earlier = earlier; here = e; later = later })) _ h)),
+  λ access. same_of _ _ (implied (is_access_of cell e.did) _ (first_true _ _ h) access),
+  rw
+      (← value_step e earlier) (guards_of cell lock (e ∷ earlier) later (second_true _ _ h)),
 )
 
 is_guarded : (cell lock : ℕ) (earlier es : List Stamped) → Guards cell lock (value_in earlier) es
@@ -86,8 +79,7 @@ is_guarded cell lock earlier (e ∷ later) h =
     both_true (is_guarded_at cell lock (record { earlier = earlier; here = e; later = later })) _
     (implies (is_access_of cell e.did) _
     (λ access. is_same (value_in earlier lock) (e.caller + 1) (h.0 access)))
-    (is_guarded cell lock (e ∷ earlier) later
-    (subst (λ m. Guards cell lock m later) (sym (value_step e earlier)) h.1))
+    (is_guarded cell lock (e ∷ earlier) later (rw (value_step e earlier) h.1))
 
 -- what a test of a race-free cell tells
 pub free_of : (cells : Cells) (history : List Stamped) (cell : ℕ) → is_race_free cells history cell
@@ -127,24 +119,19 @@ free_of cells history cell e =
 pub is_free : (cells : Cells) (history : List Stamped) (cell : ℕ)
     → Free cells (value_in []) history cell → is_race_free cells history cell ≡ true
 unfolding is_race_free
-is_free cells history cell (alone c low h) =
-    or_left (list_any (is_used_by_alone history cell) (numbers_below cells.callers)
+is_free cells history cell (alone c low h) = or_left
+    (list_any (is_used_by_alone history cell) (numbers_below cells.callers)
     || is_unwritten history cell) _
     (or_left (list_any (is_used_by_alone history cell) (numbers_below cells.callers)) _
     (tells_any (is_used_by_alone history cell) 0 cells.callers c (omega arith) (omega arith)
-    (is_only cell c history h)))
-is_free cells history cell (unwritten h) =
-    or_left (list_any (is_used_by_alone history cell) (numbers_below cells.callers)
-    || is_unwritten history cell) _
-    (or_right (list_any (is_used_by_alone history cell) (numbers_below cells.callers)) _
-    (is_never_written cell history h))
-is_free cells history cell (guarded lock kind h) =
-    or_right (list_any (is_used_by_alone history cell) (numbers_below cells.callers)
+    (is_only _ c _ h)))
+is_free cells history cell (unwritten h) = search (is_never_written, arith)
+is_free cells history cell (guarded lock kind h) = or_right
+    (list_any (is_used_by_alone history cell) (numbers_below cells.callers)
     || is_unwritten history cell) _
     (tells_any (is_guarded_by history cell) cells.plain cells.locks lock
-    (at_most_of cells.plain lock (first_true _ _ kind))
-    (below_of lock (cells.plain + cells.locks) (second_true (nat_le cells.plain lock) _ kind))
-    (is_guarded cell lock [] history h))
+    (at_most_of _ _ (first_true _ _ kind))
+    (below_of _ _ (second_true (nat_le cells.plain lock) _ kind)) (is_guarded _ _ [] _ h))
 
 -- numbers don't matter
 only_numbered : (cell c k : ℕ) (es : List Stamped) → Only cell c es

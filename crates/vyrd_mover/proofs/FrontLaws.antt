@@ -45,8 +45,7 @@ isnt_write subject text rest kind other is = grind arith
 pub mark_read : (subject : Subject) (text : List ℕ) (read : Option (Kind × Bor (List ℕ)))
     → (get_or text 3 0 ≡ 116 → ⊥) → IfSome read (λ r. IsKindAtFront subject text r.0 r.1.now)
     → IfSome read (λ r. is_write r.0 ≡ false)
-mark_read subject text None other is = tt
-mark_read subject text (Some r) other is = isnt_write subject text r.1.now r.0 other is
+mark_read subject text read other is = search (isnt_write, arith)
 
 -- an event's line is its caller, a space and what it says
 did_line_is : (caller : ℕ) (did : Did) → did_line caller did ≡ decimal caller ++ 32 ∷ did_text did
@@ -63,8 +62,7 @@ event_at_front subject number caller did text rest after low is d =
 -- its line isn't `end`
 event_isnt_end : (e : Stamped) → ¬ (event_line e ≡ end_line)
 event_isnt_end e same =
-    let never : true ≡ false =
-    sym ((bytes_eq-Decides (event_line e) end_line).1 same) ∙ did_isnt_end e.caller e.did in
+    let never : true ≡ false = sym ((bytes_eq-Decides _ _).1 same) ∙ did_isnt_end _ _ in
     cc
 
 -- no event of a text was taken in
@@ -144,17 +142,16 @@ pub events_taken : (l : Lines) (e new : Events) (m : ℕ) (bytes text rest : Lis
 events_taken l e new m bytes text rest fine going f to = record {
   front = to.front;
   parted = to.parted;
-  at = subst (λ fault. IsAtBy m (Some new) l.ended fault (bytes ++ to.front))
-      (sym (isnt_some l.fault fine))
-      (subst (λ d. Follows m new d (bytes ++ to.front)) (sym going) follows);
+  at = rw (isnt_some l.fault fine)
+      (rw going follows);
 }
   where
     follows : Follows m new false (bytes ++ to.front)
     follows = record {
       recorded = to.recorded;
       have = to.have;
-      read = λ more. ap history_reading (append_assoc bytes to.front more)
-          ∙ f.read (to.front ++ more) ∙ to.read more;
+      read = λ more. ap history_reading (append_assoc bytes _ _)
+          ∙ f.read _ ∙ to.read _;
     }
 
 -- one of them breaks a rule, and the rest is passed over
@@ -185,8 +182,4 @@ front_fed l s bytes text rest read none to =
 pub fed_then : (a b : ReaderState) (bytes piece rest after : List ℕ)
     → (first : IsFedTo a bytes piece rest) → IsFedTo b (bytes ++ first.front) rest after
     → IsFedTo b bytes piece after
-fed_then a b bytes piece rest after first second = record {
-  front = first.front ++ second.front;
-  parted = cc (first.parted, second.parted, append_assoc first.front second.front after);
-  read = subst (HasRead b) (append_assoc bytes first.front second.front) second.read;
-}
+fed_then a b bytes piece rest after first second = search (append_assoc, arith)

@@ -120,16 +120,13 @@ block_gathered : (cells : Cells) (before rest after : List Stamped) (opening : S
 block_gathered cells before rest after opening legal opens cut =
     let free = is_race_free cells (before ++ opening ∷ (rest ++ after)) in
     let c = opening.caller in
-    gathered cells free c before (opening ∷ rest) after
-    (gather cells free (before ++ opening ∷ (rest ++ after)) c (newest_first before)
-    (opening ∷ rest) after
-    (ap (cuts free) (open_is_no_event c opening rest opens)
-    ∙ sym (has_cut-cuts free (events_of c rest)) ∙ cut)
-    (subst (Good cells free (before ++ opening ∷ (rest ++ after)))
-    (sym (behind_before before (opening ∷ rest ++ after)))
+    gathered _ free c _ _ _
+    (gather _ _ _ c _ (opening ∷ rest) _ (ap (cuts _) (open_is_no_event c _ _ opens)
+    ∙ sym (has_cut-cuts _ _)
+    ∙ cut) (subst (Good _ _ _) (sym (behind_before before (opening ∷ rest ++ after)))
     (record {
       runs = legal_runs cells _ legal;
-      frees = λ cell e. free_of cells _ cell e;
+      frees = λ cell e. free_of _ _ _ e;
       same = λ caller. refl;
     })))
 

@@ -81,9 +81,8 @@ exchange_behind : (cells : Cells) (free : ℕ → Bool) (origin p : List Stamped
     → is_movable free a b ≡ true → Good cells free origin (behind p (a ∷ b ∷ after))
     → Good cells free origin (behind p (b ∷ a ∷ after))
 exchange_behind cells free origin p a b after other move good =
-    subst (Good cells free origin) (sym (behind_is p (b ∷ a ∷ after)))
-    (exchange cells free origin (newest_first p) a b after other move
-    (subst (Good cells free origin) (behind_is p (a ∷ b ∷ after)) good))
+    subst (Good _ _ _) (sym (behind_is p _))
+    (exchange _ _ _ _ a b _ other move (subst (Good _ _ _) (behind_is p _) good))
 
 -- an event may pass each of these
 abbrev Passes : (ℕ → Bool) → Stamped → List Stamped → Type 0
@@ -95,9 +94,8 @@ pass : (cells : Cells) (free : ℕ → Bool) (origin p : List Stamped) (x : Stam
     → Good cells free origin (behind p (x ∷ ys ++ after))
     → Good cells free origin (behind p (ys ++ x ∷ after))
 pass cells free origin p x [] after passes good = good
-pass cells free origin p x (y ∷ ys) after passes good =
-    pass cells free origin (y ∷ p) x ys after passes.2
-    (exchange_behind cells free origin p x y (ys ++ after) passes.0 passes.1 good)
+pass cells free origin p x (y ∷ ys) after passes good = pass cells free origin
+    (y ∷ p) x ys after passes.2 (exchange_behind _ _ _ p x y _ passes.0 passes.1 good)
 
 -- the events of a caller, and those of all others
 abbrev pub own : ℕ → List Stamped → List Stamped
@@ -130,11 +128,10 @@ mark_passes free x y h =
     (or_right (is_take x.did || is_give y.did) _ h)))
 
 passes_mark : (free : ℕ → Bool) (x y : Stamped) → is_mark y.did ≡ true → is_movable free x y ≡ true
-passes_mark free x y h =
-    or_left (is_take x.did || is_give y.did || is_mark x.did || is_mark y.did
+passes_mark free x y h = or_left (is_take x.did || is_give y.did || is_mark x.did || is_mark y.did
     || is_free_access free x.did) _
     (or_left (is_take x.did || is_give y.did || is_mark x.did || is_mark y.did) _
-    (or_right (is_take x.did || is_give y.did || is_mark x.did) _ h))
+    (or_right (is_take _ || is_give _ || is_mark _) _ h))
 
 right_passes : (free : ℕ → Bool) (x y : Stamped) → is_right_mover free x ≡ true
     → is_movable free x y ≡ true
@@ -154,17 +151,15 @@ right_passes free x y h = go (either_true (is_take x.did) (is_free_access free x
 
 passes_left : (free : ℕ → Bool) (x y : Stamped) → is_left_mover free y ≡ true → is_movable free x y
     ≡ true
-passes_left free x y h = go (either_true (is_give y.did) (is_free_access free y.did) h)
+passes_left free x y h = go (either_true _ _ h)
   where
     go : (is_give y.did ≡ true) ⊎ (is_free_access free y.did ≡ true) → is_movable free x y ≡ true
     go (inl h) =
-        or_left (is_take x.did || is_give y.did || is_mark x.did || is_mark y.did
-        || is_free_access free x.did) _
+        or_left (is_take x.did || is_give _ || is_mark _ || is_mark _ || is_free_access _ x.did) _
         (or_left (is_take x.did || is_give y.did || is_mark x.did || is_mark y.did) _
         (or_left (is_take x.did || is_give y.did || is_mark x.did) _
         (or_left (is_take x.did || is_give y.did) _ (or_right (is_take x.did) _ h))))
-    go (inr h) = or_right (is_take x.did || is_give y.did || is_mark x.did || is_mark y.did
-        || is_free_access free x.did) _ h
+    go (inr h) = or_right _ _ h
 
 -- a caller's mark or right mover passes what others do
 own_passes : (free : ℕ → Bool) (c : ℕ) (x : Stamped) (ys : List Stamped) → (x.caller == c) ≡ true
@@ -211,9 +206,8 @@ gather_right : (cells : Cells) (free : ℕ → Bool) (origin : List Stamped) (c 
     → Good cells free origin (behind p (es ++ after))
     → Good cells free origin (behind p (own c es ++ (others c es ++ after)))
 gather_right cells free origin c p [] after left good = good
-gather_right cells free origin c p (e ∷ es) after left good =
-    go (e.caller == c) (is_mark e.did) refl left
-    (λ l. gather_right cells free origin c (e ∷ p) es after l good)
+gather_right cells free origin c p (e ∷ es) after left good = go (e.caller == c)
+    (is_mark _) refl left (λ l. gather_right cells free origin c (e ∷ p) es after l good)
   where
     go : (a b : Bool) → (e.caller == c) ≡ a → list_all (is_left_mover free)
         (cond (a && not b) (e ∷ events_of c es) (events_of c es)) ≡ true
@@ -223,10 +217,8 @@ gather_right cells free origin c p (e ∷ es) after left good =
         (behind p (cond a (e ∷ own c es) (own c es)
         ++ (cond (not a) (e ∷ others c es) (others c es) ++ after)))
     go true true mine left rest = rest left
-    go true false mine left rest = rest (second_true (is_left_mover free e) _ left)
-    go false b mine left rest =
-        pass cells free origin p e (own c es) (others c es ++ after)
-        (passes_own free c e es mine left) (rest left)
+    go true false mine left rest = rest (second_true _ _ left)
+    go false b mine left rest = pass _ _ _ p e _ _ (passes_own free c e es mine left) (rest left)
 
 -- a block's events side by side, between what others do
 pub record IsApart (cells : Cells) (free : ℕ → Bool) (origin p mine after front back : List Stamped)

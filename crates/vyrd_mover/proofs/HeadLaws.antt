@@ -33,45 +33,28 @@ no_callers text m r low e none = grind (arith, one_before_space)
 pub no_bounds : (line r : List ℕ) (found : Subject) (t : List ℕ) → line ≡ codes "history " ++ r
     → r ≡ subject_name found ++ 32 ∷ t
     → AreBoundsRead t None → IsFirstRead line None
-no_bounds line r found t e g none subject size callers built s c f =
-    let after = append_cancel_left (codes "history ") r
-    (subject_name subject ++ 32 ∷ (decimal size ++ 32 ∷ decimal callers)) (sym e ∙ f) in
-    none size callers s c (one_name found subject t (decimal size ++ 32 ∷ decimal callers)
-    (sym g ∙ after))
+no_bounds line r found t e g none = search (one_name, arith)
 
 -- a first line and what it names
 module _ (subject : Subject) (size callers : ℕ) (s : size < 2 ^ 64) (c : callers < 2 ^ 64) where
   plain : list_all is_plain_field (codes "history" ∷ subject_name subject ∷ decimal size
       ∷ decimal callers ∷ []) ≡ true
-  plain = both_true _ _ refl
-      (both_true _ _ (plain_subject subject)
-      (both_true _ _ (plain_number size s) (both_true _ _ (plain_number callers c) refl)))
+  plain = search (both_true, plain_subject, plain_number, arith)
 
   fields : fields_of (history_header_line subject size callers) ≡ codes "history"
       ∷ subject_name subject ∷ decimal size ∷ decimal callers ∷ []
-  fields = split-join 32 (codes "history") (subject_name subject ∷ decimal size ∷ decimal callers
-      ∷ [])
-      (plain_spaces (codes "history" ∷ subject_name subject ∷ decimal size ∷ decimal callers ∷ [])
-      plain)
+  fields = search (split-join, plain_spaces, plain, arith)
 
   -- it is one line
   pub first_line_whole : lacks 10 (history_header_line subject size callers) ≡ true
-  first_line_whole = lacks-join 10 32 (codes "history")
-      (subject_name subject ∷ decimal size ∷ decimal callers ∷ []) refl
-      (plain_line_feeds (codes "history" ∷ subject_name subject ∷ decimal size ∷ decimal callers
-      ∷ []) plain)
+  first_line_whole = search (lacks-join, plain_line_feeds, plain, arith)
 
   -- it is read as the header with its numbers, if there is one
   pub header_known : is_built_in subject ≡ true
       → history_header_in (history_header_line subject size callers)
       ≡ header_of 1 subject size callers
   unfolding history_header_in
-  header_known built =
-      let line = history_header_line subject size callers in
-      ap (history_header_from line) fields
-      ∙ (λ i. history_header_if line (subject_read subject built i) (number_of_decimal size s i)
-      (number_of_decimal callers c i))
-      ∙ ap (λ b. cond b (header_of 1 subject size callers) None) (bytes_same line)
+  header_known built = search (fields, subject_read, number_of_decimal, bytes_same, arith)
 
 -- a header is read back from its first line
 pub header_in-first_line : (h : Header) → h.version ≡ 1
@@ -97,25 +80,14 @@ header_in_sound line h found = from (fields_of line) found
         ≡ Some h
         → IsFirst line h
     of_header subject size callers false e same f = cc
-    of_header subject size callers true e same f =
-        let is : record {
-          version = 1;
-          subject = subject;
-          size = size;
-          callers = callers;
-          within = e;
-        } ≡ h = cc in (
-          ap (λ (x : Header). x.version) (sym is),
-          same
-              ∙ ap (λ x. history_header_line x.subject x.size x.callers) is,
-        )
+    of_header subject size callers true e same f = grind arith
 
     spelled : (subject : Subject) (size callers : ℕ) (b : Bool)
         → bytes_eq (history_header_line subject size callers) line ≡ b
         → cond b (header_of 1 subject size callers) None ≡ Some h → IsFirst line h
     spelled subject size callers false t f = cc
-    spelled subject size callers true t f =
-        of_header subject size callers (limits_of subject 1 size callers) refl
+    spelled subject size callers true t f = of_header subject size callers
+        (limits_of subject 1 size callers) refl
         (sym ((bytes_eq-Decides (history_header_line subject size callers) line).0 t)) f
 
     if_spelled : (subject : Option Subject) (size callers : ℕ)
@@ -147,8 +119,7 @@ module _ (line : List ℕ) (subject : Subject) (size callers : ℕ) (s : size < 
     (c : callers < 2 ^ 32)
     (is : (is_built_in subject ≡ true) × (line ≡ history_header_line subject size callers)) where
   on_line : history_header_in line ≡ header_of 1 subject size callers
-  on_line = ap history_header_in is.1 ∙ header_known subject size callers (omega (arith, s))
-      (omega (arith, c)) is.0
+  on_line = cc (is.1, header_known subject size callers (omega (arith, s)) (omega (arith, c)) is.0)
 
   -- its numbers aren't within the limits
   pub out_of_bounds : ¬ (limits_of subject 1 size callers ≡ true) → None ≡ history_header_in line

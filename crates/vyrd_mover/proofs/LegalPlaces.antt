@@ -25,17 +25,10 @@ legal_place : (cells : Cells) (earlier xs : List Stamped) (i : ℕ) (d : Stamped
     (get_or xs i d)
 legal_place cells earlier [] i d legal low = absurd (omega arith)
 legal_place cells earlier (x ∷ xs) zero d legal low =
-    grind (
-      arith,
-      below_of x.caller cells.callers (second_true (x.number == length earlier) _
-          (first_true _ _ (first_true _ _ legal))),
-      second_true ((x.number == length earlier) && nat_lt
-          x.caller cells.callers) _ (first_true _ _ legal),
-    )
+    search (below_of, second_true, first_true, arith)
 legal_place cells earlier (x ∷ xs) (suc i) d legal low =
     let n : length (x ∷ earlier) + i ≡ length earlier + suc i = omega arith in
-    rw (← n)
-    (legal_place cells (x ∷ earlier) xs i d
+    rw (← n) (legal_place cells (x ∷ earlier) xs i d
     (second_true (is_legal_at cells (record { earlier = earlier; here = x; later = xs })) _ legal)
     (omega arith))
 

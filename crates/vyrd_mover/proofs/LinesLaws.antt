@@ -100,10 +100,7 @@ pub first_taken : (l : Lines) (events : Events) (line bytes : List ℕ) → l.fa
     → HaveReadOn events.ledger events.checker (first_read line)
     → IsAt (record { line = 2; events = Some events; ended = l.ended; fault = l.fault })
     (bytes ++ (line ++ 10 ∷ []))
-first_taken l events line bytes fine first at lack have =
-    subst (λ f. IsAtBy 2 (Some events) l.ended f (bytes ++ (line ++ 10 ∷ []))) (sym fine)
-    (subst (λ d. Follows 2 events d (bytes ++ (line ++ 10 ∷ []))) (sym begun.2)
-    (subst (λ xs. Follows 2 events false (xs ++ (line ++ 10 ∷ []))) (sym begun.0) follows))
+first_taken l events line bytes fine first at lack have = rw fine (rw begun.2 (rw begun.0 follows))
   where
     begun : (bytes ≡ []) × (l.line ≡ 1) × (l.ended ≡ false)
     begun = at_first l bytes fine first at
@@ -114,8 +111,9 @@ first_taken l events line bytes fine first at lack have =
         record {
           recorded = p.now;
           have = p.have;
-          read = λ rest. ap history_reading (append_assoc line (10 ∷ []) rest)
-              ∙ first_step line rest lack ∙ ap (after_first (cut rest)) p.is;
+          read = λ rest. ap history_reading
+              (append_assoc line (10 ∷ []) rest) ∙ first_step line rest lack
+              ∙ ap (after_first (cut rest)) p.is;
         }
 
 pub first_refused : (l : Lines) (fault : HistoryFault) (line bytes rest : List ℕ) → l.fault ≡ None
@@ -123,17 +121,12 @@ pub first_refused : (l : Lines) (fault : HistoryFault) (line bytes rest : List �
     → IsRefusedAt 1 fault (first_read line)
     → IsRefusal fault (history_reading ((bytes ++ (line ++ 10 ∷ [])) ++ rest))
 first_refused l fault line bytes rest fine first at lack is =
-    let begun = at_first l bytes fine first at in
-    subst (λ xs. IsRefusal fault (history_reading ((xs ++ (line ++ 10 ∷ [])) ++ rest)))
-    (sym begun.0)
-    (subst (λ text. IsRefusal fault (history_reading text)) (sym (append_assoc line (10 ∷ []) rest))
-    (refusal_first fault line rest lack is))
+    search (at_first, append_assoc, refusal_first, arith)
 
 -- where the rest stands after one more line
 pub line_and_rest : (bytes line rest : List ℕ) → (bytes ++ (line ++ 10 ∷ [])) ++ rest ≡ bytes
     ++ (line ++ 10 ∷ rest)
-line_and_rest bytes line rest =
-    cc (append_assoc bytes (line ++ 10 ∷ []) rest, append_assoc line (10 ∷ []) rest)
+line_and_rest bytes line rest = search (append_assoc, arith)
 
 pub later_taken : (n : ℕ) (e new : Events) (was_ended is_ended : Bool) (line bytes : List ℕ)
     → (f : Follows n e was_ended bytes)
@@ -157,10 +150,7 @@ later_refused n e was_ended fault line bytes rest f is = grind (arith, line_and_
 pub long_first : (l : Lines) (bytes more rest : List ℕ) → l.fault ≡ None → l.events ≡ None
     → IsAt l bytes → lacks 10 more ≡ true → 64 < length more
     → history_reading ((bytes ++ more) ++ rest) ≡ refused l.line (unless_too_many l.line BadHeader)
-long_first l bytes more rest fine first at lack long =
-    let begun = at_first l bytes fine first at in
-    ap (λ xs. history_reading ((xs ++ more) ++ rest)) begun.0 ∙ long_text more rest lack long
-    ∙ ap (λ n. refused n (unless_too_many n BadHeader)) (sym begun.1)
+long_first l bytes more rest fine first at lack long = search (at_first, long_text, refused, arith)
 
 some_byte : (more rest : List ℕ) → 64 < length more → ¬ (more ++ rest ≡ [])
 some_byte [] rest long e = absurd (omega (arith, long))
@@ -170,8 +160,7 @@ long_rest : (r : Recorded) (n : ℕ) (is_ended : Bool) (more rest : List ℕ) �
     → 64 < length more
     → rest_read r n is_ended (cut (more ++ rest))
     ≡ refused n (unless_too_many n (cond is_ended AfterEnd BadLine))
-long_rest r n true more rest lack long = more_after r n (more ++ rest) (some_byte more rest long)
-long_rest r n false more rest lack long = long_line r n more rest lack long
+long_rest r n is_ended more rest lack long = search (more_after, some_byte, long_line, arith)
 
 pub long_later : (l : Lines) (e : Events) (bytes more rest : List ℕ) → l.fault ≡ None → l.events
     ≡ Some e → IsAt l bytes → lacks 10 more ≡ true
@@ -184,16 +173,14 @@ long_later l e bytes more rest fine later at lack long =
 pub ends_first : (l : Lines) (bytes unfinished : List ℕ) → l.fault ≡ None → l.events ≡ None
     → IsAt l bytes → lacks 10 unfinished ≡ true
     → history_reading (bytes ++ unfinished) ≡ refused 1 (unfinished_rule 1 BadHeader unfinished)
-ends_first l bytes unfinished fine first at lack =
-    cc ((at_first l bytes fine first at).0, first_last unfinished lack)
+ends_first l bytes unfinished fine first at lack = search (at_first, first_last, arith)
 
 -- or before the line `end`
 pub ends_later : (l : Lines) (e : Events) (bytes unfinished : List ℕ) → l.fault ≡ None → l.events
     ≡ Some e → l.ended ≡ false → IsAt l bytes
     → lacks 10 unfinished ≡ true → history_reading (bytes ++ unfinished) ≡ refused l.line
     (unfinished_rule l.line BadLine unfinished)
-ends_later l e bytes unfinished fine later d at lack =
-    grind (arith, unfinished, at_later, lines_last)
+ends_later l e bytes unfinished fine later d at lack = search (at_later, lines_last, arith)
 
 -- the value of an option that has one
 pub record TheValue {A : Type 0} (o : Option A) : Type 0 where
@@ -201,5 +188,4 @@ pub record TheValue {A : Type 0} (o : Option A) : Type 0 where
   pub is : o ≡ Some value
 
 pub value_of : {A : Type 0} (o : Option A) → is_some o ≡ true → TheValue o
-value_of None e = absurd (cc)
-value_of (Some x) e = record { value = x; is = refl }
+value_of o e = search arith

@@ -52,16 +52,13 @@ with_same words lock within =
 pub with_other : (words : List ℕ) (lock other : ℕ) → lock ≢ other → lock / 64 < length words
     → has_lock (with_lock words lock) other ≡ has_lock words other
 unfolding has_lock with_lock
-with_other words lock other ne within =
-    ap (λ b. b == 1)
+with_other words lock other ne within = ap (λ b. b == 1)
     (other_lock words lock other (bit_or (get_or words (lock / 64) 0) (mask_of lock)) ne within
-    (λ i low apart. bit_at_set_other w64 (get_or words (lock / 64) 0) (lock % 64)
-    (omega arith) i apart))
+    (λ i low apart. bit_at_set_other w64 _ (lock % 64) (omega arith) i apart))
 
 pub length-with_lock : (words : List ℕ) (lock : ℕ) → length (with_lock words lock) ≡ length words
 unfolding with_lock
-length-with_lock words lock = length-set words (lock / 64)
-    (bit_or (get_or words (lock / 64) 0) (mask_of lock))
+length-with_lock words lock = length-set _ _ _
 
 pub without_same : (words : List ℕ) (lock : ℕ) → lock / 64 < length words
     → has_lock (without_lock words lock) lock ≡ false
@@ -76,18 +73,14 @@ without_same words lock within =
 pub without_other : (words : List ℕ) (lock other : ℕ) → lock ≢ other → lock / 64 < length words
     → has_lock (without_lock words lock) other ≡ has_lock words other
 unfolding has_lock without_lock
-without_other words lock other ne within =
-    ap (λ b. b == 1)
-    (other_lock words lock other (bit_and (get_or words (lock / 64) 0) (bit_not w64 (mask_of lock)))
-    ne within
-    (λ i low apart. bit_at_clear_other w64 (get_or words (lock / 64) 0) (lock % 64)
-    (omega arith) i low apart))
+without_other words lock other ne within = ap (λ b. b == 1)
+    (other_lock words lock other (bit_and _ _) ne within
+    (λ i low apart. bit_at_clear_other w64 _ (lock % 64) (omega arith) i low apart))
 
 pub length-without_lock : (words : List ℕ) (lock : ℕ) → length (without_lock words lock)
     ≡ length words
 unfolding without_lock
-length-without_lock words lock = length-set words (lock / 64)
-    (bit_and (get_or words (lock / 64) 0) (bit_not w64 (mask_of lock)))
+length-without_lock words lock = length-set _ _ _
 
 -- the lower of two bits is 1 where both are
 both_bits : (a b : ℕ) → a < 2 → b < 2 → (min a b == 1) ≡ ((a == 1) && (b == 1))
@@ -134,12 +127,11 @@ pub met_more : (words others items : List ℕ) (n : ℕ) → IsMet words others 
     → IsMet words others (set items n (bit_and (get_or items n 0) (get_or others n 0))) (n + 1)
 met_more words others items n is low =
     record {
-      size = length-set items n (bit_and (get_or items n 0) (get_or others n 0)) ∙ is.size;
+      size = length-set _ n _ ∙ is.size;
       met = λ place below. go place below (place == n) refl;
       rest = λ place least.
           let ne : place ≢ n = omega arith in
-          get_or-set_other items n place (bit_and (get_or items n 0) (get_or others n 0)) 0 ne
-          ∙ is.rest place (omega arith);
+          get_or-set_other _ n _ _ 0 ne ∙ is.rest _ (omega arith);
     }
   where
     go : (place : ℕ) → place < n + 1 → (b : Bool) → (place == n) ≡ b
@@ -148,8 +140,8 @@ met_more words others items n is low =
     go place below true h =
         cc (
           same_of place n h,
-          get_or-set_same items n (bit_and (get_or items n 0) (get_or others n
-              0)) 0 (omega (arith, is.size)),
+          get_or-set_same items n
+              (bit_and (get_or items n 0) (get_or others n 0)) 0 (omega (arith, is.size)),
           is.rest n (omega arith),
         )
     go place below false h = search (apart_of, get_or-set_other, arith)
@@ -157,28 +149,21 @@ met_more words others items n is low =
 pub met_all : (words others items : List ℕ) (n : ℕ) → IsMet words others items n → length words ≤ n
     → items ≡ in_both words others
 unfolding in_both
-met_all words others items n is all =
-    fill_by_all (λ place. bit_and (get_or words place 0) (get_or others place 0)) items
-    (length words) 0 is.size (λ k low. is.met k (omega arith))
+met_all words others items n is all = fill_by_all _ _ _ 0 is.size (λ k low. is.met k (omega arith))
 
 -- a set whose words are 0
 pub has_none : (words : List ℕ) → ((place : ℕ) → place < length words → get_or words place 0 ≡ 0)
     → (lock : ℕ) → has_lock words lock ≡ false
 unfolding has_lock
-has_none words zeros lock = go (nat_lt (lock / 64) (length words)) refl
+has_none words zeros lock = go (nat_lt _ _) refl
   where
     go : (b : Bool) → nat_lt (lock / 64) (length words) ≡ b → has_lock words lock ≡ false
-    go true h = ap (λ w. bit_at w (lock % 64) == 1) (zeros (lock / 64) (below_of _ _ h))
-        ∙ ap (λ b. b == 1) (bit_at-zero (lock % 64))
-    go false h = ap (λ w. bit_at w (lock % 64) == 1)
-        (get_or_past words (lock / 64) 0 (not_below_of _ _ h))
-        ∙ ap (λ b. b == 1) (bit_at-zero (lock % 64))
+    go true h = cc (zeros (lock / 64) (below_of _ _ h), bit_at-zero (lock % 64))
+    go false h = cc (get_or_past words (lock / 64) 0 (not_below_of _ _ h), bit_at-zero (lock % 64))
 
 pub has_none_of_zeros : (n lock : ℕ) → has_lock (replicate n 0) lock ≡ false
-has_none_of_zeros n lock =
-    has_none (replicate n 0)
-    (λ place low. get_or-replicate n place 0 0 (subst (λ k. place < k) (length-replicate n 0) low))
-    lock
+has_none_of_zeros n lock = has_none _
+    (λ place low. get_or-replicate n _ 0 0 (subst (λ k. place < k) (length-replicate n 0) low)) _
 
 bit_is_0 : (b : ℕ) → b < 2 → (b == 1) ≡ false → b ≡ 0
 bit_is_0 b low e = let ne = apart_of b 1 e in omega arith

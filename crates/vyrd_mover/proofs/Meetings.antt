@@ -20,18 +20,8 @@ use Rattle.vyrd_mover.proofs.FreeCells.{Free, alone, unwritten, guarded}
 pub access_keeps : (cells : Cells) (m : ℕ → ℕ) (caller cell lock : ℕ) (did : Did)
     → is_access_of cell did ≡ true → may cells m caller did ≡ true
     → is_lock cells lock ≡ true → changes lock did ≡ false
-access_keeps cells m caller cell lock (Read other value) access allowed kind = refl
-access_keeps cells m caller cell lock (Wrote other value) access allowed kind =
-    plain_isnt cells other lock (first_true _ _ allowed) kind
-access_keeps cells m caller cell lock (Took other) access allowed kind = refl_of access
-  where
-    refl_of : false ≡ true → changes lock (Took other) ≡ false
-    refl_of e = cc
-access_keeps cells m caller cell lock (Gave other) access allowed kind = refl_of access
-  where
-    refl_of : false ≡ true → changes lock (Gave other) ≡ false
-    refl_of e = cc
-access_keeps cells m caller cell lock (Marked kind_of) access allowed kind = refl
+access_keeps cells m caller cell lock did access allowed kind = search
+    (plain_isnt, first_true, changes, arith)
 
 -- two callers don't both use a race-free cell one after the other, where one of them writes it
 pub no_clash : (cells : Cells) (m : ℕ → ℕ) (a b : Stamped) (es : List Stamped) (cell : ℕ)
@@ -39,14 +29,8 @@ pub no_clash : (cells : Cells) (m : ℕ → ℕ) (a b : Stamped) (es : List Stam
     → may cells m a.caller a.did ≡ true → is_access_of cell a.did ≡ true → is_access_of cell b.did
     ≡ true
     → (is_write_to cell a.did || is_write_to cell b.did) ≡ true → ⊥
-no_clash cells m a b es cell (alone c low h) other allowed first second write = search arith
-no_clash cells m a b es cell (unwritten h) other allowed first second write = grind arith
-no_clash cells m a b es cell (guarded lock kind h) other allowed first second write =
-    let kept : step m a lock ≡ m lock = step_same m a lock
-    (access_keeps cells m a.caller cell lock a.did first allowed kind) in
-    let one : m lock ≡ a.caller + 1 = h.0 first in
-    let two : step m a lock ≡ b.caller + 1 = h.1.0 second in
-    other (omega arith)
+no_clash cells m a b es cell e6 other allowed first second write = search
+    (alone, unwritten, step, step_same, access_keeps, arith)
 
 -- an event of this caller
 abbrev event_by : ℕ → ℕ → Did → Stamped
@@ -81,20 +65,17 @@ given_value m x y e = ap (λ b. unwrap_or (cond b (Some 0) None) (m y)) e
 took_took : (cells : Cells) (m : ℕ → ℕ) (k c d x y cell : ℕ) → (x == cell) ≡ true → (y == cell)
     ≡ true
     → may cells (step m (event_by k c (Took x))) d (Took y) ≡ true → ⊥
-took_took cells m k c d x y cell ex ey allowed =
-    grind (arith, step, taken_value, both_at, same_of, second_true)
+took_took cells m k c d x y cell ex ey allowed = grind arith
 
 took_gave : (cells : Cells) (m : ℕ → ℕ) (k c d x y cell : ℕ) → c ≢ d → (x == cell) ≡ true
     → (y == cell) ≡ true
     → may cells (step m (event_by k c (Took x))) d (Gave y) ≡ true → ⊥
-took_gave cells m k c d x y cell other ex ey allowed =
-    grind (arith, step, taken_value, both_at, same_of, second_true)
+took_gave cells m k c d x y cell other ex ey allowed = grind arith
 
 gave_gave : (cells : Cells) (m : ℕ → ℕ) (k c d x y cell : ℕ) → (x == cell) ≡ true → (y == cell)
     ≡ true
     → may cells (step m (event_by k c (Gave x))) d (Gave y) ≡ true → ⊥
-gave_gave cells m k c d x y cell ex ey allowed =
-    grind (arith, step, given_value, both_at, same_of, second_true)
+gave_gave cells m k c d x y cell ex ey allowed = grind arith
 
 pub never : false ≡ true → ⊥
 never e = cc
@@ -110,17 +91,7 @@ meet : (cells : Cells) (m : ℕ → ℕ) (free : ℕ → Bool) (k c d cell : ℕ
     → touches cell da ≡ true → touches cell db ≡ true → (changes cell da || changes cell db) ≡ true
     → ⊥
 meet cells m free k c d cell da db other first second move clash ta tb ch =
-    grind (
-      arith,
-      free,
-      never,
-      free_cell,
-      plain_or_lock,
-      first_true,
-      took_took,
-      took_gave,
-      gave_gave,
-    )
+    search (never, free_cell, plain_or_lock, first_true, took_took, took_gave, gave_gave, arith)
 
 -- if one of the two changes a cell, the other doesn't touch it
 pub record Apart (a b : Did) : Type 0 where

@@ -20,9 +20,8 @@ pub nothing_unfinished : (l : Lines) (s : ReaderState) (before more : List ℕ)
 nothing_unfinished l s before more read at =
     record {
       whole = before ++ more;
-      parted = sym (append-nil (before ++ more));
-      at = subst (IsAt l) (sym (append_assoc read.whole s.unfinished more)
-          ∙ ap (λ xs. xs ++ more) (sym read.parted)) at;
+      parted = sym (append-nil _);
+      at = subst (IsAt l) (cc (append_assoc read.whole s.unfinished more, read.parted)) at;
       one_line = refl;
       short = omega arith;
     }
@@ -31,9 +30,7 @@ nothing_unfinished l s before more read at =
 pub whole_line : (l : Lines) (s : ReaderState) (before line : List ℕ) → (read : HasRead s before)
     → s.unfinished ≡ [] → IsAt l (read.whole ++ line)
     → HasRead (record { lines = l; unfinished = [] }) (before ++ line)
-whole_line l s before line read none at =
-    nothing_unfinished l s before line read
-    (subst (λ xs. IsAt l (read.whole ++ (xs ++ line))) (sym none) at)
+whole_line l s before line read none at = nothing_unfinished l s before line read (rw none at)
 
 -- more of the unfinished line
 pub more_unfinished : (s : ReaderState) (unfinished before more : List ℕ) → HasRead s before
@@ -43,10 +40,9 @@ pub more_unfinished : (s : ReaderState) (unfinished before more : List ℕ) → 
 more_unfinished s unfinished before more read is lack short =
     record {
       whole = read.whole;
-      parted = ap (λ xs. xs ++ more) read.parted ∙ append_assoc read.whole s.unfinished more
-          ∙ ap (λ xs. read.whole ++ xs) (sym is);
+      parted = cc (read.parted, append_assoc read.whole s.unfinished more);
       at = read.at;
-      one_line = ap (lacks 10) is ∙ lacks-append 10 s.unfinished more read.one_line lack;
+      one_line = ap (lacks _) is ∙ lacks-append 10 s.unfinished more read.one_line lack;
       short = short;
     }
 
@@ -58,12 +54,7 @@ fed_nothing s bytes piece read = grind (arith, append-nil bytes)
 pub fed_line : (s new : ReaderState) (bytes piece rest line next : List ℕ)
     → (fed : IsFedTo s bytes piece rest) → rest ≡ line ++ 10 ∷ next
     → HasRead new ((bytes ++ fed.front) ++ (line ++ 10 ∷ [])) → IsFedTo new bytes piece next
-fed_line s new bytes piece rest line next fed is read = record {
-  front = fed.front ++ (line ++ 10 ∷ []);
-  parted = fed.parted ∙ ap (λ xs. fed.front ++ xs) (is ∙ sym (append_assoc line (10 ∷ []) next))
-      ∙ sym (append_assoc fed.front (line ++ 10 ∷ []) next);
-  read = subst (HasRead new) (append_assoc bytes fed.front (line ++ 10 ∷ [])) read;
-}
+fed_line s new bytes piece rest line next fed is read = search (append_assoc, arith)
 
 pub fed_all : (s new : ReaderState) (bytes piece rest : List ℕ) → (fed : IsFedTo s bytes piece rest)
     → HasRead new ((bytes ++ fed.front) ++ rest)
@@ -74,6 +65,5 @@ fed_all s new bytes piece rest fed read = grind (arith, fed, read, append_assoc)
 pub gathered_of : (bytes : List ℕ) (r : Recorded) (n : ℕ) → history_reading bytes ≡ Ok r
     → AreBlocksOf (history_reading bytes) (Reducible n)
     → EachIsGathered (cells_of r.header) r.history
-gathered_of bytes r n read are =
-    each_is_gathered (cells_of r.header) r.history n ((reading_sound bytes r read).limits.legal)
+gathered_of bytes r n read are = each_is_gathered _ _ n ((reading_sound bytes r read).limits.legal)
     (sym (subst (λ reading. AreBlocksOf reading (Reducible n)) read are))

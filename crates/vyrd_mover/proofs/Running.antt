@@ -57,14 +57,11 @@ legal_runs_after cells earlier [] e = tt
 legal_runs_after cells earlier (x ∷ xs) e =
     let here : is_legal_at cells (record { earlier = earlier; here = x; later = xs })
     ≡ true = first_true _ _ e in (
-      second_true (x.number == length earlier) _
-          (first_true (x.number == length earlier && nat_lt x.caller cells.callers) _ here),
-      sym (may_is cells earlier x.caller x.did)
-          ∙ second_true (x.number == length earlier && nat_lt x.caller cells.callers) _ here,
-      subst (λ m. Runs cells m xs) (value_step x earlier)
-          (legal_runs_after cells (x ∷ earlier) xs
-          (second_true (is_legal_at cells (record { earlier = earlier; here = x; later = xs })) _
-          e)),
+      second_true (x.number == length earlier) _ (first_true _ _ here),
+      sym
+          (may_is cells earlier x.caller x.did) ∙ second_true (x.number == length _ && nat_lt _ _) _
+          here,
+      rw (← value_step x earlier) (legal_runs_after cells (x ∷ earlier) xs (second_true _ _ e)),
     )
 
 -- a legal history runs from the memory of zeros
@@ -78,14 +75,13 @@ pub runs_legal_after : (cells : Cells) (k : ℕ) (earlier xs : List Stamped) →
     → list_all (is_legal_at cells) (places_after earlier (numbered_from k xs)) ≡ true
 runs_legal_after cells k earlier [] e r = refl
 runs_legal_after cells k earlier (x ∷ xs) e r =
-    let x' : Stamped = record { number = k; caller = x.caller; did = x.did } in
+    let x' : Stamped = record x { number = k } in
     both_true (is_legal_at cells
     (record { earlier = earlier; here = x'; later = numbered_from (k + 1) xs })) _
-    (both_true (k == length earlier && nat_lt x.caller cells.callers) _
-    (both_true (k == length earlier) _ (is_same k (length earlier) e) r.0)
+    (both_true (k == length _ && nat_lt _ _) _ (both_true (k == length _) _ (is_same k _ e) r.0)
     (may_is cells earlier x.caller x.did ∙ r.1))
     (runs_legal_after cells (k + 1) (x' ∷ earlier) xs (add-one k ∙ ap suc e)
-    (subst (λ m. Runs cells m xs) (sym (value_step x' earlier)) r.2))
+    (rw (value_step x' earlier) r.2))
 
 -- what runs from the memory of zeros is legal, renumbered
 pub runs_legal : (cells : Cells) (xs : List Stamped) → Runs cells (value_in []) xs

@@ -55,25 +55,7 @@ guarded-push seen e cell lock =
 not_used : (cells : Cells) (seen : List Stamped) (cell : ℕ) (kept : Use) (e : Stamped)
     → is_access_of cell e.did ≡ false → is_write_to cell e.did ≡ false
     → IsUse cells seen cell kept → IsUse cells (seen ++ e ∷ []) cell kept
-not_used cells seen cell kept e no_access no_write is =
-    record {
-      alone = λ c. list_all-push (λ e. not (is_access_of cell e.did) || e.caller == c) seen e
-          ∙ ap (λ b. is_used_by_alone seen cell c && (not b || e.caller == c)) no_access
-          ∙ and-true (is_used_by_alone seen cell c) ∙ is.alone c;
-      user_below = is.user_below;
-      unwritten = list_all-push (λ e. not (is_write_to cell e.did)) seen e
-          ∙ ap (λ b. is_unwritten seen cell && not b) no_write
-          ∙ and-true (is_unwritten seen cell) ∙ is.unwritten;
-      unseen = λ u lock. still lock ∙ is.unseen u lock;
-      guards = λ u lock. is.guards u lock ∙ ap (λ b. nat_lt lock cells.locks && b)
-          (sym (still (cells.plain + lock)));
-    }
-  where
-    still : (lock : ℕ) → is_guarded_by (seen ++ e ∷ []) cell lock ≡ is_guarded_by seen cell lock
-    still lock = guarded-push seen e cell lock
-        ∙ ap (λ b. is_guarded_by seen cell lock
-        && (not b || value_in (newest_first seen) lock == e.caller + 1)) no_access
-        ∙ and-true (is_guarded_by seen cell lock)
+not_used cells seen cell kept e no_access no_write is = search (list_all-push, guarded-push, arith)
 
 joined_alone : (users : Users) (caller c : ℕ) → may_be_alone (joined users caller) c
     ≡ (may_be_alone users c && caller == c)
@@ -88,12 +70,10 @@ joined_below : (users : Users) (caller callers user : ℕ) → ((u : ℕ) → us
 joined_below users caller callers user below low e = grind (arith, below)
 
 not_or : (a b : Bool) → (not a && not b) ≡ not (a || b)
-not_or true b = refl
-not_or false b = refl
+not_or a b = search arith
 
 both_after : (t a b : Bool) → ((t && a) && (t && b)) ≡ (t && (a && b))
-both_after true a b = refl
-both_after false a b = refl
+both_after t a b = search arith
 
 -- an event that uses the cell
 used_more : (cells : Cells) (seen : List Stamped) (cell : ℕ) (kept : Use) (held : List ℕ)
@@ -144,10 +124,7 @@ value_push seen e lock = grind (arith, newest_first-push seen e)
 holds_still : (cells : Cells) (seen : List Stamped) (e : Stamped) (caller : ℕ) (held : List ℕ)
     → ((lock : ℕ) → made_of (cells.plain + lock) e.caller e.did ≡ None)
     → HoldsSo cells seen caller held → HoldsSo cells (seen ++ e ∷ []) caller held
-holds_still cells seen e caller held still is = record {
-  room = is.room;
-  holds = λ lock. cc (is.holds lock, value_push seen e (cells.plain + lock), still lock);
-}
+holds_still cells seen e caller held still is = search (value_push, arith)
 
 -- the cell of an access, and another cell
 use_here : (cells : Cells) (seen : List Stamped) (all : UsageKept) (e : Stamped) (other cell : ℕ)
@@ -192,12 +169,9 @@ with_access : (cells : Cells) (seen : List Stamped) (all : UsageKept) (e : Stamp
 with_access cells seen all e other is_write have access write still low fits =
     record {
       all_held = have.all_held;
-      all_cells = length-set all.cells other
-          (used_by (held_by all e.caller) e.caller is_write (get_or all.cells other unused))
-          ∙ have.all_cells;
-      held = λ caller below d. holds_still cells seen e caller _ still (have.held caller below d);
-      uses = λ cell inside d. use_here cells seen all e other cell is_write have access write low
-          fits inside d;
+      all_cells = length-set _ _ _ ∙ have.all_cells;
+      held = λ caller below d. holds_still _ _ e _ _ still (have.held _ below d);
+      uses = λ cell inside d. use_here _ _ _ e _ _ _ have access write low fits inside d;
     }
 
 -- an event that makes this value of this lock, and of no other
@@ -295,8 +269,7 @@ with_locks cells seen all e other value changed have no_access no_write makes lo
         → HoldsSo cells (seen ++ e ∷ []) caller (get_or (set all.held e.caller changed) caller d)
     at caller below d true h =
         let within : e.caller < length all.held = omega (arith, have.all_held) in
-        subst (λ c. HoldsSo cells (seen ++ e ∷ []) c (get_or (set all.held e.caller changed) c d))
-        (same_of _ _ h)
+        rw (← same_of _ _ h)
         (subst (HoldsSo cells (seen ++ e ∷ []) e.caller)
         (sym (get_or-set_same all.held e.caller changed d within))
         (own_locks cells seen e other value (held_by all e.caller) changed makes size own others
@@ -332,17 +305,15 @@ with_taken cells seen all k c lock have low may =
     let kind = first_true (is_lock cells lock) _ may in
     let free : value_in (newest_first seen) lock ≡ 0 = same_of _ 0
     (second_true (is_lock cells lock) _ may) in
-    let least = at_most_of cells.plain lock (first_true (nat_le cells.plain lock) _ kind) in
-    let most = below_of lock (cells.plain + cells.locks)
-    (second_true (nat_le cells.plain lock) _ kind) in
-    let place = has_place cells seen all c lock have low least most in
+    let least = at_most_of _ _ (first_true _ _ kind) in
+    let most = below_of _ _ (second_true (nat_le _ _) _ kind) in
+    let place = has_place cells seen all c _ have low least most in
     let makes : Makes cells (record { number = k; caller = c; did = Took lock }) lock (c + 1) =
     record { made = λ l. refl; least = least; most = most } in
     rw have.all_cells
     (with_locks cells seen all (record { number = k; caller = c; did = Took lock }) lock (c + 1)
     (with_lock (held_by all c) (lock - cells.plain)) have (λ x. refl) (λ x. refl) makes low
-    (λ caller apart. cc (none_isnt caller))
-    (λ caller apart. next_isnt c caller apart)
+    (λ caller apart. cc (none_isnt caller)) (λ caller apart. next_isnt c caller apart)
     (length-with_lock (held_by all c) (lock - cells.plain))
     (with_same (held_by all c) (lock - cells.plain) place ∙ sym (same_number (c + 1)))
     (λ l ne. with_other (held_by all c) (lock - cells.plain) l ne place))
@@ -355,19 +326,17 @@ with_given : (cells : Cells) (seen : List Stamped) (all : UsageKept) (k c lock :
     (kept_after all c (Gave lock))
 with_given cells seen all k c lock have low may =
     let kind = first_true (is_lock cells lock) _ may in
-    let mine : value_in (newest_first seen) lock ≡ c + 1 = same_of _ (c + 1)
+    let mine : value_in (newest_first seen) lock ≡ c + 1 = same_of _ _
     (second_true (is_lock cells lock) _ may) in
-    let least = at_most_of cells.plain lock (first_true (nat_le cells.plain lock) _ kind) in
-    let most = below_of lock (cells.plain + cells.locks)
-    (second_true (nat_le cells.plain lock) _ kind) in
-    let place = has_place cells seen all c lock have low least most in
+    let least = at_most_of _ _ (first_true _ _ kind) in
+    let most = below_of _ _ (second_true (nat_le _ _) _ kind) in
+    let place = has_place cells seen all c _ have low least most in
     let makes : Makes cells (record { number = k; caller = c; did = Gave lock }) lock 0 =
     record { made = λ l. refl; least = least; most = most } in
     rw have.all_cells
     (with_locks cells seen all (record { number = k; caller = c; did = Gave lock }) lock 0
     (without_lock (held_by all c) (lock - cells.plain)) have (λ x. refl) (λ x. refl) makes low
-    (λ caller apart. cc (next_isnt c caller apart))
-    (λ caller apart. none_isnt caller)
+    (λ caller apart. cc (next_isnt c caller apart)) (λ caller apart. none_isnt caller)
     (length-without_lock (held_by all c) (lock - cells.plain))
     (without_same (held_by all c) (lock - cells.plain) place ∙ sym (none_isnt c))
     (λ l ne. without_other (held_by all c) (lock - cells.plain) l ne place))
@@ -385,8 +354,7 @@ step_by cells seen all k c (Read cell value) have low may =
     search (with_access, false_and, below_of, first_true, arith)
 step_by cells seen all k c (Wrote cell value) have low may =
     let plain = below_of cell cells.plain (first_true _ _ may) in
-    with_access cells seen all (record { number = k; caller = c; did = Wrote cell value }) cell true
-    have (λ c. refl) (λ c. sym (and-true (cell == c)))
+    with_access _ _ _ _ _ _ have (λ c. refl) (λ c. sym (and-true _))
     (λ lock. let apart : cell ≢ cells.plain + lock = omega arith in
     cc (isnt_same cell (cells.plain + lock) apart)) low plain
 step_by cells seen all k c (Took lock) have low may = search (with_taken, arith)
@@ -395,20 +363,15 @@ step_by cells seen all k c (Marked kind) have low may =
     record {
       all_held = have.all_held;
       all_cells = have.all_cells;
-      held = λ caller below d. holds_still cells seen
-          (record { number = k; caller = c; did = Marked kind }) caller _ (λ lock. refl)
-          (have.held caller below d);
-      uses = λ cell inside d. not_used cells seen cell (get_or all.cells cell d)
-          (record { number = k; caller = c; did = Marked kind }) refl refl
-          (have.uses cell inside d);
+      held = λ caller below d. holds_still _ _ _ _ _ (λ lock. refl) (have.held _ below d);
+      uses = λ cell inside d. not_used _ _ _ _ _ refl refl (have.uses _ inside d);
     }
 
 pub have_seen_more : (cells : Cells) (seen : List Stamped) (all : UsageKept) (e : Stamped)
     → HaveSeen cells seen all → e.caller < cells.callers
     → may_do cells (newest_first seen) e.caller e.did ≡ true → HaveSeen cells (seen ++ e ∷ [])
     (kept_after all e.caller e.did)
-have_seen_more cells seen all e have low may = step_by cells seen all e.number e.caller e.did have
-    low may
+have_seen_more cells seen all e have low may = step_by _ _ _ _ _ _ have low may
 
 nobody_yet : (cells : Cells) (cell : ℕ) → IsUse cells [] cell unused
 nobody_yet cells cell = grind arith
@@ -463,8 +426,8 @@ free_at_once cells seen cell kept some is e = go kept.users refl
         → ((list_any (is_used_by_alone seen cell) (numbers_below cells.callers)
         || is_unwritten seen cell) || list_any (is_guarded_by seen cell)
         (numbers_from cells.plain cells.locks)) ≡ true
-    by_caller user low e =
-        or_left (list_any (is_used_by_alone seen cell) (numbers_below cells.callers)
+    by_caller user low e = or_left
+        (list_any (is_used_by_alone seen cell) (numbers_below cells.callers)
         || is_unwritten seen cell) _
         (or_left (list_any (is_used_by_alone seen cell) (numbers_below cells.callers)) _
         (tells_any (is_used_by_alone seen cell) 0 cells.callers user (omega arith) (omega arith)
@@ -474,16 +437,9 @@ free_at_once cells seen cell kept some is e = go kept.users refl
         → ((list_any (is_used_by_alone seen cell) (numbers_below cells.callers)
         || is_unwritten seen cell) || list_any (is_guarded_by seen cell)
         (numbers_from cells.plain cells.locks)) ≡ true
-    go Nobody h = by_caller 0 some (ap (λ u. may_be_alone u 0) h)
-    go (One user) h = by_caller user (is.user_below user h)
-        (ap (λ u. may_be_alone u user) h ∙ same_number user)
-    go Many h =
-        let unwritten : not kept.written ≡ true = ap (λ u. not (is_shared u) || not kept.written)
-        (sym h) ∙ e in
-        or_left (list_any (is_used_by_alone seen cell) (numbers_below cells.callers)
-        || is_unwritten seen cell) _
-        (or_right (list_any (is_used_by_alone seen cell) (numbers_below cells.callers)) _
-        (is.unwritten ∙ unwritten))
+    go Nobody h = by_caller 0 some (cc)
+    go (One user) h = by_caller user (is.user_below user h) (cc (same_number user))
+    go Many h = grind arith
 
 -- another is so if some lock is left that may guard it
 pub free_by_locks : (cells : Cells) (seen : List Stamped) (cell : ℕ) (kept : Use) (empty : Bool)
@@ -503,8 +459,7 @@ free_by_locks cells seen cell kept empty is e none all = go kept.users refl
     unguarded h lock true l true g =
         let below = below_of lock cells.locks l in
         let found : list_any (is_guarded_by seen cell) (numbers_from cells.plain cells.locks)
-        ≡ true =
-        tells_any (is_guarded_by seen cell) cells.plain cells.locks (cells.plain + lock)
+        ≡ true = tells_any (is_guarded_by seen cell) cells.plain cells.locks (cells.plain + lock)
         (omega arith) (omega arith) g in
         cc
 
@@ -514,16 +469,10 @@ free_by_locks cells seen cell kept empty is e none all = go kept.users refl
         (numbers_from cells.plain cells.locks)
     guarded u true h false k = ap not k ∙ sym h
     guarded u false h true k = ap not k ∙ sym h
-    guarded u true h true k =
-        let apart : list_any (is_guarded_by seen cell) (numbers_from cells.plain cells.locks)
-        ≡ false =
-        none_of (is_guarded_by seen cell) cells.plain cells.locks
-        (λ lock low. ap (λ b. b && is_guarded_by seen cell (cells.plain + lock))
-        (sym (is_below lock cells.locks low)) ∙ sym (is.guards u lock) ∙ none k lock) in
-        cc
+    guarded u true h true k = search (none_of, is_below, arith)
     guarded u false h false k =
-        let is_empty : empty ≡ true = all (λ lock. is.guards u lock
-        ∙ unguarded h lock (nat_lt lock cells.locks) refl
+        let is_empty : empty
+        ≡ true = all (λ lock. is.guards u lock ∙ unguarded h lock (nat_lt lock cells.locks) refl
         (is_guarded_by seen cell (cells.plain + lock)) refl) in
         cc
 
@@ -531,17 +480,14 @@ free_by_locks cells seen cell kept empty is e none all = go kept.users refl
         → not empty ≡ ((list_any (is_used_by_alone seen cell) (numbers_below cells.callers)
         || is_unwritten seen cell) || list_any (is_guarded_by seen cell)
         (numbers_from cells.plain cells.locks))
-    go Nobody h = let no = ap (λ u. not (is_shared u) || not kept.written) (sym h)
-        ∙ e in absurd (cc)
-    go (One user) h = let no = ap (λ u. not (is_shared u) || not kept.written) (sym h)
-        ∙ e in absurd (cc)
+    go Nobody h = search arith
+    go (One user) h = search arith
     go Many h =
-        let written : not kept.written ≡ false = ap (λ u. not (is_shared u) || not kept.written)
-        (sym h) ∙ e in
+        let written : not kept.written ≡ false = cc in
         guarded (ap is_used h) _ refl empty refl
         ∙ ap (λ b. b || list_any (is_guarded_by seen cell) (numbers_from cells.plain cells.locks))
         (sym (is.unwritten ∙ written))
         ∙ ap (λ b. (b || is_unwritten seen cell) || list_any (is_guarded_by seen cell)
         (numbers_from cells.plain cells.locks))
         (sym (none_at_all (is_used_by_alone seen cell) (numbers_below cells.callers)
-        (λ c. is.alone c ∙ ap (λ u. may_be_alone u c) h)))
+        (λ c. cc (is.alone c))))

@@ -41,11 +41,10 @@ first_line (x ∷ text) = by_byte (x == 10) refl (first_line text)
   where
     one_more : (x == 10) ≡ false → FirstLine text → FirstLine (x ∷ text)
     one_more e (inl whole) = inl (both_true (not (x == 10)) _ (ap not e) whole)
-    one_more e (inr p) =
-        inr (x ∷ p.0, p.1, both_true (not (x == 10)) _ (ap not e) p.2, ap (λ ys. x ∷ ys) p.3)
+    one_more e (inr p) = inr (x ∷ p.0, p.1, both_true (not (x == 10)) _ (ap not e) p.2, cc p.3)
 
     by_byte : (b : Bool) → (x == 10) ≡ b → FirstLine text → FirstLine (x ∷ text)
-    by_byte true e rest = inr ([], text, refl, ap (λ y. y ∷ text) (same_of x 10 e))
+    by_byte true e rest = inr ([], text, refl, cc (same_of x 10 e))
     by_byte false e rest = one_more e rest
 
 -- a line of more than 64 bytes spells nothing
@@ -88,21 +87,18 @@ long_line r n line more lack long = by_line (first_line more)
         ≡ b
         → lines_read r n (cut ((line ++ next) ++ 10 ∷ rest))
         ≡ refused n (cond b TooManyLines BadLine)
-    by_limit next rest whole true e = too_many r n (line ++ next) rest whole (below_of 4000000 n e)
-    by_limit next rest whole false e =
-        let more_long = longer line next long in
-        line_found r n (line ++ next) rest whole (not_below_of 4000000 n e)
-        (long_isnt_end (line ++ next) more_long)
-        ∙ ap (λ o. then_lines n (cut rest) (event_read r o))
-        (long_event r.header.subject (length r.history) (line ++ next) more_long)
+    by_limit next rest whole b e = search
+        (too_many, below_of, longer, line_found, not_below_of, long_isnt_end, long_event, arith)
 
     by_line : FirstLine more → Bad (line ++ more)
-    by_line (inl whole) =
-        lines_last r n (line ++ more) (lacks-append 10 line more lack whole)
-        ∙ ap (refused n) (long_unfinished n BadLine (line ++ more) (longer line more long))
-    by_line (inr p) =
-        subst Bad (append_assoc line p.0 (10 ∷ p.1) ∙ ap (λ text. line ++ text) (sym p.3))
-        (by_limit p.0 p.1 (lacks-append 10 line p.0 lack p.2) (nat_lt 4000000 n) refl)
+    by_line (inl whole) = search (lines_last, lacks-append, refused, long_unfinished, longer, arith)
+    by_line (inr p) = grind (
+      arith,
+      append_assoc line p.0 (10 ∷ p.1),
+      p.3,
+      by_limit p.0 p.1
+          (lacks-append 10 line p.0 lack p.2) (nat_lt 4000000 n) refl,
+    )
 
 pub long_text : (line more : List ℕ) → lacks 10 line ≡ true → 64 < length line
     → history_reading (line ++ more) ≡ refused 1 BadHeader
@@ -138,11 +134,9 @@ lines_settled : (r : Recorded) (n : ℕ) (line todo more : List ℕ) → lacks 1
     → Settled r n (line ++ todo) more
 lines_settled r n line [] more lack low enough =
     let long : 64 < length line = omega (arith, enough, low, length-append line []) in
-    ap (λ text. lines_read r n (cut (text ++ more))) (append-nil line)
-    ∙ long_line r n line more lack long ∙ sym (long_line r n line [] lack long)
-lines_settled r n line (x ∷ todo) more lack low enough =
-    by_byte (λ u m begun lack low enough. lines_settled u m begun todo more lack low enough)
-    (x == 10) refl
+    cc (append-nil line, long_line r n line more lack long, long_line r n line [] lack long)
+lines_settled r n line (x ∷ todo) more lack low enough = by_byte
+    (λ u m begun lack low enough. lines_settled u m begun todo more lack low enough) (x == 10) refl
   where
     Rest : Type 0
     Rest = (u : Recorded) (m : ℕ) (begun : List ℕ) → lacks 10 begun ≡ true → m ≤ 4000001
@@ -200,16 +194,12 @@ lines_settled r n line (x ∷ todo) more lack low enough =
     by_byte : Rest → (b : Bool) → (x == 10) ≡ b → Settled r n (line ++ x ∷ todo) more
     by_byte rest true e =
         let feed = same_of x 10 e in
-        ap (λ text. lines_read r n (cut text)) (append_assoc line (x ∷ todo) more
-        ∙ ap (λ y. line ++ y ∷ (todo ++ more)) feed)
-        ∙ by_limit rest (nat_lt 4000000 n) refl
-        ∙ ap (λ y. lines_read r n (cut (line ++ y ∷ todo))) (sym feed)
+        cc (append_assoc line (x ∷ todo) more, by_limit rest (nat_lt 4000000 n) refl)
     by_byte rest false e =
         let whole = append_assoc line (x ∷ []) todo in
         let lack_more : lacks 10 (line ++ x ∷ []) ≡ true = lacks-append 10 line (x ∷ []) lack
         (both_true (not (x == 10)) _ (ap not e) refl) in
-        subst (λ text. Settled r n text more) whole
-        (rest r n (line ++ x ∷ []) lack_more low (subst (Enough n) (sym whole) enough))
+        rw (← whole) (rest r n (line ++ x ∷ []) lack_more low (subst (Enough n) (sym whole) enough))
 
 -- the bytes `line`, which have no line feed, begin the text
 text_settled : (line todo more : List ℕ) → lacks 10 line ≡ true → longest_history
@@ -217,8 +207,7 @@ text_settled : (line todo more : List ℕ) → lacks 10 line ≡ true → longes
     → history_reading ((line ++ todo) ++ more) ≡ history_reading (line ++ todo)
 text_settled line [] more lack enough =
     let long : 64 < length line = omega (arith, enough, length-append line []) in
-    ap (λ text. history_reading (text ++ more)) (append-nil line) ∙ long_text line more lack long
-    ∙ sym (long_text line [] lack long)
+    cc (append-nil line, long_text line more lack long, long_text line [] lack long)
 text_settled line (x ∷ todo) more lack enough = by_byte
     (λ begun lack enough. text_settled begun todo more lack enough) (x == 10) refl
   where
@@ -240,19 +229,18 @@ text_settled line (x ∷ todo) more lack enough = by_byte
         ≡ history_reading (line ++ x ∷ todo)
     by_byte rest true e =
         let feed = same_of x 10 e in
-        ap history_reading (append_assoc line (x ∷ todo) more
-        ∙ ap (λ y. line ++ y ∷ (todo ++ more)) feed)
-        ∙ first_step line (todo ++ more) lack
-        ∙ by_header (history_header_in line) refl
-        ∙ sym (first_step line todo lack)
-        ∙ ap (λ y. history_reading (line ++ y ∷ todo)) (sym feed)
+        cc (
+          append_assoc line (x ∷ todo) more,
+          first_step line (todo ++ more) lack,
+          by_header
+              (history_header_in line) refl,
+          first_step line todo lack,
+        )
     by_byte rest false e =
         let whole = append_assoc line (x ∷ []) todo in
         let lack_more : lacks 10 (line ++ x ∷ []) ≡ true = lacks-append 10 line (x ∷ []) lack
         (both_true (not (x == 10)) _ (ap not e) refl) in
-        subst (λ text. history_reading (text ++ more) ≡ history_reading text) whole
-        (rest (line ++ x ∷ []) lack_more
-        (subst (λ text. longest_history ≤ length text) (sym whole) enough))
+        rw (← whole) (rest (line ++ x ∷ []) lack_more (rw whole enough))
 
 -- what that many bytes say doesn't change with more bytes
 pub reading_settled : (bytes more : List ℕ) → longest_history ≤ length bytes

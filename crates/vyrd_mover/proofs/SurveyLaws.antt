@@ -83,8 +83,7 @@ acted : (free : ℕ → Bool) (e : Stamped) (later : List Stamped) (s : Surveyed
     → (e.caller < length s.ahead → new ≡ ahead_of free e.caller (e ∷ later))
     → e.caller < length s.ahead
     → HasSurveyed free (e ∷ later) (with_ahead s e.caller new)
-acted free e later s new no_open is new_is low =
-    grind (arith, ahead_set free e later s.ahead new is.ahead (new_is low), is.few)
+acted free e later s new no_open is new_is low = search (ahead_set, arith)
 
 -- one more mark that opens and ends no block
 marked : (free : ℕ → Bool) (e : Stamped) (later : List Stamped) (s : Surveyed) → is_block_open e.did
@@ -98,8 +97,7 @@ count_opened : (free : ℕ → Bool) (e : Stamped) (s : Surveyed) (a : Option Ah
     → a ≡ option_map (keep free e.caller) o → s.blocks ≡ length rest
     → (opened_before s (line_of e) a).blocks
     ≡ length (cons_option (option_map (events_of e.caller) o) rest)
-count_opened free e s a None rest h count = cc
-count_opened free e s a (Some es) rest h count = grind arith
+count_opened free e s a o rest h count = search arith
 
 broken_opened : (free : ℕ → Bool) (e : Stamped) (s : Surveyed) (a : Option Ahead)
     (o : Option (List Stamped)) (rest : Option (ℕ × ℕ))
@@ -110,44 +108,18 @@ broken_opened free e s a o rest h same = grind (arith, free, broken_lines_is)
 
 few_opened : (line : ℕ) (s : Surveyed) (a : Option Ahead) (n : ℕ) → s.blocks ≤ n
     → (opened_before s line a).blocks ≤ suc n
-few_opened line s None n low = omega arith
-few_opened line s (Some a) n low = omega arith
+few_opened line s a n low = search arith
 
 same_ahead : (line : ℕ) (s : Surveyed) (a : Option Ahead) → (opened_before s line a).ahead ≡ s.ahead
-same_ahead line s None = refl
-same_ahead line s (Some a) = refl
+same_ahead line s a = search arith
 
 -- one more block
 opened : (free : ℕ → Bool) (e : Stamped) (later : List Stamped) (s : Surveyed) → is_block_open e.did
     ≡ true → is_block_end e.did ≡ false
     → is_mark e.did ≡ true → HasSurveyed free later s → e.caller < length s.ahead
     → HasSurveyed free (e ∷ later) (opened_before s (line_of e) (ahead_at s e.caller))
-opened free e later s open_mark no_end mark is low =
-    record {
-      ahead = λ c low_c. ap (λ xs. get_or xs c None)
-          (same_ahead (line_of e) s (ahead_at s e.caller))
-          ∙ is.ahead c
-          (rw (← same_ahead (line_of e) s (ahead_at s e.caller)) low_c)
-          ∙ sym (ahead_skip free c e later
-          (cc (and-false (e.caller == c)))
-          (cc (and-false (e.caller == c))));
-      blocks = λ earlier. count_opened free e s (ahead_at s e.caller) (up_to_end e.caller later)
-          (filter_map block_at (places_after (e ∷ earlier) later)) known (is.blocks (e ∷ earlier))
-          ∙ sym (cc (block earlier));
-      few = few_opened (line_of e) s (ahead_at s e.caller) (length later) is.few;
-      broken = λ earlier. broken_opened free e s (ahead_at s e.caller) (up_to_end e.caller later)
-          (first_answer (broken_at free) (places_after (e ∷ earlier) later)) known
-          (is.broken (e ∷ earlier))
-          ∙ sym (cc (block earlier));
-    }
-  where
-    known : ahead_at s e.caller ≡ option_map (keep free e.caller) (up_to_end e.caller later)
-    known = is.ahead e.caller low
-
-    block : (earlier : List Stamped)
-        → block_at (record { earlier = earlier; here = e; later = later })
-        ≡ option_map (events_of e.caller) (up_to_end e.caller later)
-    block earlier = cc
+opened free e later s open_mark no_end mark is low = search
+    (same_ahead, ahead_skip, count_opened, few_opened, broken_opened, arith)
 
 -- an event, by what it does
 abbrev stamp : ℕ → ℕ → Did → Stamped
@@ -162,20 +134,17 @@ act_by : (free : ℕ → Bool) (e : Stamped) (later : List Stamped) (s : Surveye
     (option_map (with_line (line_of e) (is_left_mover free e) (is_right_mover free e))
     (ahead_at s e.caller)))
 act_by free e later s no_mark no_open no_end is low =
-    acted free e later s _ no_open is
-    (λ l. ap (option_map (with_line (line_of e) (is_left_mover free e) (is_right_mover free e)))
-    (is.ahead e.caller l)
-    ∙ sym (ahead_act free e.caller e later (cc (and-false (e.caller == e.caller)))
-    (cc (same_number e.caller)))) low
+    acted _ e _ s _ no_open is (λ l. ap (option_map _) (is.ahead _ l)
+    ∙ sym (ahead_act _ _ e _ (cc (and-false (e.caller == e.caller))) (cc (same_number e.caller))))
+    low
 
 end_by : (free : ℕ → Bool) (e : Stamped) (later : List Stamped) (s : Surveyed) → is_mark e.did
     ≡ true → is_block_open e.did ≡ false
     → is_block_end e.did ≡ true → HasSurveyed free later s → e.caller < length s.ahead
     → HasSurveyed free (e ∷ later) (with_ahead s e.caller (Some (kept_of free [])))
-end_by free e later s mark no_open end is low =
-    acted free e later s _ no_open is (λ l. sym (ahead_end free e.caller e later
-    (ap (λ b. (e.caller == e.caller) && b) end ∙ ap (λ b. b && true) (same_number e.caller))
-    (ap (λ b. (e.caller == e.caller) && not b) mark ∙ and-false (e.caller == e.caller)))) low
+end_by free e later s mark no_open end is low = acted _ e _ s _ no_open is
+    (λ l. sym (ahead_end _ _ e _ (cc (same_number e.caller))
+    (cc (and-false (e.caller == e.caller))))) low
 
 step_by : (free : ℕ → Bool) (k c : ℕ) (did : Did) (later : List Stamped) (s : Surveyed)
     → HasSurveyed free later s → c < length s.ahead
@@ -227,5 +196,4 @@ survey_begins free callers = search (free, length-replicate, surveyed_nothing, a
 pub survey_goes_on : (free : ℕ → Bool) (callers : ℕ) (e : Stamped) (later : List Stamped)
     (s : Surveyed) → IsSurvey free callers later s → e.caller < callers
     → IsSurvey free callers (e ∷ later) (preceded_by free s (line_of e) e.caller (role_of e.did))
-survey_goes_on free callers e later s is low =
-    grind (arith, free, preceded_callers, surveyed_before)
+survey_goes_on free callers e later s is low = search (preceded_callers, surveyed_before, arith)

@@ -53,8 +53,7 @@ kept_value : (cells : Cells) (m : ℕ → ℕ) (k c d lock : ℕ) (did : Did) �
     ≡ true → may cells m d did ≡ true
     → (m lock ≡ c + 1) ⊎ (unwrap_or (made_of lock d did) (m lock) ≡ c + 1) → changes lock did
     ≡ false
-kept_value cells m k c d lock did other kind allowed held =
-    grind (arith, held, plain_isnt, first_true, same_of, second_true, taken_value, given_value)
+kept_value cells m k c d lock did other kind allowed held = grind arith
 
 held_after : (cells : Cells) (m : ℕ → ℕ) (c lock : ℕ) (e : Stamped) → c ≢ e.caller
     → is_lock cells lock ≡ true → may cells m e.caller e.did ≡ true
@@ -108,9 +107,8 @@ apart_within : (cells : Cells) (m : ℕ → ℕ) (free : ℕ → Bool) (before :
     → Runs cells m (before ++ a ∷ b ∷ es) → Apart a.did b.did
 apart_within cells m free [] a b es other move frees r = apart cells m free a b es other r.1 r.2.1
     move frees
-apart_within cells m free (x ∷ before) a b es other move frees r =
-    apart_within cells (step m x) free before a b es other move
-    (λ cell e. free_later cells m x _ cell (frees cell e)) r.2
+apart_within cells m free (x ∷ before) a b es other move frees r = apart_within cells
+    (step m x) free before a b es other move (λ cell e. free_later _ m x _ _ (frees _ e)) r.2
 
 runs_within : (cells : Cells) (m : ℕ → ℕ) (before : List Stamped) (a b : Stamped)
     (es : List Stamped) → Apart a.did b.did

@@ -37,16 +37,7 @@ taken_nothing h uses held cells = record {
 pub may_come : (h : Header) (history : List Stamped) (e : Stamped) → IsNext h history e
     → MayCome (cells_of h) (newest_first history) (length history) e
 may_come h history e legal =
-    let both = first_true (e.number == length (newest_first history) && nat_lt e.caller h.callers) _
-    legal in
-    record {
-      numbered = same_of e.number (length (newest_first history)) (first_true _ _ both)
-          ∙ length-newest_first history;
-      caller = below_of e.caller h.callers
-          (second_true (e.number == length (newest_first history)) _ both);
-      may = second_true (e.number == length (newest_first history) && nat_lt e.caller h.callers) _
-          legal;
-    }
+    search (first_true, same_of, length-newest_first, below_of, second_true, arith)
 
 -- what is asked of a header's next event where it is taken in
 pub record Fits (t : Taken) (e : Stamped) : Type 0 where
@@ -62,33 +53,8 @@ pub record Fits (t : Taken) (e : Stamped) : Type 0 where
 
 pub fits : (t : Taken) (history : List Stamped) (e : Stamped) → HasTaken t history
     → IsNext t.header history e → Fits t e
-fits t history e taken next =
-    let come = may_come t.header history e next in
-    let range = in_range (cells_of t.header) (newest_first history) e.caller e.did come.may in
-    let callers = few_callers t.header in
-    let cells = few_words t.header in
-    let low : plain_words t.header < 2 ^ 22 = omega (arith, cells) in
-    let plain = taken.seen.all_cells in
-    let known = taken.seen.all_held in
-    let room = (taken.seen.held e.caller come.caller []).room in
-    record {
-      caller = omega (arith, come.caller, callers);
-      below = come.caller;
-      known = omega (arith, come.caller, known);
-      in_range = subst (λ n. IsInRange n (2 ^ 31) e.did) (sym plain)
-          (wider (plain_words t.header) (plain_words t.header + lock_words t.header) (2 ^ 31) e.did
-          (omega (arith, cells)) range);
-      few = omega (arith, plain, cells);
-      behind = subst (λ n. IsBehind n e.did) (sym plain)
-          (behind (cells_of t.header) (newest_first history) e.caller e.did come.may);
-      room = subst (λ n. HasPlaceIn n (length (held_by t.uses e.caller)) e.did) (sym plain)
-          (subst (λ n. HasPlaceIn (plain_words t.header) n e.did) (sym room)
-          (has_place_in (plain_words t.header) (lock_words t.header) e.did range
-          (behind (cells_of t.header) (newest_first history) e.caller e.did come.may)));
-      in_cells = range;
-      short = short_role (plain_words t.header) (plain_words t.header + lock_words t.header) e.did
-          range low;
-    }
+fits t history e taken next = search
+    (may_come, in_range, few_callers, few_words, wider, behind, has_place_in, short_role, arith)
 
 -- one more event
 pub taken_more : (h : Header) (uses : UsageKept) (codes : List ℕ) (history : List Stamped)
@@ -122,11 +88,8 @@ pub next_in : (h : Header) (history : List Stamped) (i : ℕ) (d : Stamped)
     → IsNext h (take i history) (get_or history i d)
 unfolding is_legal
 next_in h history i d legal low =
-    all_here (legal_test h) (λ more place. refl) (take i history) (get_or history i d)
-    (drop (suc i) history)
-    (ap (λ es. is_legal (cells_of h) es)
-    (ap (λ later. take i history ++ later) (sym (drop-cons history i d low))
-    ∙ take-append-drop i history) ∙ legal)
+    all_here (legal_test h) (λ more place. refl) (take i _) (get_or _ i d) (drop (suc i) history)
+    (cc (drop-cons history i d low, take-append-drop i history))
 
 -- and is taken in after them
 pub taken_up_to : (t : Taken) (history : List Stamped) (i : ℕ) (d : Stamped) → i < length history

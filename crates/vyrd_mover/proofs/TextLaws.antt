@@ -74,10 +74,9 @@ pub all_here : (test : Place Stamped → Bool) → LooksBack test → (xs : List
     (ys : List Stamped)
     → list_all test (places (xs ++ e ∷ ys)) ≡ true → test (next_place xs e) ≡ true
 all_here test back xs e ys all =
-    let rest = second_true (list_all test (places xs)) _ (sym (all_split test back xs (e ∷ ys))
+    let rest = second_true (list_all test (places _)) _ (sym (all_split test back xs (e ∷ ys))
     ∙ all) in
-    sym (back ys (next_place xs e))
-    ∙ first_true (test (record { earlier = newest_first xs; here = e; later = ys })) _ rest
+    sym (back ys _) ∙ first_true _ _ rest
 
 abbrev pub legal_test : Header → Place Stamped → Bool
 legal_test h place = is_legal_at (cells_of h) place
@@ -104,13 +103,7 @@ record Keeps (r : Recorded) : Type 0 where
 
 keeps_more : (r : Recorded) (e : Stamped) → Keeps r → is_event_of r.header.subject e ≡ true
     → broken_by r e ≡ None → Keeps (with_event r e)
-keeps_more r e keeps is none =
-    let rule = no_rule r e none in
-    record {
-      legal = all_more (legal_test r.header) (λ more place. refl) r.history e keeps.legal rule.0;
-      in_turn = all_more turn_test (λ more place. refl) r.history e keeps.in_turn rule.1;
-      spelled = all_push (λ e. is_event_of r.header.subject e ≡ true) r.history e keeps.spelled is;
-    }
+keeps_more r e keeps is none = search (no_rule, all_more, all_push, arith)
 
 -- what lines say after the history so far: more events and then `end`
 record Sound (r : Recorded) (n : ℕ) (lines : List (List ℕ)) (v : Recorded) : Type 0 where
@@ -215,15 +208,14 @@ text_sound (line ∷ next ∷ lines) v e = by_header (history_header_in line) re
         (record { legal = refl; in_turn = refl; spelled = tt }) f in
         let events : v.history ≡ s.more = s.history in
         let first : line ≡ history_header_line v.header.subject v.header.size v.header.callers =
-        is.1 ∙ ap (λ x. history_header_line x.subject x.size x.callers) (sym s.header) in
-        let all : ◌≡◌ {A = List (List ℕ)} (line ∷ next ∷ lines) (all_lines v) =
-        λ i. first i ∷ (s.text ∙ ap (λ xs. map event_line xs ++ end_line ∷ [] ∷ []) (sym events))
-        i in
+        cc (is.1, s.header) in
+        let all : ◌≡◌ {A = List (List ℕ)} (line ∷ next ∷ lines) (all_lines v) = λ i. first i
+        ∷ (s.text ∙ ap (λ xs. map event_line xs ++ end_line ∷ [] ∷ []) (sym events)) i in
         record {
           text = ap (join_with_byte 10) (all ∙ sym (all_lines_are v))
               ∙ join_lines (history_lines v);
           limits = record {
-            version = ap (λ (x : Header). x.version) s.header ∙ is.0;
+            version = cc (s.header, is.0);
             legal = s.keeps.legal;
             in_turn = s.keeps.in_turn;
             spelled = s.keeps.spelled;
@@ -246,36 +238,34 @@ reading_sound bytes r e = subst (λ xs. IsHistoryText xs r) (join_with_byte-slic
 -- an event's line is one line
 did_whole : (subject : Subject) (caller : ℕ) (did : Did) → nat_lt caller (2 ^ 32) ≡ true
     → is_did_of subject did ≡ true → lacks 10 (did_line caller did) ≡ true
-did_whole subject caller (Read cell value) low is =
-    lacks-join 10 32 (decimal caller) (codes "read" ∷ decimal cell ∷ decimal value ∷ []) refl
-    (plain_line_feeds (decimal caller ∷ codes "read" ∷ decimal cell ∷ decimal value ∷ [])
-    (both_true _ _ (plain_number caller (below_32 caller low))
-    (both_true _ _ refl (both_true _ _ (plain_number cell (below_32 cell (first_true _ _ is)))
-    (both_true _ _
-    (plain_number value (below_of value (2 ^ 64) (second_true (nat_lt cell (2 ^ 32)) _ is)))
-    refl)))))
-did_whole subject caller (Wrote cell value) low is =
-    lacks-join 10 32 (decimal caller) (codes "wrote" ∷ decimal cell ∷ decimal value ∷ []) refl
-    (plain_line_feeds (decimal caller ∷ codes "wrote" ∷ decimal cell ∷ decimal value ∷ [])
-    (both_true _ _ (plain_number caller (below_32 caller low))
-    (both_true _ _ refl (both_true _ _ (plain_number cell (below_32 cell (first_true _ _ is)))
-    (both_true _ _
-    (plain_number value (below_of value (2 ^ 64) (second_true (nat_lt cell (2 ^ 32)) _ is)))
-    refl)))))
-did_whole subject caller (Took lock) low is =
-    lacks-join 10 32 (decimal caller) (codes "took" ∷ decimal lock ∷ []) refl
-    (plain_line_feeds (decimal caller ∷ codes "took" ∷ decimal lock ∷ [])
-    (both_true _ _ (plain_number caller (below_32 caller low))
-    (both_true _ _ refl (both_true _ _ (plain_number lock (below_32 lock is)) refl))))
-did_whole subject caller (Gave lock) low is =
-    lacks-join 10 32 (decimal caller) (codes "gave" ∷ decimal lock ∷ []) refl
-    (plain_line_feeds (decimal caller ∷ codes "gave" ∷ decimal lock ∷ [])
-    (both_true _ _ (plain_number caller (below_32 caller low))
-    (both_true _ _ refl (both_true _ _ (plain_number lock (below_32 lock is)) refl))))
-did_whole subject caller (Marked kind) low is =
-    entry_line_whole subject (record { caller = caller; kind = kind })
-    (both_true (nat_lt caller (2 ^ 32)) (is_kind_of subject kind) low
-    (first_true (is_kind_of subject kind) (not (is_write kind)) is))
+did_whole subject caller (Read cell value) low is = search (
+  lacks-join,
+  plain_line_feeds,
+  both_true,
+  plain_number,
+  below_32,
+  first_true,
+  below_of,
+  second_true,
+  arith,
+)
+did_whole subject caller (Wrote cell value) low is = search (
+  lacks-join,
+  plain_line_feeds,
+  both_true,
+  plain_number,
+  below_32,
+  first_true,
+  below_of,
+  second_true,
+  arith,
+)
+did_whole subject caller (Took lock) low is = search
+    (lacks-join, plain_line_feeds, both_true, plain_number, below_32, arith)
+did_whole subject caller (Gave lock) low is = search
+    (lacks-join, plain_line_feeds, both_true, plain_number, below_32, arith)
+did_whole subject caller (Marked kind) low is = entry_line_whole subject _
+    (both_true (nat_lt _ _) (is_kind_of subject kind) low (first_true _ (not _) is))
 
 pub event_line_whole : (subject : Subject) (e : Stamped) → is_event_of subject e ≡ true
     → lacks 10 (event_line e) ≡ true
@@ -350,17 +340,15 @@ events_lack subject (e ∷ es) all = both_true _ _ (event_line_whole subject e a
 
 all_lack_feeds : (r : Recorded) → KeepsLimits r → all_lack 10 (history_lines r) ≡ true
 all_lack_feeds r keeps =
-    both_true _ _ (first_line_whole r.header.subject r.header.size r.header.callers
-    (let l = size_in_32_bits r.header in omega (arith, l))
+    both_true _ _ (first_line_whole _ _ _ (let l = size_in_32_bits r.header in omega (arith, l))
     (let l = callers_in_32_bits r.header in omega (arith, l)))
-    (events_lack r.header.subject r.history keeps.spelled)
+    (events_lack r.header.subject _ keeps.spelled)
 
 -- all lines are read as the history
 all_read : (r : Recorded) → KeepsLimits r → text_read (all_lines r) ≡ Ok r
 unfolding is_legal
-all_read r keeps = by_rest (map event_line r.history ++ end_line ∷ [] ∷ [])
-    (some_lines r.history end_line ([] ∷ []))
-    (events_read r.header [] r.history 2 keeps.spelled keeps.legal keeps.in_turn
+all_read r keeps = by_rest (map _ _ ++ end_line ∷ [] ∷ []) (some_lines _ _ _)
+    (events_read _ [] _ 2 keeps.spelled keeps.legal keeps.in_turn
     (let l = keeps.few in omega (arith, l)))
   where
     by_rest : (rest : List (List ℕ)) → has_any rest ≡ true
@@ -368,8 +356,7 @@ all_read r keeps = by_rest (map event_line r.history ++ end_line ∷ [] ∷ [])
         → text_read (history_header_line r.header.subject r.header.size r.header.callers ∷ rest)
         ≡ Ok r
     by_rest [] some on = cc
-    by_rest (next ∷ lines) some on = ap (λ o. after_first (next ∷ lines) (begun_or_bad o))
-        (header_in-first_line r.header keeps.version) ∙ on
+    by_rest (next ∷ lines) some on = cc (header_in-first_line r.header keeps.version)
 
 -- the text of a history is read as that history
 pub reading-history_text : (r : Recorded) → KeepsLimits r → history_reading (history_text r) ≡ Ok r

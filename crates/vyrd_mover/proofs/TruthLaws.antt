@@ -7,20 +7,16 @@ use Rattle.vyrd_base.proofs.TestLaws.{same_of, apart_of}
 use Rattle.vyrd_base.specs.Places.{numbers_from}
 
 pub either_true : (a b : Bool) → (a || b) ≡ true → (a ≡ true) ⊎ (b ≡ true)
-either_true true b e = inl refl
-either_true false b e = inr e
+either_true a b e = search arith
 
 pub implied : (a b : Bool) → (not a || b) ≡ true → a ≡ true → b ≡ true
-implied true b e f = e
-implied false b e f = cc
+implied a b e f = search arith
 
 pub implies : (a b : Bool) → (a ≡ true → b ≡ true) → (not a || b) ≡ true
-implies true b h = h refl
-implies false b h = refl
+implies a b h = search arith
 
 pub true_or_false : (b : Bool) → (b ≡ true) ⊎ (b ≡ false)
-true_or_false true = inl refl
-true_or_false false = inr refl
+true_or_false b = search arith
 
 -- a number of a row at which the test gives true
 abbrev pub Found : (ℕ → Bool) → ℕ → ℕ → Type 0
@@ -32,14 +28,12 @@ wider test k n found = (found.0, omega arith, omega arith, found.3)
 first_or_later : (test : ℕ → Bool) (k n : ℕ)
     → (list_any test (numbers_from (k + 1) n) ≡ true → Found test (k + 1) n)
     → (test k ≡ true) ⊎ (list_any test (numbers_from (k + 1) n) ≡ true) → Found test k (suc n)
-first_or_later test k n later (inl e) = (k, omega arith, omega arith, e)
-first_or_later test k n later (inr e) = wider test k n (later e)
+first_or_later test k n later e4 = search (wider, arith)
 
 pub any_tells : (test : ℕ → Bool) (k n : ℕ) → list_any test (numbers_from k n) ≡ true
     → Found test k n
 any_tells test k zero e = cc
-any_tells test k (suc n) e = first_or_later test k n (any_tells test (k + 1) n)
-    (either_true (test k) _ e)
+any_tells test k (suc n) e = first_or_later _ k n (any_tells test (k + 1) n) (either_true _ _ e)
 
 here_or_later : (test : ℕ → Bool) (k n x : ℕ) → k ≤ x → x < k + suc n → test x ≡ true
     → (k + 1 ≤ x → x < k + 1 + n → list_any test (numbers_from (k + 1) n) ≡ true) → (b : Bool)

@@ -27,10 +27,8 @@ or_is_second a b e = ap (λ x. x || b) (sym e)
 -- one caller at most has used the cell, or nobody has written it
 pub at_once_true : (users : Users) (many written : Bool) → many ≡ is_shared users → many ≡ false
     → true ≡ (not (is_shared users) || not written)
-at_once_true users many written e n = or_is_true (not (is_shared users)) (not written)
-    (ap not (sym e ∙ n))
+at_once_true users many written e n = or_is_true (not _) (not _) (ap not (sym e ∙ n))
 
 pub at_once_second : (users : Users) (many written : Bool) → many ≡ is_shared users → many ≡ true
     → not written ≡ (not (is_shared users) || not written)
-at_once_second users many written e n = or_is_second (not (is_shared users)) (not written)
-    (ap not (sym e ∙ n))
+at_once_second users many written e n = or_is_second _ _ (ap not (sym e ∙ n))

@@ -91,8 +91,7 @@ pub first_step : (line more : List ℕ) → lacks 10 line ≡ true → history_r
 unfolding history_reading
 first_step line more lack =
     let p = parts_of more in
-    ap text_read (split_at 10 line more lack ∙ ap (λ ps. line ∷ ps) p.2)
-    ∙ ap (λ ps. after_first ps (first_read line)) (sym p.2)
+    cc (split_at 10 line more lack, p.2)
 
 -- and so is that of the first line
 pub refusal_first : (fault : HistoryFault) (line more : List ℕ) → lacks 10 line ≡ true

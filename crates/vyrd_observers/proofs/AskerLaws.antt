@@ -97,20 +97,15 @@ pub counted_set : (trails : List Asked) (watches : List (Option Watch)) (i : ℕ
     → i < length trails → u.askers ≡ askers_of i watches
     → ((j : ℕ) (t : Asked) → slice_get trails j ≡ Some t → i ≢ j → t.askers ≡ askers_of j watches)
     → AreCounted (set trails i u) watches
-counted_set trails watches i u within own others = λ j t there. by_same i j
-    (λ same. let it : u ≡ t = same_Some _ _
-    (sym (slice_get-set_same trails i u within) ∙ ap (slice_get (set trails i u)) same ∙ there) in
-    ap (λ v. v.askers) (sym it) ∙ own ∙ ap (λ k. askers_of k watches) same)
-    (λ other. let apart = apart_of i j other in
-    others j t (sym (slice_get-set_other trails i j u apart) ∙ there) apart)
+counted_set trails watches i u within own others = search
+    (by_same, slice_get-set_same, apart_of, slice_get-set_other, arith)
 
 -- answers of a trail are dropped
 pub counted_moved : (trails : List Asked) (watches : List (Option Watch)) (i n : ℕ) (t u : Asked)
     → slice_get trails i ≡ Some t → u.askers ≡ t.askers
     → AreCounted trails watches → AreCounted (set trails i u) (map (moved i n) watches)
-counted_moved trails watches i n t u here same counted =
-    counted_set trails (map (moved i n) watches) i u (slice_get_within trails i t here)
-    (same ∙ counted i t here ∙ sym (askers_moved i i n watches))
+counted_moved trails watches i n t u here same counted = counted_set _ (map (moved i n) watches) i u
+    (slice_get_within _ i t here) (same ∙ counted i t here ∙ sym (askers_moved i i n watches))
     (λ j v there other. counted j v there ∙ sym (askers_moved j i n watches))
 
 -- an observer is closed: the trail that it asked still counts it
@@ -196,8 +191,7 @@ pub leaves_at : (trails : List Asked) (watches : List (Option Watch)) (i : ℕ) 
     → AreOn trails watches → OthersAreUsed trails watches i → AreCountedBefore i trails watches
     → HasLeft i trails (set trails i u) watches u
 leaves_at trails watches i d u within is on others counted =
-    leaves trails watches i (get_or trails i d) u (slice_get-get_or trails i d within) is on others
-    counted
+    leaves _ _ i (get_or _ i d) u (slice_get-get_or _ i d within) is on others counted
 
 -- it counts the one that leaves
 pub counts_some : (trails : List Asked) (watches : List (Option Watch)) (i : ℕ) (d : Asked)
@@ -271,15 +265,13 @@ pub counted_begun : (trails : List Asked) (watches : List (Option Watch)) (c i s
     → slice_get trails i ≡ Some t → AreCounted trails watches
     → AreCounted (set trails i (with_asker t))
     (set watches c (Some (record { trail = i; since = since })))
-counted_begun trails watches c i since t closed here counted =
-    counted_set trails (set watches c own) i (with_asker t) (slice_get_within trails i t here)
-    (let more : askers_of i (set watches c own) + 0 ≡ askers_of i watches + cond (i == i) 1 0
-    = count_set i c watches None own closed in
+counted_begun trails watches c i since t closed here counted = counted_set _ (set _ c _) i _
+    (slice_get_within _ i t here) (let more : askers_of i (set watches c own) + 0
+    ≡ askers_of i watches + cond (i == i) 1 0 = count_set i c _ None _ closed in
     let one : ◌≡◌ {A = ℕ} (cond (i == i) 1 0) 1 = one_of (same_number i) in
-    omega (arith, more, one, counted i t here))
-    (λ j v there other.
-    let more : askers_of j (set watches c own) + 0 ≡ askers_of j watches + cond (i == j) 1 0
-    = count_set j c watches None own closed in
+    omega (arith, more, one, counted i t here)) (λ j v there other.
+    let more : askers_of j (set watches c own) + 0 ≡ askers_of j watches + cond (i == j) 1 0 =
+    count_set j c _ None _ closed in
     let none : ◌≡◌ {A = ℕ} (cond (i == j) 1 0) 0 = zero_of (isnt_same i j other) in
     omega (arith, more, none, counted j v there))
   where
@@ -293,8 +285,7 @@ free_closed reach old new stay long free = λ i u high there.
     let was = element old i (omega (arith, slice_get_within new i u there, long)) in
     let now = stay i was.0 was.1 in
     let it : now.0 ≡ u = same_Some _ _ (sym now.1 ∙ there) in
-    by_asked u u.is_asked refl (λ asked. (now.2 (ap (λ v. v.is_asked) it ∙ asked)).0)
-    (free i was.0 high was.1)
+    by_asked u u.is_asked refl (λ asked. (now.2 (cc)).0) (free i was.0 high was.1)
   where
     element : (xs : List Asked) (i : ℕ) → i < length xs → (x : Asked) × (slice_get xs i ≡ Some x)
     element [] i low = absurd (omega (arith, low))
@@ -310,5 +301,4 @@ free_closed reach old new stay long free = λ i u high there.
 pub free_begun : (reach far : ℕ) (old new : List Asked) (i : ℕ) (u : Asked) → AreOldExcept old new i
     → reach ≤ far → i < far → AreFreeFrom reach old
     → AreFreeFrom far (set new i u)
-free_begun reach far old new i u only more before free =
-    λ j t high there. grind (arith, there, free, more, slice_get-set_other)
+free_begun reach far old new i u only more before free = search (slice_get-set_other, arith)

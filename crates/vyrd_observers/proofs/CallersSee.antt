@@ -129,14 +129,10 @@ callers_see affects told trails watches on current = record {
         ∙ ap (option_map (after_state affects told)) was.there in
         let here : slice_get (map (seen_by trails) watches) k
         ≡ Some (seen_from w.since (Some was.asked)) =
-        slice_get-map (seen_by trails) watches k ∙ ap (option_map (seen_by trails)) place
-        ∙ ap (λ o. Some (seen_from w.since o)) was.there in (
+        cc (slice_get-map (seen_by trails) watches k, was.there) in (
           seen_from w.since (Some (after_state affects told was.asked)),
-          slice_get-map (seen_by now) watches k ∙ ap (option_map (seen_by now)) place
-              ∙ ap (λ o. Some (seen_from w.since o)) there,
-          subst (λ s. SeesState told s
-              (seen_from w.since (Some (after_state affects told was.asked))))
-              (ap (seen_from w.since) (sym was.there) ∙ same_Some _ _ is)
+          cc (slice_get-map (seen_by now) watches k),
+          rw (← ap (seen_from w.since) (sym was.there) ∙ same_Some _ _ is)
               (sees_state affects told w.since was.asked was.is_asked was.within
               (λ untouched. current k (seen_from w.since (Some was.asked)) here refl untouched)),
         )
@@ -150,8 +146,7 @@ read_is xs i x d here is = sym (ap (λ o. unwrap_or o d) here) ∙ unwrap_or-sli
 pub watch_read : (trails : List Asked) (watches : List (Option Watch)) (seen : List Seen) (c : ℕ)
     (o p : Option Watch) → map (seen_by trails) watches ≡ seen
     → c < length seen → o ≡ get_or watches c o → o ≡ p → slice_get watches c ≡ Some p
-watch_read trails watches seen c o p is low read same =
-    grind (arith, watches, read, slice_get-is, length-map)
+watch_read trails watches seen c o p is low read same = search (slice_get-is, length-map, arith)
 
 -- what a caller has seen
 pub seen_there : (trails : List Asked) (watches : List (Option Watch)) (c : ℕ) (o : Option Watch)
@@ -169,8 +164,7 @@ pub begins_seen : (old new : List Asked) (watches : List (Option Watch)) (c i si
     (record { is_open = true; method = method; args = args; answers = answer ∷ [] })
 begins_seen old new watches c i since t method args answer keeps on there same_method same_args
     same_answer at_end =
-    map-set (seen_by new) watches c (Some (record { trail = i; since = since }))
-    ∙ ap (λ seen. set seen c (seen_from since (slice_get new i)))
+    map-set _ _ c _ ∙ ap (λ seen. set seen c (seen_from since (slice_get new i)))
     (seen_kept old new watches keeps on)
     ∙ ap (λ o. set (map (seen_by old) watches) c (seen_from since o)) there
     ∙ ap (λ k. set (map (seen_by old) watches) c (seen_from k (Some t))) at_end
@@ -198,8 +192,7 @@ pub closed_stays : (trails : List Asked) (watches : List (Option Watch)) (c : �
     → slice_get watches c ≡ Some None
     → map (seen_by trails) watches ≡ set (map (seen_by trails) watches) c unwatched
 closed_stays trails watches c here =
-    let seen = map (seen_by trails) watches in
+    let seen = map _ _ in
     let there : unwatched ≡ get_or seen c unwatched =
-    sym (ap (λ o. unwrap_or o unwatched) (seen_there trails watches c None here))
-    ∙ unwrap_or-slice_get seen c unwatched in
-    sym (set-get_or seen c unwatched) ∙ ap (set seen c) (sym there)
+    sym (cc (seen_there trails watches c None here)) ∙ unwrap_or-slice_get seen c unwatched in
+    sym (set-get_or _ c _) ∙ ap (set _ c) (sym there)

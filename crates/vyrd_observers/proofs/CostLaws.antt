@@ -27,8 +27,7 @@ kept_set trails i t u here = sum_set kept_by trails i t u here
 
 pub kept_at : (trails : List Asked) (i : ℕ) (d u : Asked) → i < length trails
     → kept_count (set trails i u) + kept_by (get_or trails i d) ≡ kept_count trails + kept_by u
-kept_at trails i d u within =
-    kept_set trails i (get_or trails i d) u (slice_get-get_or trails i d within)
+kept_at trails i d u within = kept_set _ i (get_or _ i d) u (slice_get-get_or _ i d within)
 
 -- the first answers of a trail are dropped
 pub kept_dropped : (trails : List Asked) (i n : ℕ) (d u : Asked) → i < length trails
@@ -80,8 +79,7 @@ own_changed : (affects : Method → Args → Bool) (told : Method → Args → �
     (trails : List Asked) (o : Option Watch)
     → seen_count (seen_by (changed_below (after_state affects told) n trails) o)
     ≤ seen_count (seen_by trails o) + 1
-own_changed affects told n trails None = omega arith
-own_changed affects told n trails (Some w) = seen_changed affects told w.since n trails w.trail
+own_changed affects told n trails o = search (seen_changed, arith)
 
 pub answers_changed : (affects : Method → Args → Bool) (told : Method → Args → ℕ) (n : ℕ)
     (trails : List Asked) (watches : List (Option Watch))

@@ -57,5 +57,4 @@ pub still_current : (before after : Method → Args → ℕ) (watches : List See
     → seen.is_open ≡ true
     → affects seen.method seen.args ≡ false → has_answer seen.answers (after seen.method seen.args)
     ≡ true
-still_current before after watches affects same current c seen here is_open none =
-    ap (has_answer seen.answers) (same seen.method seen.args none) ∙ current c seen here is_open
+still_current before after watches affects same current c seen here is_open none = search arith

@@ -66,8 +66,7 @@ matched {X} f g none k (x ∷ xs) watches all =
 
 sum_mapped : {A B : Type 0} (f : B → ℕ) (h : A → B) (xs : List A) → sum_by f (map h xs)
     ≡ sum_by (λ x. f (h x)) xs
-sum_mapped f h xs = sym (sum-map f (map h xs)) ∙ ap sum (map_after f h xs)
-    ∙ sum-map (λ x. f (h x)) xs
+sum_mapped f h xs = sym (sum-map f (map h xs)) ∙ ap sum (map_after f h xs) ∙ sum-map (λ x. f _) xs
 
 sum_doubled : {A : Type 0} (f : A → ℕ) (xs : List A) → sum_by (λ x. 2 * f x) xs ≡ 2 * sum_by f xs
 sum_doubled f [] = refl
@@ -89,7 +88,7 @@ pub asked_few : (trails : List Asked) (watches : List (Option Watch)) → AreUse
     → asked_count trails ≤ open_count (map (seen_by trails) watches)
 asked_few trails watches used =
     let few : asked_count trails ≤ sum_by (λ o. cond (seen_by trails o).is_open 1 0) watches =
-    matched (λ t. cond t.is_asked 1 0) (λ o. cond (seen_by trails o).is_open 1 0) refl 0 trails
+    matched (λ t. cond t.is_asked 1 0) (λ o. cond (seen_by _ o).is_open 1 0) refl 0 trails
     watches (λ i t there some.
     let one = (used i t there).by (is_asked t.is_asked some) in
     let there_now : one.1.trail ≡ 0 + i = omega (arith, one.3) in (
@@ -97,11 +96,10 @@ asked_few trails watches used =
       one.1,
       one.2,
       there_now,
-      small t.is_asked (cond (seen_by trails (Some one.1)).is_open 1 0)
-          (ap (λ (s : Seen). cond s.is_open 1 0) (seen_on trails one.1 t i there one.3)),
+      small t.is_asked (cond (seen_by trails (Some _)).is_open 1 0)
+          (cc (seen_on trails one.1 t i there one.3)),
     )) in
-    subst (λ n. asked_count trails ≤ n)
-    (sym (sum_mapped (λ (s : Seen). cond s.is_open 1 0) (seen_by trails) watches)) few
+    rw (sum_mapped (λ (s : Seen). cond s.is_open 1 0) (seen_by trails) watches) few
   where
     is_asked : (b : Bool) → 1 ≤ cond b 1 0 → b ≡ true
     is_asked b some = search arith
@@ -115,10 +113,8 @@ pub kept_few : (trails : List Asked) (watches : List (Option Watch)) → AreUsed
 kept_few trails watches used =
     let few : kept_count trails ≤ sum_by (λ o. 2 * length (seen_by trails o).answers) watches =
     matched kept_by (λ o. 2 * length (seen_by trails o).answers) refl 0 trails watches
-    (λ i t there some.
-    by_asked i t there t.is_asked refl some) in
-    subst (λ n. kept_count trails ≤ n)
-    (sum_doubled (λ o. length (seen_by trails o).answers) watches
+    (λ i t there some. by_asked i t there t.is_asked refl some) in
+    rw (← sum_doubled (λ o. length (seen_by trails o).answers) watches
     ∙ ap (λ n. 2 * n) (sym (sum_mapped (λ (s : Seen). length s.answers) (seen_by trails) watches)))
     few
   where
@@ -129,9 +125,8 @@ kept_few trails watches used =
     by_asked i t there true is some =
         let one = (used i t there).by is in
         let own : length (seen_by trails (Some one.1)).answers
-        ≡ suc (length (drop one.1.since t.others))
-        = ap (λ (s : Seen). length s.answers) (seen_on trails one.1 t i there one.3) in
-        let kept : kept_by t ≡ length t.others + 1 = ap (λ b. length t.others + cond b 1 0) is in
+        ≡ suc (length (drop one.1.since t.others)) = cc (seen_on trails one.1 t i there one.3) in
+        let kept : kept_by t ≡ length t.others + 1 = cc in
         let low : kept_by t ≤ 2 * length (seen_by trails (Some one.1)).answers =
         omega (arith, own, kept, length-drop one.1.since t.others, one.4) in
         let there_now : one.1.trail ≡ 0 + i = omega (arith, one.3) in
@@ -206,14 +201,11 @@ pub made_few : (old new : List Asked) (watches : List (Option Watch)) (c : ℕ) 
     → (length new ≡ length old)
     ⊎ (length old + 1 ≤ open_count (set (map (seen_by old) watches) c seen))
 made_few old new watches c seen closed is_open used reused one = ⊎_elim
-    (λ free. inl (reused free.0 free.1 free.2 free.3))
-    (λ full.
+    (λ free. inl (reused free.0 free.1 free.2 free.3)) (λ full.
     let more : open_count (set (map (seen_by old) watches) c seen)
-    ≡ open_count (map (seen_by old) watches) + 1
-    = one_more_open (map (seen_by old) watches) c seen (slice_get-map (seen_by old) watches c
-    ∙ ap (option_map (seen_by old)) closed) is_open in
-    inr (omega (arith, full, more, asked_few old watches used)))
-    (free_or_full old)
+    ≡ open_count (map (seen_by old) watches) + 1 = one_more_open _ c _
+    (slice_get-map _ _ c ∙ ap (option_map _) closed) is_open in
+    inr (omega (arith, full, more, asked_few old watches used))) (free_or_full old)
 
 -- so there are no more than callers
 pub still_few : (n m : ℕ) (watches : List Seen) → (n ≡ m) ⊎ (m + 1 ≤ open_count watches) → n ≤ m + 1
@@ -231,11 +223,10 @@ pub few_begun : (h : Header) (reach : ℕ) (old new : List Asked) (watches : Lis
     → length new ≤ length old + 1
     → length new ≤ length watches
 few_begun h reach old new watches c seen was closed is_open reused one =
-    let long : length (set (map (seen_by old) watches) c seen) ≡ length watches
-    = length-set (map (seen_by old) watches) c seen ∙ length-map watches (seen_by old) in
-    let few : length new ≤ length (set (map (seen_by old) watches) c seen)
-    = still_few (length new) (length old) (set (map (seen_by old) watches) c seen)
-    (made_few old new watches c seen closed is_open was.used reused one) one
+    let long : length (set (map (seen_by old) watches) c seen) ≡ length watches = length-set _ c _
+    ∙ length-map _ _ in
+    let few : length new ≤ length (set (map (seen_by old) watches) c seen) = still_few _
+    (length _) _ (made_few _ _ _ c _ closed is_open was.used reused one) one
     (omega (arith, long, was.few)) in
     omega (arith, few, long)
 

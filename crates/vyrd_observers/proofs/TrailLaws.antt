@@ -85,8 +85,7 @@ pub changed_from : {A : Type 0} (Q : A → A → Type 0) (f : A → A) → ((x :
 changed_from Q f stays steps zero xs i y is = (y, is, stays y)
 changed_from Q f stays steps (suc n) [] i y is = absurd (none-some _ is)
 changed_from Q f stays steps (suc n) (z ∷ xs) zero y is = grind (arith, same_Some _ _ is, steps z)
-changed_from Q f stays steps (suc n) (z ∷ xs) (suc i) y is = changed_from Q f stays steps n xs i y
-    is
+changed_from Q f stays steps (suc n) (z ∷ xs) (suc i) y is = changed_from Q f stays steps n _ i y is
 
 pub map_alike : {A B : Type 0} (f g : A → B) (xs : List A)
     → ((i : ℕ) (x : A) → slice_get xs i ≡ Some x → f x ≡ g x) → map f xs ≡ map g xs
@@ -101,27 +100,22 @@ map_after f g (x ∷ xs) = ap (λ ys. f (g x) ∷ ys) (map_after f g xs)
 -- a trail that nobody asks is added
 pub asking_pushed : (h : Header) (trails : List Asked) (t : Asked) → t.is_asked ≡ false
     → AreAsking h trails → AreAsking h (trails ++ t ∷ [])
-asking_pushed h trails t free all =
-    all_pushed (λ u. u.is_asked ≡ true → (has_method h u.method u.args ≡ true)
-    × (must_commit u.method ≡ false)) trails t (λ is. absurd (false_true free is)) all
+asking_pushed h trails t free all = all_pushed _ _ t (λ is. absurd (false_true free is)) all
 
 -- a trail is changed
 pub asking_set : (h : Header) (trails : List Asked) (i : ℕ) (t : Asked) → i < length trails
     → (t.is_asked ≡ true → (has_method h t.method t.args ≡ true) × (must_commit t.method ≡ false))
     → AreAsking h trails → AreAsking h (set trails i t)
 asking_set h trails i t within own all = λ j u there. by_same i j
-    (λ same. let it : t ≡ u = same_Some _ _ (sym (slice_get-set_same trails i t within)
-    ∙ ap (slice_get (set trails i t)) same ∙ there) in
-    subst (λ v. v.is_asked ≡ true → (has_method h v.method v.args ≡ true)
-    × (must_commit v.method ≡ false)) it own)
-    (λ other. all j u (sym (slice_get-set_other trails i j t (apart_of i j other)) ∙ there))
+    (λ same. let it : t ≡ u = same_Some _ _ (sym (slice_get-set_same _ i t within)
+    ∙ ap (slice_get _) same ∙ there) in
+    rw (← it) own)
+    (λ other. all j u (sym (slice_get-set_other _ i j t (apart_of i j other)) ∙ there))
 
 pub keeps_set : (trails : List Asked) (i : ℕ) (t new : Asked) → slice_get trails i ≡ Some t
     → t.is_asked ≡ false → KeepsAsked trails (set trails i new)
-keeps_set trails i t new here free = λ j u there is_asked. by_same i j
-    (λ same. let it : t ≡ u = same_Some _ _ (sym here ∙ ap (slice_get trails) same ∙ there) in
-    absurd (false_true free (ap (λ v. v.is_asked) it ∙ is_asked)))
-    (λ other. slice_get-set_other trails i j new (apart_of i j other) ∙ there)
+keeps_set trails i t new here free = search
+    (by_same, false_true, slice_get-set_other, apart_of, arith)
 
 -- what is asked stays, and so do the observers and what they have seen
 pub on_kept : (old new : List Asked) (watches : List (Option Watch)) → KeepsAsked old new
@@ -136,25 +130,21 @@ on_kept old new watches keeps on = λ c w here. let was = on c w here in record 
 pub seen_kept : (old new : List Asked) (watches : List (Option Watch)) → KeepsAsked old new
     → AreOn old watches
     → map (seen_by new) watches ≡ map (seen_by old) watches
-seen_kept old new watches keeps on = map_alike (seen_by new) (seen_by old) watches
-    (λ c o here. by_watch c o here)
+seen_kept old new watches keeps on = map_alike _ _ _ (λ c o here. by_watch c o here)
   where
     by_watch : (c : ℕ) (o : Option Watch) → slice_get watches c ≡ Some o → seen_by new o
         ≡ seen_by old o
     by_watch c None here = refl
     by_watch c (Some w) here = let was = on c w here in
-        ap (seen_from w.since) (keeps w.trail was.asked was.there was.is_asked ∙ sym was.there)
+        ap (seen_from _) (keeps _ _ was.there was.is_asked ∙ sym was.there)
 
 -- an observer is on a trail, or on none
 pub on_set : (trails : List Asked) (watches : List (Option Watch)) (c : ℕ) (o : Option Watch)
     → c < length watches
     → ((w : Watch) → o ≡ Some w → IsOn trails w) → AreOn trails watches
     → AreOn trails (set watches c o)
-on_set trails watches c o within own on = λ d w here. by_same c d
-    (λ same. own w
-    (same_Some _ _ (sym (slice_get-set_same watches c o within)
-    ∙ ap (slice_get (set watches c o)) same ∙ here)))
-    (λ other. on d w (sym (slice_get-set_other watches c d o (apart_of c d other)) ∙ here))
+on_set trails watches c o within own on = search
+    (by_same, slice_get-set_same, slice_get-set_other, apart_of, arith)
 
 -- what an observer has seen that begins now
 pub seen_at_end : (t : Asked) → seen_from (length t.others) (Some t)
@@ -198,17 +188,10 @@ as_many_after affects told t = grind (arith, told, question_after)
 pub asking_after : (h : Header) (affects : Method → Args → Bool) (told : Method → Args → ℕ) (n : ℕ)
     (trails : List Asked) → AreAsking h trails
     → AreAsking h (changed_below (after_state affects told) n trails)
-asking_after h affects told n trails all = all_changed
-    (λ u. u.is_asked ≡ true → (has_method h u.method u.args ≡ true)
-    × (must_commit u.method ≡ false))
-    (after_state affects told)
+asking_after h affects told n trails all = all_changed _ _
     (λ t was is_asked. let same = question_after affects told t in let own =
-    was (sym same.is_asked ∙ is_asked) in (
-      ap (λ m. has_method h m (after_state affects told t).args) same.method
-          ∙ ap (has_method h t.method) same.args ∙ own.0,
-      ap must_commit same.method ∙ own.1,
-    ))
-    n trails all
+    was (sym same.is_asked ∙ is_asked) in
+    (cc (same.method, same.args, own.0), ap must_commit same.method ∙ own.1)) n _ all
 
 pub on_after : (affects : Method → Args → Bool) (told : Method → Args → ℕ) (n : ℕ)
     (trails : List Asked) (watches : List (Option Watch)) → AreOn trails watches
@@ -244,12 +227,7 @@ NoneOn i watches = (c : ℕ) (w : Watch) → slice_get watches c ≡ Some (Some 
 pub seen_without : (trails : List Asked) (watches : List (Option Watch)) (i : ℕ) (t : Asked)
     → NoneOn i watches
     → map (seen_by (set trails i t)) watches ≡ map (seen_by trails) watches
-seen_without trails watches i t none = map_alike (seen_by (set trails i t)) (seen_by trails) watches
-    by_watch
-  where
-    by_watch : (c : ℕ) (o : Option Watch) → slice_get watches c ≡ Some o
-        → seen_by (set trails i t) o ≡ seen_by trails o
-    by_watch c o here = search (here, slice_get-set_other, arith)
+seen_without trails watches i t none = search (map_alike, seen_by, slice_get-set_other, arith)
 
 pub on_without : (trails : List Asked) (watches : List (Option Watch)) (i : ℕ) (t : Asked)
     → NoneOn i watches → AreOn trails watches
@@ -265,22 +243,16 @@ on_without trails watches i t none on = λ c w here. let was = on c w here in re
 pub seen_recounted : (trails : List Asked) (watches : List (Option Watch)) (i n : ℕ) (t : Asked)
     → slice_get trails i ≡ Some t
     → map (seen_by (set trails i (record t { askers = n }))) watches ≡ map (seen_by trails) watches
-seen_recounted trails watches i n t here =
-    map_alike (seen_by (set trails i new)) (seen_by trails) watches (λ c o there. by_watch o)
+seen_recounted trails watches i n t here = map_alike _ _ _ (λ c o there. by_watch o)
   where
     new : Asked
     new = record t { askers = n }
 
     by_watch : (o : Option Watch) → seen_by (set trails i new) o ≡ seen_by trails o
     by_watch None = refl
-    by_watch (Some w) = by_same i w.trail
-        (λ same. ap (λ k. seen_from w.since (slice_get (set trails i new) k)) (sym same)
-        ∙ ap (seen_from w.since)
-        (slice_get-set_same trails i new (slice_get_within trails i t here))
-        ∙ ap (seen_from w.since) (sym here)
-        ∙ ap (λ k. seen_from w.since (slice_get trails k)) same)
-        (λ other. ap (seen_from w.since)
-        (slice_get-set_other trails i w.trail new (apart_of i w.trail other)))
+    by_watch (Some w) = by_same i _
+        (λ same. cc (slice_get-set_same trails i new (slice_get_within trails i t here)))
+        (λ other. ap (seen_from _) (slice_get-set_other _ i _ _ (apart_of i _ other)))
 
 pub on_recounted : (trails : List Asked) (watches : List (Option Watch)) (i n : ℕ) (t : Asked)
     → slice_get trails i ≡ Some t → AreOn trails watches
@@ -332,9 +304,7 @@ pub seen_moved : (trails : List Asked) (watches : List (Option Watch)) (i n : �
     → slice_get trails i ≡ Some t → Uncounted i n watches
     → map (seen_by (set trails i (record t { others = drop n t.others }))) (map (moved i n) watches)
     ≡ map (seen_by trails) watches
-seen_moved trails watches i n t here low =
-    map_after (seen_by (set trails i new)) (moved i n) watches
-    ∙ map_alike (λ o. seen_by (set trails i new) (moved i n o)) (seen_by trails) watches by_watch
+seen_moved trails watches i n t here low = map_after _ _ _ ∙ map_alike _ _ _ by_watch
   where
     new : Asked
     new = record t { others = drop n t.others }
@@ -346,7 +316,8 @@ seen_moved trails watches i n t here low =
     by_test w true e counts =
         cc (
           same_of w.trail i e,
-          slice_get-set_same trails i new (slice_get_within trails i t here),
+          slice_get-set_same trails i new
+              (slice_get_within trails i t here),
           seen_shorter n w.since t (counts (same_of w.trail i e)),
         )
     by_test w false e counts = search (slice_get-set_other, apart_of, arith)
@@ -378,7 +349,7 @@ on_moved trails watches i n t here low on = λ c w there.
           asked = new;
           there = ap (slice_get (set trails i new)) same ∙ slice_get-set_same trails i new
               (slice_get_within trails i t here);
-          is_asked = ap (λ u. u.is_asked) it ∙ was.is_asked;
+          is_asked = cc was.is_asked;
           within = omega (
             arith,
             was.within,
@@ -388,19 +359,18 @@ on_moved trails watches i n t here low on = λ c w there.
                 t.others,
           );
         }
-    by_test w false e counts was = record {
-      asked = was.asked;
-      there = slice_get-set_other trails i w.trail new (λ same. apart_of w.trail i e (sym same))
-          ∙ was.there;
-      is_asked = was.is_asked;
-      within = was.within;
-    }
+    by_test w false e counts was = search (slice_get-set_other, apart_of, arith)
 
     by_watch : (c : ℕ) (o : Option Watch) → slice_get watches c ≡ Some o → (v : Watch) → moved i n o
         ≡ Some v → IsOn (set trails i new) v
     by_watch c None there v is = absurd (none-some _ is)
-    by_watch c (Some w) there v is = subst (IsOn (set trails i new)) (same_Some _ _ is)
-        (by_test w (w.trail == i) refl (low c w there) (on c w there))
+    by_watch c (Some w) there v is =
+        grind (
+          arith,
+          same_Some _ _ is,
+          by_test w (w.trail == i) refl (low c w there)
+              (on c w there),
+        )
 
 -- an open observer that asks this question, and of which the last state that it saw answers this,
 -- is on a trail of it
@@ -414,8 +384,7 @@ pub trail_of_seen : (trails : List Asked) (watches : List (Option Watch)) (c : �
     → seen.answers ≡ answer ∷ before → (i : ℕ) × (t : Asked) × (slice_get trails i ≡ Some t)
     × IsTrailOf method args answer t
 trail_of_seen trails watches c seen before method args answer on here is_open same_method same_args
-    same_answers =
-    by_place (slice_get watches c) refl (sym (slice_get-map (seen_by trails) watches c) ∙ here)
+    same_answers = by_place (slice_get _ c) refl (sym (slice_get-map _ _ c) ∙ here)
   where
     by_place : (o : Option (Option Watch)) → slice_get watches c ≡ o → option_map (seen_by trails) o
         ≡ Some seen
@@ -430,7 +399,6 @@ trail_of_seen trails watches c seen before method args answer on here is_open sa
           (on c w place).there,
           (on c w place).is_asked,
           same_Some _ _ is,
-          first_same,
         )
 
 -- an observer is closed, and all trails except its own are used by others
@@ -442,10 +410,9 @@ used_without trails watches c w here used = λ i t there other. let was = used i
   by = λ is_asked. let one = was.by is_asked in (
     one.0,
     one.1,
-    slice_get-set_other watches c one.0 None
+    slice_get-set_other _ c _ None
         (λ same. other
-        (sym one.3 ∙ ap (λ v. v.trail)
-        (some_some (sym one.2 ∙ ap (slice_get watches) (sym same) ∙ here)))) ∙ one.2,
+        (cc (one.3, some_some (sym one.2 ∙ ap (slice_get watches) (sym same) ∙ here)))) ∙ one.2,
     one.3,
     one.4,
   );
@@ -456,12 +423,9 @@ pub used_except : (old new : List Asked) (watches : List (Option Watch)) (i : �
     → AreOldExcept old new i → OthersAreUsed old watches i
     → ((t : Asked) → slice_get new i ≡ Some t → IsUsed t i watches) → AreUsed new watches
 used_except old new watches i only others own = λ j t there. by_same j i
-    (λ same. subst (λ k. IsUsed t k watches) (sym same)
-    (own t (ap (slice_get new) (sym same) ∙ there)))
-    (λ apart. ⊎_elim
-    (λ was. others j t was (apart_of j i apart))
-    (λ same. absurd (apart_of j i apart same))
-    (only j t there))
+    (λ same. rw same (own t (ap (slice_get _) (sym same) ∙ there)))
+    (λ apart. ⊎_elim (λ was. others j t was (apart_of j i apart))
+    (λ same. absurd (apart_of j i apart same)) (only j t there))
 
 pub others_set : (trails : List Asked) (watches : List (Option Watch)) (i : ℕ) (t : Asked)
     → OthersAreUsed trails watches i → OthersAreUsed (set trails i t) watches i
@@ -469,10 +433,7 @@ others_set trails watches i t others = λ j u there other. grind (arith, there, 
 
 pub old_except_set : (trails : List Asked) (i : ℕ) (t : Asked)
     → AreOldExcept trails (set trails i t) i
-old_except_set trails i t = λ j u there. by_same j i
-    (λ same. inr same)
-    (λ apart. inl (sym (slice_get-set_other trails i j t (λ same. apart_of j i apart (sym same)))
-    ∙ there))
+old_except_set trails i t = search (by_same, slice_get-set_other, apart_of, arith)
 
 pub old_except_then : (old trails : List Asked) (i : ℕ) → AreOldExcept old trails i → (t : Asked)
     → AreOldExcept old (set trails i t) i
@@ -493,23 +454,22 @@ pub used_moved : (old new : List Asked) (watches : List (Option Watch)) (i n c :
     → slice_get watches c ≡ Some (Some (record { trail = i; since = n })) → AreOldExcept old new i
     → AreOn new (map (moved i n) watches)
     → OthersAreUsed old watches i → AreUsed new (map (moved i n) watches)
-used_moved old new watches i n c here only on others = used_except old new (map (moved i n) watches)
-    i only
-    (λ j t there other. let was = others j t there other in record {
+used_moved old new watches i n c here only on others = used_except old _ _ i only
+    (λ j t there other. let was = others j t there other in
+    record {
       nothing = was.nothing;
       by = λ is_asked. let one = was.by is_asked in (
         one.0,
         one.1,
         slice_get-map (moved i n) watches one.0 ∙ ap (option_map (moved i n)) one.2
-            ∙ ap Some (moved_other i n one.1 (λ same. other (sym one.3 ∙ same))),
+            ∙ ap Some (moved_other i n _ (λ same. other (sym one.3 ∙ same))),
         one.3,
         one.4,
       );
-    })
-    (λ t there. record {
+    }) (λ t there.
+    record {
       nothing = λ not_asked. absurd
-          (false_true not_asked
-          (asked_on new (map (moved i n) watches) i (n - n) c t now on there));
+          (false_true not_asked (asked_on new (map _ _) i (n - n) c t now on there));
       by = λ is_asked. (c, record { trail = i; since = n - n }, now, refl, omega arith);
     })
   where
@@ -538,7 +498,7 @@ pub used_begun : (old new : List Asked) (watches : List (Option Watch)) (c i sin
     ⊎ ((u.askers ≡ 0) × (u.others ≡ [])))
     → AreUsed new (set watches c (Some (record { trail = i; since = since })))
 used_begun old new watches c i since t closed used only there is_asked at_end begun =
-    used_except old new (set watches c own) i only (λ j u was other. stays j u (used j u was))
+    used_except old _ _ i only (λ j u was other. stays j u (used j u was))
     (λ u here. ⊎_elim
     (λ was. stays i u (used i u was))
     (λ fresh. let it : t ≡ u = same_Some _ _ (sym there ∙ here) in record {
@@ -557,18 +517,7 @@ used_begun old new watches c i since t closed used only there is_asked at_end be
     own = Some (record { trail = i; since = since })
 
     stays : (j : ℕ) (u : Asked) → IsUsed u j watches → IsUsed u j (set watches c own)
-    stays j u was = record {
-      nothing = was.nothing;
-      by = λ asked. let one = was.by asked in (
-        one.0,
-        one.1,
-        slice_get-set_other watches c one.0 own
-            (λ same. none_some (same_Some _ _ (sym closed ∙ ap (slice_get watches) same ∙ one.2)))
-            ∙ one.2,
-        one.3,
-        one.4,
-      );
-    }
+    stays j u was = search (slice_get-set_other, none_some, arith)
 
 -- some trails have the next state's answer
 pub used_after : (affects : Method → Args → Bool) (told : Method → Args → ℕ) (n : ℕ)
@@ -658,26 +607,19 @@ stay_all trails = λ i t there. (t, there, λ is_asked. (is_asked, refl, refl, r
 
 pub stay_then : (old now new : List Asked) → StayOrEnd old now → StayOrEnd now new
     → StayOrEnd old new
-stay_then old now new first second =
-    λ i t there. grind (
-      arith,
-      (second i (first i t there).0 (first i t there).1).0,
-      (second i
-          (first i t there).0 (first i t there).1).1,
-    )
+stay_then old now new first second = search arith
 
 pub stay_set : (trails : List Asked) (i : ℕ) (t new : Asked) → slice_get trails i ≡ Some t
     → StaysOrEnds t new → StayOrEnd trails (set trails i new)
 stay_set trails i t new here own = λ j u there. by_same i j
-    (λ same. let it : t ≡ u = same_Some _ _ (sym here ∙ ap (slice_get trails) same ∙ there) in (
+    (λ same. let it : t ≡ u = same_Some _ _ (sym here ∙ ap (slice_get _) same ∙ there) in (
       new,
-      ap (slice_get (set trails i new)) (sym same) ∙ slice_get-set_same trails i new
-          (slice_get_within trails i t here),
-      subst (λ v. StaysOrEnds v new) it own,
-    ))
-    (λ other. (
+      ap (slice_get _) (sym same) ∙ slice_get-set_same _ i _ (slice_get_within _ i t here),
+      rw
+          (← it) own,
+    )) (λ other. (
       u,
-      slice_get-set_other trails i j new (apart_of i j other)
+      slice_get-set_other _ i j _ (apart_of i j other)
           ∙ there,
       λ is_asked. (is_asked, refl, refl, refl),
     ))

@@ -29,8 +29,7 @@ registers_one s EmptyShown = refl
 pub registers_by : (s : State) (es : List Effect) → registers_after s.registers es
     ≡ (with_effects s es).registers
 registers_by s [] = refl
-registers_by s (e ∷ es) =
-    ap (λ rs. registers_after rs es) (registers_one s e) ∙ registers_by (with_effect s e) es
+registers_by s (e ∷ es) = cc (registers_one s e, registers_by (with_effect s e) es)
 
 lists_one : (s : State) (e : Effect) → lists_with s.lists e ≡ (with_effect s e).lists
 lists_one s (SetShown k a) = refl
@@ -56,9 +55,8 @@ pub shown_by : (base : Amounts) (pairs : List (ℕ × ℕ)) (s : State) (es : Li
     → (with_effects s es).shown ≡ hidden_with (cond (list_any is_clearing es) [] base)
     (shown_after pairs es)
 shown_by base pairs s [] is = is
-shown_by base pairs s (SetShown k a ∷ es) is =
-    shown_by base (pairs ++ (k, a) ∷ []) (with_effect s (SetShown k a)) es
-    (ap (λ m. with_amount m k a) is ∙ sym (set_more base pairs k a))
+shown_by base pairs s (SetShown k a ∷ es) is = shown_by base (pairs ++ (k, a) ∷ [])
+    (with_effect s (SetShown k a)) es (cc (set_more base pairs k a))
 shown_by base pairs s (SetHidden k a ∷ es) is = shown_by base pairs (with_effect s (SetHidden k a))
     es is
 shown_by base pairs s (SetRegister i a ∷ es) is = shown_by base pairs
@@ -72,16 +70,14 @@ shown_by base pairs s (TakeFirst i ∷ es) is = shown_by base pairs (with_effect
 shown_by base pairs s (TakeLast i ∷ es) is = shown_by base pairs (with_effect s (TakeLast i)) es is
 shown_by base pairs s (Empty i ∷ es) is = shown_by base pairs (with_effect s (Empty i)) es is
 shown_by base pairs s (EmptyShown ∷ es) is =
-    shown_by [] [] (with_effect s EmptyShown) es refl
-    ∙ ap (λ none. hidden_with none (shown_after [] es)) (cond_alike (list_any is_clearing es))
+    cc (shown_by [] [] (with_effect s EmptyShown) es refl, cond_alike (list_any is_clearing es))
 
 pub hidden_by : (base : Amounts) (pairs : List (ℕ × ℕ)) (s : State) (es : List Effect) → s.hidden
     ≡ hidden_with base pairs
     → (with_effects s es).hidden ≡ hidden_with base (hidden_after pairs es)
 hidden_by base pairs s [] is = is
-hidden_by base pairs s (SetHidden k a ∷ es) is =
-    hidden_by base (pairs ++ (k, a) ∷ []) (with_effect s (SetHidden k a)) es
-    (ap (λ m. with_amount m k a) is ∙ sym (set_more base pairs k a))
+hidden_by base pairs s (SetHidden k a ∷ es) is = hidden_by base (pairs ++ (k, a) ∷ [])
+    (with_effect s (SetHidden k a)) es (cc (set_more base pairs k a))
 hidden_by base pairs s (SetShown k a ∷ es) is = hidden_by base pairs (with_effect s (SetShown k a))
     es is
 hidden_by base pairs s (SetRegister i a ∷ es) is = hidden_by base pairs
@@ -185,10 +181,7 @@ pub shown_more : (es : List Effect) (i : ℕ) (d : Effect) (pairs after end : Li
     → shown_after pairs (drop i es) ≡ end → after ≡ shown_after pairs (slice_index_or es i d ∷ [])
     → shown_after after (drop (i + 1) es) ≡ end
 shown_more es i d pairs after end low was is_after =
-    ap (λ ps. shown_after ps (drop (i + 1) es)) is_after
-    ∙ ap (λ n. shown_after (shown_after pairs (slice_index_or es i d ∷ [])) (drop n es)) (add-one i)
-    ∙ sym (shown_then pairs (slice_index_or es i d) (drop (suc i) es))
-    ∙ ap (shown_after pairs) (sym (drop-cons es i d low)) ∙ was
+    cc (add-one i, shown_then pairs (slice_index_or es i d) (drop (suc i) es), drop-cons es i d low)
 
 pub hidden_more : (es : List Effect) (i : ℕ) (d : Effect) (pairs after end : List (ℕ × ℕ))
     → i < length es
@@ -218,9 +211,6 @@ pub each_part : (s : State) (es : List Effect) (clears : Bool) (pairs others : L
       lists = lists;
     } in t) ≡ with_effects s es
 each_part s es clears pairs others shown hidden registers lists c p o a b r l =
-    whole s es shown hidden registers lists
-    (a ∙ ap (λ b'. hidden_with (cond b' [] s.shown) pairs) c
-    ∙ ap (hidden_with (cond (list_any is_clearing es) [] s.shown)) p
-    ∙ sym (shown_by s.shown [] s es refl))
-    (b ∙ ap (hidden_with s.hidden) o ∙ sym (hidden_by s.hidden [] s es refl))
-    (r ∙ registers_by s es) (l ∙ lists_by s es)
+    whole s es _ _ _ _ (cc (shown_by s.shown [] s es refl))
+    (b ∙ ap (hidden_with _) o ∙ sym (hidden_by s.hidden [] s es refl)) (r ∙ registers_by s es)
+    (l ∙ lists_by s es)

@@ -25,11 +25,9 @@ module _ (key : ℕ) where
       → amount_of (with_effects s effects).shown key ≡ amount_of s.shown key
   other_keys_by s [] e c = refl
   other_keys_by s (SetShown k a ∷ effects) e c =
-      other_keys_by (with_effect s (SetShown k a)) effects
-      (right_false (key == k) (list_any (λ k. key == k) (shown_keys effects)) e) c
-      ∙ amount_of-with_amount s.shown k a key
-      ∙ ap (λ b. cond b a (amount_of s.shown key))
-      (left_false (key == k) (list_any (λ k. key == k) (shown_keys effects)) e)
+      other_keys_by (with_effect s (SetShown k a)) effects (right_false _ _ e) c
+      ∙ amount_of-with_amount s.shown k a key ∙ ap (λ b. cond b a (amount_of s.shown key))
+      (left_false _ (list_any (λ k. key == k) (shown_keys effects)) e)
   other_keys_by s (SetHidden k a ∷ effects) e c = other_keys_by (with_effect s (SetHidden k a))
       effects e c
   other_keys_by s (SetRegister i a ∷ effects) e c = other_keys_by (with_effect s (SetRegister i a))

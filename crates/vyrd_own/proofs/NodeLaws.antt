@@ -30,10 +30,7 @@ last_more exprs e = ap (earlier (exprs ++ e ∷ [])) (index exprs) ∙ at_end ex
 pub expr_last : (front nodes : List Node) (node : Node) → nodes ≡ front ++ node ∷ [] → expr_of nodes
     ≡ expr_at (exprs_of front) node
 unfolding expr_of exprs_of
-expr_last front nodes node is =
-    ap (λ ns. earlier (exprs_from [] ns) (length (exprs_from [] ns) - 1)) is
-    ∙ ap (λ es. earlier es (length es - 1)) (from_more [] front node)
-    ∙ last_more (exprs_from [] front) (expr_at (exprs_from [] front) node)
+expr_last front nodes node is = search (from_more, last_more, arith)
 
 -- there is no node
 pub expr_none : (nodes : List Node) → nodes ≡ [] → expr_of nodes ≡ number 0
@@ -55,10 +52,8 @@ length_from exprs (n ∷ nodes) =
 kept_at : (exprs : List Expr) (nodes : List Node) (i : ℕ) → i < length exprs
     → earlier (exprs_from exprs nodes) i ≡ earlier exprs i
 kept_at exprs [] i low = refl
-kept_at exprs (n ∷ nodes) i low =
-    kept_at (exprs ++ expr_at exprs n ∷ []) nodes i
-    (omega (arith, length-append exprs (expr_at exprs n ∷ [])))
-    ∙ inside exprs i low
+kept_at exprs (n ∷ nodes) i low = kept_at (exprs ++ expr_at _ n ∷ []) nodes i
+    (omega (arith, length-append exprs (expr_at exprs n ∷ []))) ∙ inside exprs i low
   where
     inside : (xs : List Expr) (j : ℕ) → j < length xs → earlier (xs ++ expr_at exprs n ∷ []) j
         ≡ earlier xs j
@@ -105,9 +100,8 @@ pub earlier_at : (front : List Node) (i : ℕ) (other node : Node) → i < lengt
     → earlier (exprs_of front) i ≡ expr_at (exprs_of (take i front)) node
 earlier_at front i other node low is =
     let next : i + 1 ≡ suc i = omega arith in
-    sym (earlier_is front (take (i + 1) front) i low refl)
-    ∙ expr_last (take i front) (take (i + 1) front) node
-    (ap (λ k. take k front) next ∙ take_to front i other node low is)
+    sym (earlier_is _ (take _ _) i low refl)
+    ∙ expr_last _ _ _ (cc (take_to front i other node low is))
 
 -- past the nodes there is no expression
 pub earlier_none : (front : List Node) (i : ℕ) → length front ≤ i → earlier (exprs_of front) i

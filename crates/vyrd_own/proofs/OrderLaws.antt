@@ -30,17 +30,14 @@ to_test key k = grind (arith, nat_tests)
 
 least-keys : (key : ℕ) (es found : Amounts) → found ≡ filter (λ e. is_le (nat_cmp key e.0) && true)
     es → least_from key es ≡ slice_index_or (keys_of found) 0 most
-least-keys key es found is =
-    ap (λ ks. slice_index_or ks 0 most)
-    (sym (keys-filter (λ k. is_le (nat_cmp key k) && true) (λ k. nat_le key k) (from_test key) es)
+least-keys key es found is = ap (λ ks. slice_index_or ks 0 most)
+    (sym (keys-filter (λ k. is_le _ && true) (λ k. nat_le _ k) (from_test _) es)
     ∙ ap keys_of (sym is))
 
 greatest-keys : (key : ℕ) (es found : Amounts) → found ≡ filter (λ e. not (is_lt (nat_cmp key e.0)))
     es → greatest_to key es ≡ slice_index_or (reverse (keys_of found)) 0 most
-greatest-keys key es found is =
-    ap (λ ks. slice_index_or (reverse ks) 0 most)
-    (sym (keys-filter (λ k. not (is_lt (nat_cmp key k))) (λ k. nat_le k key) (to_test key) es)
-    ∙ ap keys_of (sym is))
+greatest-keys key es found is = ap (λ ks. slice_index_or (reverse ks) 0 most)
+    (sym (keys-filter (λ k. not _) (λ k. nat_le k _) (to_test _) es) ∙ ap keys_of (sym is))
 
 pub least_none : (key : ℕ) (es found : Amounts)
     → found ≡ filter (λ e. is_le (nat_cmp key e.0) && true) es → found ≡ []

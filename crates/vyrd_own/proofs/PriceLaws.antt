@@ -52,8 +52,7 @@ gathered_few ps qs (EmptyShown ∷ es) = omega (arith, gathered_few [] qs es)
 pub few_effects : (s : State) (values : List ℕ) (cases : List Case) → option_map_or length
     (allowed_effects s values cases) 0 ≤ longest_case cases
 few_effects s values [] = omega arith
-few_effects s values (case ∷ cases) =
-    by_test (holds (value s values case.allow)) (few_effects s values cases)
+few_effects s values (case ∷ cases) = by_test (holds _) (few_effects s values cases)
   where
     by_test : (b : Bool) → option_map_or length (allowed_effects s values cases) 0
         ≤ longest_case cases → option_map_or length (option_map

@@ -107,9 +107,7 @@ module _ (s : State) (values : List ℕ) (exprs : List Expr) where
           ≡ counted s values (earlier exprs a) ++ f (earlier exprs a) ∷ []
           → counted s values (expr_at exprs node)
           ≡ counted s values part ++ expr_at exprs node ∷ []
-      to f same all =
-          same_parts s values _ _ (counted s values (earlier exprs a)) same all
-          ∙ ap (λ x. counted s values x ++ expr_at exprs node ∷ []) (sym there)
+      to f same all = cc (same_parts s values _ _ (counted s values (earlier exprs a)) same all)
 
       by_node : HasPart node a
           → counted s values (expr_at exprs node)
@@ -125,9 +123,7 @@ module _ (s : State) (values : List ℕ) (exprs : List Expr) where
       → node ≡ nodes.Infix op a b
       → counted s values e ≡ counted s values left ++ counted s values right ++ e ∷ []
   of_infix e left right node op a b is there also node-is = same_parts s values e
-      (infix_of op left right) (counted s values left ++ counted s values right)
-      (is ∙ ap (expr_at exprs) node-is ∙ ap (λ x. infix_of op x (earlier exprs b)) (sym there)
-      ∙ ap (infix_of op left) (sym also)) refl
+      (infix_of op left right) (counted s values left ++ counted s values right) (cc) refl
 
   -- a choice, with the part that its test leads to
   pub of_choice : (e asked part : Expr) (node : Node) (test a b chosen : ℕ)
@@ -136,13 +132,8 @@ module _ (s : State) (values : List ℕ) (exprs : List Expr) where
       → counted s values e ≡ counted s values asked ++ counted s values part ++ e ∷ []
   of_choice e asked part node test a b chosen is there also leads node-is = same_parts s values e
       (choice asked (earlier exprs a) (earlier exprs b))
-      (counted s values asked ++ counted s values part)
-      (is ∙ ap (expr_at exprs) node-is
-      ∙ ap (λ x. choice x (earlier exprs a) (earlier exprs b)) (sym there))
-      (ap (λ xs. counted s values asked ++ xs
-      ++ choice asked (earlier exprs a) (earlier exprs b) ∷ [])
-      (rest (holds (value s values asked))
-      ∙ sym (ap (counted s values) (also ∙ ap (earlier exprs) leads))))
+      (counted s values asked ++ counted s values part) (cc)
+      (cc (rest (holds (value s values asked))))
     where
       rest : (says : Bool) → (if says then counted s values (earlier exprs a)
           else counted s values (earlier exprs b))

@@ -11,22 +11,19 @@ use Rattle.vyrd_own.specs.Sets.{amount_after, is_set, is_among, AreAdded, HasKey
 
 -- a test is true or false
 pub decided : (b : Bool) → (b ≡ true) ⊎ (b ≡ false)
-decided true = inl refl
-decided false = inr refl
+decided b = search arith
 
 -- what pairs make of amounts
 pub amount_of-set : (s : Amounts) (pairs : List (ℕ × ℕ)) (q : ℕ)
     → amount_of (hidden_with s pairs) q ≡ amount_after pairs q (amount_of s q)
 amount_of-set s [] q = refl
 amount_of-set s (p ∷ pairs) q =
-    amount_of-set (with_amount s p.0 p.1) pairs q
-    ∙ ap (amount_after pairs q) (amount_of-with_amount s p.0 p.1 q)
+    cc (amount_of-set (with_amount s p.0 p.1) pairs q, amount_of-with_amount s p.0 p.1 q)
 
 pub formed_set : (s : Amounts) (pairs : List (ℕ × ℕ)) → IsAmounts s
     → IsAmounts (hidden_with s pairs)
 formed_set s [] is = is
-formed_set s (p ∷ pairs) is =
-    formed_set (with_amount s p.0 p.1) pairs (IsAmounts-with_amount s p.0 p.1 is)
+formed_set s (p ∷ pairs) is = formed_set (with_amount s _ _) pairs (IsAmounts-with_amount s _ _ is)
 
 -- one pair more
 pub set_more : (s : Amounts) (pairs : List (ℕ × ℕ)) (k a : ℕ)
@@ -60,10 +57,8 @@ named_same pairs q x y e = named_by pairs q x true e ∙ sym (named_by pairs q y
 -- a key that is to have an amount is set
 pub set_of_some : (pairs : List (ℕ × ℕ)) (q : ℕ) → amount_after pairs q 0 ≢ 0 → is_set pairs q
     ≡ true
-set_of_some pairs q some = elim (decided (is_set pairs q)) [
-  | inl here ↦ here
-  | inr away ↦ absurd (some (named_by pairs q 0 false away))
-]
+set_of_some pairs q some =
+    elim (decided _) [ inl here ↦ here | inr away ↦ absurd (some (named_by pairs q 0 false away)) ]
 
 -- each pair with the amount that its key has in the end
 abbrev pub finals : List (ℕ × ℕ) → List (ℕ × ℕ) → List (ℕ × ℕ)
@@ -71,8 +66,7 @@ finals all [] = []
 finals all (p ∷ pairs) = (p.0, amount_after all p.0 0) ∷ finals all pairs
 
 cond_alike : (b : Bool) (x : ℕ) → cond b x x ≡ x
-cond_alike true x = refl
-cond_alike false x = refl
+cond_alike b x = search arith
 
 finals_named : (all pairs : List (ℕ × ℕ)) (q x : ℕ)
     → amount_after (finals all pairs) q x ≡ cond (is_set pairs q) (amount_after all q 0) x
@@ -84,10 +78,7 @@ finals_named all (p ∷ pairs) q x = by_head (λ y. finals_named all pairs q y) 
         → (h : Bool) → (q == p.0) ≡ h → amount_after (finals all pairs) q
         (cond h (amount_after all p.0 0) x)
         ≡ cond (h || is_set pairs q) (amount_after all q 0) x
-    by_head rest true he = rest (amount_after all p.0 0)
-        ∙ ap (λ k. cond (is_set pairs q) (amount_after all q 0) (amount_after all k 0))
-        (sym (same_of q p.0 he))
-        ∙ cond_alike (is_set pairs q) (amount_after all q 0)
+    by_head rest true he = search (same_of, cond_alike, arith)
     by_head rest false he = rest x
 
 -- once all are set, the amounts are those that the pairs make of the amounts before keys were added
@@ -95,22 +86,14 @@ pub all_set : (before after : Amounts) (added : List ℕ) (pairs : List (ℕ × 
     → AreAdded before after added pairs → hidden_with after (finals pairs pairs)
     ≡ hidden_with before pairs
 all_set before after added pairs is a =
-    same_amounts (hidden_with after (finals pairs pairs)) (hidden_with before pairs)
-    (formed_set after (finals pairs pairs) a.formed) (formed_set before pairs is)
-    (λ q. amount_of-set after (finals pairs pairs) q ∙ finals_named pairs pairs q
-    (amount_of after q)
-    ∙ sym (named pairs q (amount_of after q)) ∙ a.same q ∙ sym (amount_of-set before pairs q))
+    same_amounts _ _ (formed_set after (finals pairs pairs) a.formed) (formed_set before pairs is)
+    (λ q. amount_of-set after (finals pairs pairs) q ∙ finals_named pairs pairs q (amount_of _ q)
+    ∙ sym (named pairs q (amount_of _ q)) ∙ a.same q ∙ sym (amount_of-set before pairs q))
 
 -- keys stay there that are to have an amount
 pub keys_kept : (s : Amounts) (pairs : List (ℕ × ℕ)) (k : ℕ) → HasKeys s pairs
     → HasKeys (with_amount s k (amount_after pairs k 0)) pairs
-keys_kept s pairs k has = λ q some none. by_key q some (q == k) refl
-    (sym (amount_of-with_amount s k (amount_after pairs k 0) q) ∙ none)
-  where
-    by_key : (q : ℕ) → amount_after pairs q 0 ≢ 0 → (h : Bool) → (q == k) ≡ h
-        → cond h (amount_after pairs k 0) (amount_of s q) ≡ 0 → ⊥
-    by_key q some true he e = some (ap (λ x. amount_after pairs x 0) (same_of q k he) ∙ e)
-    by_key q some false he e = has q some e
+keys_kept s pairs k has = search (amount_of-with_amount, same_of, arith)
 
 -- the keys taken out
 abbrev pub zeros : List ℕ → List (ℕ × ℕ)
@@ -129,11 +112,9 @@ zeros_named (k ∷ keys) q x = by_head (λ y. zeros_named keys q y) (q == k)
 -- what was added is taken back
 pub all_back : (before after : Amounts) (added : List ℕ) (pairs : List (ℕ × ℕ)) → IsAmounts before
     → AreAdded before after added pairs → hidden_with after (zeros added) ≡ before
-all_back before after added pairs is a =
-    same_amounts (hidden_with after (zeros added)) before (formed_set after (zeros added) a.formed)
-    is
-    (λ q. amount_of-set after (zeros added) q ∙ zeros_named added q (amount_of after q)
-    ∙ by_key q (is_among added q) refl)
+all_back before after added pairs is a = same_amounts _ _ (formed_set after (zeros added) a.formed)
+    is (λ q. amount_of-set after (zeros added) q ∙ zeros_named added q (amount_of _ q)
+    ∙ by_key q (is_among _ q) refl)
   where
     by_key : (q : ℕ) (h : Bool) → is_among added q ≡ h → cond h 0 (amount_of after q)
         ≡ amount_of before q
@@ -142,12 +123,10 @@ all_back before after added pairs is a =
 
 -- nothing was added yet
 pub none_added : (s : Amounts) (pairs : List (ℕ × ℕ)) → IsAmounts s → AreAdded s s [] pairs
-none_added s pairs is =
-    record { formed = is; others = λ q e. refl; absent = λ q e. cc; same = λ q. refl }
+none_added s pairs is = search arith
 
 or_split : (a b : Bool) → (a || b) ≡ true → (a ≡ true) ⊎ (b ≡ true)
-or_split true b e = inl refl
-or_split false b e = inr e
+or_split a b e = search arith
 
 among_more : (keys : List ℕ) (k q : ℕ) → is_among (keys ++ k ∷ []) q ≡ (is_among keys q || (q == k))
 among_more [] k q = by_test (q == k)
@@ -163,29 +142,14 @@ among_more (x ∷ keys) k q = by_head (among_more keys k q) (q == x)
     by_head rest false = rest
 
 left_false : (a b : Bool) → (a || b) ≡ false → a ≡ false
-left_false false b e = refl
-left_false true b e = cc
+left_false a b e = search arith
 
 -- a key that isn't there is named as one that is added
 pub named_too : (before after : Amounts) (added : List ℕ) (pairs : List (ℕ × ℕ)) (k : ℕ)
     → AreAdded before after added pairs → amount_of after k ≡ 0
     → AreAdded before after (added ++ k ∷ []) pairs
-named_too before after added pairs k a none = record {
-  formed = a.formed;
-  others = λ q e. a.others q
-      (left_false (is_among added q) (q == k) (sym (among_more added k q) ∙ e));
-  absent = λ q e. elim (or_split (is_among added q) (q == k) (sym (among_more added k q) ∙ e)) [
-    | inl here ↦ a.absent q here
-    | inr here ↦ ap (amount_of before) (same_of q k here) ∙ missing
-  ];
-  same = a.same;
-}
-  where
-    missing : amount_of before k ≡ 0
-    missing = elim (decided (is_among added k)) [
-      | inl here ↦ a.absent k here
-      | inr away ↦ sym (a.others k away) ∙ none
-    ]
+named_too before after added pairs k a none = search
+    (left_false, among_more, or_split, same_of, decided, arith)
 
 -- the key is there now
 pub set_too : (before after : Amounts) (added : List ℕ) (pairs : List (ℕ × ℕ)) (k x : ℕ)
@@ -193,8 +157,7 @@ pub set_too : (before after : Amounts) (added : List ℕ) (pairs : List (ℕ × 
     → AreAdded before (with_amount after k x) added pairs
 set_too before after added pairs k x a among set = record {
   formed = IsAmounts-with_amount after k x a.formed;
-  others = λ q e. amount_of-with_amount after k x q
-      ∙ ap (λ b. cond b x (amount_of after q)) (apart q e (q == k) refl) ∙ a.others q e;
+  others = λ q e. cc (amount_of-with_amount after k x q, apart q e (q == k) refl, a.others q e);
   absent = a.absent;
   same = λ q. by_key q (q == k) refl;
 }
@@ -206,28 +169,20 @@ set_too before after added pairs k x a among set = record {
     by_key : (q : ℕ) (h : Bool) → (q == k) ≡ h
         → amount_after pairs q (amount_of (with_amount after k x) q) ≡ amount_after pairs q
         (amount_of before q)
-    by_key q true he = named_same pairs q (amount_of (with_amount after k x) q) (amount_of before q)
-        (ap (is_set pairs) (same_of q k he) ∙ set)
-    by_key q false he = ap (amount_after pairs q)
-        (amount_of-with_amount after k x q ∙ ap (λ b. cond b x (amount_of after q)) he) ∙ a.same q
+    by_key q true he = search (named_same, same_of, arith)
+    by_key q false he = cc (amount_of-with_amount after k x q, a.same q)
 
 -- a key that was named last is among those named
 pub among_last : (keys : List ℕ) (k : ℕ) → is_among (keys ++ k ∷ []) k ≡ true
-among_last keys k = among_more keys k k ∙ ap (λ b. is_among keys k || b) (is_same k k refl)
-    ∙ or_true (is_among keys k)
-  where
-    or_true : (a : Bool) → (a || true) ≡ true
-    or_true true = refl
-    or_true false = refl
+among_last keys k = search (among_more, is_same, arith)
 
 -- a pair's key is set
 pub set_at : (pairs : List (ℕ × ℕ)) (i : ℕ) (d : ℕ × ℕ) → i < length pairs
     → is_set pairs (slice_index_or pairs i d).0 ≡ true
 set_at [] i d low = absurd (omega arith)
-set_at (p ∷ pairs) zero d low = ap (λ b. b || is_set pairs p.0) (is_same p.0 p.0 refl)
+set_at (p ∷ pairs) zero d low = cc (is_same p.0 p.0 refl)
 set_at (p ∷ pairs) (suc i) d low =
-    ap (λ b. ((slice_index_or pairs i d).0 == p.0) || b) (set_at pairs i d (omega arith))
-    ∙ or_true ((slice_index_or pairs i d).0 == p.0)
+    cc (set_at pairs i d (omega arith), or_true ((slice_index_or pairs i d).0 == p.0))
   where
     or_true : (a : Bool) → (a || true) ≡ true
     or_true true = refl
@@ -250,23 +205,13 @@ room_more s t pairs i d low room others here = λ q some away. by_key q some awa
     by_key : (q : ℕ) → amount_after pairs q 0 ≢ 0 → is_set (drop (i + 1) pairs) q ≡ false
         → (h : Bool)
         → (q == (slice_index_or pairs i d).0) ≡ h → amount_of t q ≢ 0
-    by_key q some away true he = λ none.
-        here (λ zero'. some
-        (ap (λ x. amount_after pairs x 0) (same_of q (slice_index_or pairs i d).0 he) ∙ zero'))
-        (ap (amount_of t) (sym (same_of q (slice_index_or pairs i d).0 he)) ∙ none)
-    by_key q some away false he = λ none.
-        room q some (ap (λ ps. is_set ps q) (drop-cons pairs i d low)
-        ∙ ap (λ b. b || is_set (drop (suc i) pairs) q) he
-        ∙ ap (λ n. is_set (drop n pairs) q) (sym (add-one i)) ∙ away)
+    by_key q some away true he = search (same_of, arith)
+    by_key q some away false he = λ none. room q some (cc (drop-cons pairs i d low, add-one i))
         (sym (others q he) ∙ none)
 
 -- no key was gone through, and all were
 pub no_room_yet : (s : Amounts) (pairs : List (ℕ × ℕ)) → HaveRoomTo s pairs 0
-no_room_yet s pairs = λ q some away. absurd
-    (not_both (is_set pairs q) (set_of_some pairs q some) away)
-  where
-    not_both : (b : Bool) → b ≡ true → b ≡ false → ⊥
-    not_both b e f = cc
+no_room_yet s pairs = search (set_of_some, arith)
 
 -- the key of a pair
 abbrev pub key_at : List (ℕ × ℕ) → ℕ → ℕ
@@ -278,12 +223,7 @@ pub step_kept : (before s t : Amounts) (added keys : List ℕ) (pairs : List (�
     → (AreAdded before s added pairs × HaveRoomTo s pairs i) → t ≡ s → keys ≡ added
     → (amount_after pairs (key_at pairs i) 0 ≢ 0 → amount_of s (key_at pairs i) ≢ 0)
     → AreAdded before t keys pairs × HaveRoomTo t pairs (i + 1)
-step_kept before s t added keys pairs i low was same_s same_keys there = (
-  subst (λ x. AreAdded before x keys pairs) (sym same_s)
-      (subst (λ ks. AreAdded before s ks pairs) (sym same_keys) was.0),
-  subst (λ x. HaveRoomTo x pairs (i + 1)) (sym same_s)
-      (room_more s s pairs i (0, 0) low was.1 (λ q e. refl) there),
-)
+step_kept before s t added keys pairs i low was same_s same_keys there = search (room_more, arith)
 
 -- one pair more was gone through, whose key was added
 pub step_added : (before s t : Amounts) (added keys : List ℕ) (pairs : List (ℕ × ℕ)) (i x : ℕ)
@@ -293,17 +233,10 @@ pub step_added : (before s t : Amounts) (added keys : List ℕ) (pairs : List (�
     → t ≡ with_amount s (key_at pairs i) x → keys ≡ added ++ key_at pairs i ∷ []
     → AreAdded before t keys pairs × HaveRoomTo t pairs (i + 1)
 step_added before s t added keys pairs i x low was none some is_t is_keys = (
-  subst (λ y. AreAdded before y keys pairs) (sym is_t)
-      (subst (λ ks. AreAdded before (with_amount s k x) ks pairs) (sym is_keys)
-      (set_too before s (added ++ k ∷ []) pairs k x (named_too before s added pairs k was.0 none)
-      (among_last added k)
+  rw is_t (rw is_keys (set_too _ s _ _ k x (named_too _ s _ _ k was.0 none) (among_last _ k)
       (set_at pairs i (0, 0) low))),
-  subst (λ y. HaveRoomTo y pairs (i + 1)) (sym is_t)
-      (room_more s (with_amount s k x) pairs i (0, 0) low was.1
-      (λ q e. amount_of-with_amount s k x q ∙ ap (λ b. cond b x (amount_of s q)) e)
-      (λ _. λ zero'. some
-      (sym (amount_of-with_amount s k x k ∙ ap (λ b. cond b x (amount_of s k)) (is_same k k refl))
-      ∙ zero'))),
+  rw is_t (room_more s _ pairs i (0, 0) low was.1 (λ q e. cc (amount_of-with_amount s k x q))
+      (λ _. λ zero'. some (sym (cc (amount_of-with_amount s k x k, is_same k k refl)) ∙ zero'))),
 )
   where
     k : ℕ
@@ -326,11 +259,10 @@ set_step s t pairs i end low was is_t = (
 -- a key that wasn't there, set and taken out
 pub taken_back : (s : Amounts) (k a : ℕ) → IsAmounts s → amount_of s k ≡ 0
     → with_amount (with_amount s k a) k 0 ≡ s
-taken_back s k a is none =
-    same_amounts (with_amount (with_amount s k a) k 0) s
+taken_back s k a is none = same_amounts _ s
     (IsAmounts-with_amount (with_amount s k a) k 0 (IsAmounts-with_amount s k a is)) is
-    (λ q. amount_of-with_amount (with_amount s k a) k 0 q
-    ∙ ap (cond (q == k) 0) (amount_of-with_amount s k a q) ∙ by_key q (q == k) refl)
+    (λ q. amount_of-with_amount _ k 0 q ∙ ap (cond (q == k) 0) (amount_of-with_amount s k a q)
+    ∙ by_key q (q == k) refl)
   where
     by_key : (q : ℕ) (h : Bool) → (q == k) ≡ h → cond h 0 (cond h a (amount_of s q)) ≡ amount_of s q
     by_key q true e = sym (ap (amount_of s) (same_of q k e) ∙ none)

@@ -18,8 +18,7 @@ so_far_is c bytes checked = grind (arith, checked)
 pub checked_longer : (c : CheckerState) (bytes more : List ℕ) → IsLimit (limit_of c.kept)
     → is_some c.so_far ≡ true
     → HasChecked c bytes → HasChecked c (bytes ++ more)
-checked_longer c bytes more limit there checked =
-    grind (arith, more, there, checked, is_some, own_verdict_lasts)
+checked_longer c bytes more limit there checked = search (is_some, own_verdict_lasts, arith)
 
 -- and of the whole input
 pub checked_whole : (c : CheckerState) (bytes : List ℕ) (v : Verdict) → IsLimit (limit_of c.kept)
@@ -27,10 +26,9 @@ pub checked_whole : (c : CheckerState) (bytes : List ℕ) (v : Verdict) → IsLi
     → HasChecked c bytes → v ≡ own_text_verdict (limit_of c.kept) bytes
 checked_whole c bytes v limit there checked =
     let max = (limit_of c.kept) in
-    let here : own_text_verdict_so_far max bytes ≡ Some v = subst (FollowsBy c.kept bytes) there
+    let here : own_text_verdict_so_far max bytes ≡ Some v = subst (FollowsBy _ _) there
     checked.follows in
-    sym (ap (own_text_verdict max) (sym (append-nil bytes)) ∙ own_verdict_stands max bytes
-    [] v limit here)
+    sym (ap (own_text_verdict _) (sym (append-nil _)) ∙ own_verdict_stands _ _ [] v limit here)
 
 pub empty_of : (xs : List ℕ) → true ≡ (length xs == 0) → xs ≡ []
 empty_of xs e = let none : length xs ≡ 0 = grind (arith, nat_tests) in by_length xs none

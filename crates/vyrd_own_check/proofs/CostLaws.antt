@@ -38,13 +38,7 @@ never e = cc
 
 -- before an entry or `end` was read nothing costs a step
 cost_unbegun : (h : Header) (read : OwnReading) → has_begun read ≡ false → headed_cost h read ≡ 0
-cost_unbegun h read none = by_parts read.entries read.ended none
-  where
-    by_parts : (es : List Entry) (ended : Bool) → (has_any es || ended) ≡ false
-        → cost_of h read.lines read.starting (has_any es || ended) es ended ≡ 0
-    by_parts [] false e = refl
-    by_parts [] true e = never (sym e)
-    by_parts (x ∷ es) ended e = never (sym e)
+cost_unbegun h read none = search (has_any, never, arith)
 
 pub unbegun_free : (read : OwnReading) → has_begun read ≡ false → reading_cost read ≡ 0
 unbegun_free read none = grind (arith, read, cost_unbegun)
@@ -142,25 +136,21 @@ piece_paid (Some j) after old new more done judging g going ready begun =
     let h = header_of_charter old.header old.lines j.kept.charter judging.charter in
     let same = g.begun judging.begun in
     let was : reading_cost old ≡ starting_cost h.0 new.lines new.starting
-    + sum_by (entry_cost h.0 new.lines) old.entries + 0 =
-    ap (λ o. option_map_or (λ k. headed_cost k old) o 0) h.1
+    + sum_by (entry_cost h.0 new.lines) old.entries
+    + 0 = ap (λ o. option_map_or (λ k. headed_cost k old) o 0) h.1
     ∙ (λ i. cost_of h.0 (sym same.0 i) (sym same.1 i) (judging.begun i) old.entries (going i)) in
     let is : reading_cost new ≡ starting_cost h.0 new.lines new.starting
     + (sum_by (entry_cost h.0 new.lines) old.entries + sum_by (entry_cost h.0 new.lines) more)
     + cond done h.0.callers 0 =
-    ap (λ o. option_map_or (λ k. headed_cost k new) o 0) (g.header h.0 h.1)
-    ∙ cost_begun h.0 old new more judging.begun (begun_on old new g judging.begun) same.0 same.1
-    here.entries
-    ∙ ap (λ b. starting_cost h.0 new.lines new.starting
-    + (sum_by (entry_cost h.0 new.lines) old.entries + sum_by (entry_cost h.0 new.lines) more)
-    + cond b h.0.callers 0) here.ended in
-    subst (λ o. judge_owes o old.entries + following_cost o more done + reading_cost old
-    ≤ judge_owes (Some j) old.entries + reading_cost new) (sym begun)
-    (paid_on (judge_debt price_by most_touched j old.entries) _ _ _ _ _ (reading_cost old)
-    (reading_cost new)
+    cc (
+      g.header h.0 h.1,
+      cost_begun h.0 old new more judging.begun
+          (begun_on old new g judging.begun) same.0 same.1 here.entries,
+      here.ended,
+    ) in
+    rw begun (paid_on _ _ _ _ _ _ _ (reading_cost new)
     (following_is j h.0 new.lines more done (ap (own h.0) same.0 ∙ h.2)) was is)
-piece_paid None after old new more done judging g going ready begun =
-    by_judge after ready begun
+piece_paid None after old new more done judging g going ready begun = by_judge after ready begun
   where
     was : reading_cost old ≡ 0
     was = unbegun_free old (λ i. has_any (judging.0 i) || judging.1 i)
@@ -169,15 +159,12 @@ piece_paid None after old new more done judging g going ready begun =
         → IsBegun (has_any more || new.ended) new.header new.lines new.starting None o
         → judge_owes o old.entries + following_cost o more done + reading_cost old
         ≤ judge_owes None old.entries + reading_cost new
-    by_judge None r b = still (reading_cost old) (reading_cost new) was
-    by_judge (Some j) r b =
-        search (header_of_charter, more, paid_made, has_any, following_is, arith)
+    by_judge o r b = search (still, header_of_charter, paid_made, has_any, following_is, arith)
 
 -- what is owed once a verdict stands, or none
 pub after_at_most : (o : Option Verdict) (k : OwnCheckerKept) (bytes : List ℕ)
     → debt_after o k bytes ≤ kept_debt k bytes
-after_at_most None k bytes = omega arith
-after_at_most (Some v) k bytes = omega arith
+after_at_most o k bytes = search arith
 
 -- once a verdict stands nothing is owed
 pub stands_owes : (c : CheckerState) (v : Verdict) (bytes : List ℕ) → c.so_far ≡ Some v
@@ -216,8 +203,7 @@ pub open_paid : (j k : JudgeView) (read : OwnReading) (log more : List Entry) (d
     ≤ m + judge_debt price_by most_touched j log + log_cost price_by most_touched j.kept more
     → last + judge_owes (Some k) read.entries
     ≤ m + judge_owes (Some j) log + following_cost (Some j) more done
-open_paid j k read log more done m n last ready is rules one paid =
-    grind (arith, read, more, paid, asked)
+open_paid j k read log more done m n last ready is rules one paid = search (asked, arith)
 
 -- without a judge nothing costs a step
 pub still_none : (o : Option JudgeView) (read : OwnReading) (log more : List Entry) (done : Bool)
@@ -254,8 +240,7 @@ pub parts_paid : (first before after : CheckerState) (bytes read part all : List
     + bytes_cost (limit_of before.kept) ((bytes ++ read) ++ part)
     → n + checker_debt after (bytes ++ all) + bytes_cost (limit_of first.kept) bytes
     ≤ l + checker_debt first bytes + bytes_cost (limit_of first.kept) (bytes ++ all)
-parts_paid first before after bytes read part all l m n limit parted one two =
-    grind (arith, after, read, parted, two_parts)
+parts_paid first before after bytes read part all l m n limit parted one two = grind arith
 
 settled : (l m a b c x y z : ℕ) → m + b + x ≤ l + a + y → y ≤ z → c ≡ 0 → m + c + x ≤ l + a + z
 settled l m a b c x y z paid more none = omega (arith, paid, more, none)
@@ -268,12 +253,7 @@ pub stands_paid : (first now : CheckerState) (v : Verdict) (bytes read rest piec
     → m + checker_debt now (bytes ++ piece) + bytes_cost (limit_of first.kept) bytes
     ≤ l + checker_debt first bytes + bytes_cost (limit_of first.kept) (bytes ++ piece)
 stands_paid first now v bytes read rest piece l m limit stands parted paid =
-    settled l m _ (checker_debt now (bytes ++ read)) _ _ _ _ paid
-    (subst (λ xs. bytes_cost (limit_of first.kept) (bytes ++ read)
-    ≤ bytes_cost (limit_of first.kept) xs)
-    (append_assoc bytes read rest ∙ ap (λ xs. bytes ++ xs) (sym parted))
-    (bytes_more (limit_of first.kept) (bytes ++ read) rest limit))
-    (stands_owes now v (bytes ++ piece) stands)
+    search (settled, append_assoc, bytes_more, stands_owes, arith)
 
 no_more : (n a b x y : ℕ) → a ≡ b → x ≡ y → n + a + x ≤ n + b + y
 no_more n a b x y owed cost = omega (arith, owed, cost)

@@ -40,14 +40,7 @@ same_untold old new s = grind arith
 -- and the judge has followed them
 same_judging : (judge : Option JudgeView) (old new : OwnReading) → IsSameLog old new
     → IsJudging judge old → IsJudging judge new
-same_judging None old new s judging = (s.entries ∙ judging.0, s.ended ∙ judging.1)
-same_judging (Some j) old new s judging = record {
-  charter = (λ i. option_map (λ h. own h (s.lines i)) (s.header i)) ∙ judging.charter;
-  followed = subst (HasFollowed j new.starting) (sym s.entries)
-      (subst (λ ss. HasFollowed j ss old.entries) (sym s.starting) judging.followed);
-  so_far = judging.so_far;
-  begun = (λ i. has_any (s.entries i) || s.ended i) ∙ judging.begun;
-}
+same_judging judge old new s judging = search (own, has_any, arith)
 
 never : {A : Type 0} → false ≡ true → A
 never e = cc
@@ -66,35 +59,13 @@ module _ (old : OwnCheckerKept) (bytes piece : List ℕ) (limit : IsLimit (limit
 
   -- after `end` nothing more is read
   after_end : IsSameLog was is
-  after_end = record {
-    header = by_header was.header refl;
-    lines = (g.begun begun).0;
-    starting = (g.begun begun).1;
-    entries = (g.ended done).1;
-    ended = (g.ended done).0 ∙ sym done;
-  }
-    where
-      g : IsGrown was is
-      g = reading_grown (limit_of old) false bytes piece limit.low limit.high
-
-      done : was.ended ≡ true
-      done = sym u.read.ended ∙ ended
-
-      begun : has_begun was ≡ true
-      begun = or_right (has_any was.entries) was.ended done
-
-      by_header : (o : Option Header) → was.header ≡ o → is.header ≡ was.header
-      by_header None has = never
-          (sym ((reading_formed (limit_of old) bytes limit.low limit.high).headless has) ∙ begun)
-      by_header (Some h) has = g.header h has ∙ sym has
+  after_end = search (reading_grown, has_any, never, reading_formed, arith)
 
   -- the answer is the fault of text
   pub ended_answer : (fault : Option Verdict)
       → fault ≡ option_map (λ fault. Malformed fault.line fault.rule) is.fault
       → fault ≡ own_text_verdict_so_far (limit_of old) (bytes ++ piece)
-  ended_answer fault said =
-      known_so_far (limit_of old) (bytes ++ piece) is.numbers None fault refl
-      (sym (same_untold was is after_end ∙ untold_right (limit_of old) bytes u.nothing)) said
+  ended_answer fault said = search (known_so_far, same_untold, after_end, untold_right, arith)
 
   module _ (reader : ReaderState) (numbers : List ℕ)
       (same : reader.kept.lines.max_lines ≡ limit_of old) where

@@ -104,9 +104,8 @@ module _ (old : OwnCheckerKept) (reader : ReaderState) (piece : List ℕ)
       → do_follow h None reader.kept.start ≡ true
   fed_follows h has = ∥∥₁_elim somewhere (Bool-set _ _) (λ s.
       let read = reads s.0 s.1.read in
-      ap (do_follow h None) read.start
-      ∙ ((reading_formed reader.kept.lines.max_lines (s.0 ++ piece) bounds.low bounds.high).header h
-      (sym read.header ∙ has)).1)
+      ap (do_follow h _) read.start
+      ∙ ((reading_formed _ _ bounds.low bounds.high).header h (sym read.header ∙ has)).1)
 
 -- what the reader keeps is what the bytes with the piece say, up to the old limit
 record IsReadTo (reader : ReaderState) (bytes : List ℕ) (max : ℕ) : Type 0 where
@@ -137,11 +136,9 @@ module _ (old : OwnCheckerKept) (reader : ReaderState) (begun : Option JudgeView
       let is = read_so_far max (bytes ++ piece) in
       let read = read_to reader (bytes ++ piece) max fed.limit (fed.read bytes u.read) in
       let grown = fed.grown bytes u.read in
-      let all : is.entries ≡ was.entries ++ entries =
-      grown.other ∙ ap (λ more. was.entries ++ more) (sym grown.one) in
+      let all : is.entries ≡ was.entries ++ entries = cc (grown.other, grown.one) in
       let judge : IsBegun (has_any entries || is.ended) is.header is.lines is.starting old.judge
-      begun =
-      rw (← read.ended, ← read.header, ← read.lines, ← read.start) fed.judge in
+      begun = rw (← read.ended, ← read.header, ← read.lines, ← read.start) fed.judge in
       record {
         before = judge_before old.judge begun was is entries u.judging
             (reading_grown max false bytes piece limit.low limit.high)
@@ -173,18 +170,14 @@ module _ (old : OwnCheckerKept) (reader : ReaderState) (begun : Option JudgeView
   -- the numbers of lines are those of the bytes with the piece
   fed_numbers : (bytes : List ℕ) → IsUndecided old bytes
       → numbers ≡ (read_so_far (limit_of old) (bytes ++ piece)).numbers
-  fed_numbers bytes u =
-      let counted = fed.counted bytes u.read in
-      counted.one ∙ ap (λ ns. ns ++ counted.more) u.numbers ∙ sym counted.other
+  fed_numbers bytes u = search arith
 
   -- the answer is the verdict so far
   pub fed_answer : (wrong : Option Verdict) (bytes : List ℕ) → IsUndecided old bytes
       → wrong ≡ untold_in (read_so_far (limit_of old) (bytes ++ piece))
       → option_or (option_map (told_in_text numbers) wrong) fault ≡ own_text_verdict_so_far
       (limit_of old) (bytes ++ piece)
-  fed_answer wrong bytes u wrong_is =
-      known_so_far (limit_of old) (bytes ++ piece) numbers wrong fault (fed_numbers bytes u)
-      wrong_is (fed.faulty bytes u.read)
+  fed_answer wrong bytes u wrong_is = search (known_so_far, fed_numbers, arith)
 
   -- without a verdict what is kept goes on
   pub fed_undecided : (after : Option JudgeView) (bytes : List ℕ) → IsUndecided old bytes
@@ -192,11 +185,10 @@ module _ (old : OwnCheckerKept) (reader : ReaderState) (begun : Option JudgeView
       → own_text_verdict_so_far (limit_of old) (bytes ++ piece) ≡ None
       → IsUndecided (record { reader = reader; judge = after; numbers = numbers }) (bytes ++ piece)
   fed_undecided after bytes u judging nothing = record {
-    read = fed.read bytes u.read;
-    judging = subst (λ m. IsJudging after (read_so_far m (bytes ++ piece))) (sym fed.limit) judging;
-    numbers = fed_numbers bytes u ∙ ap (λ m. (read_so_far m (bytes ++ piece)).numbers)
-        (sym fed.limit);
-    nothing = ap (λ m. own_text_verdict_so_far m (bytes ++ piece)) fed.limit ∙ nothing;
+    read = fed.read _ u.read;
+    judging = rw fed.limit judging;
+    numbers = cc (fed_numbers bytes u, fed.limit);
+    nothing = cc fed.limit;
   }
 
   -- what a piece that was read and judged has cost is paid
@@ -210,20 +202,4 @@ module _ (old : OwnCheckerKept) (reader : ReaderState) (begun : Option JudgeView
       + bytes_cost (limit_of old) bytes
       ≤ m + kept_debt old bytes + bytes_cost (limit_of old) (bytes ++ piece)
   fed_paid limit going after bytes u m n taken =
-      let max = limit_of old in
-      let was = read_so_far max bytes in
-      let is = read_so_far max (bytes ++ piece) in
-      let read = read_to reader (bytes ++ piece) max fed.limit (fed.read bytes u.read) in
-      let judge : IsBegun (has_any entries || is.ended) is.header is.lines is.starting old.judge
-      begun =
-      rw (← read.ended, ← read.header, ← read.lines, ← read.start) fed.judge in
-      let more = reading_grown max false bytes piece limit.low limit.high in
-      let ready = fed_ready limit bytes u in
-      paid_then (judge_owes after is.entries) (judge_owes begun was.entries)
-      (following_cost begun entries (has_ended reader.kept.lines.stage)) (kept_debt old bytes)
-      (bytes_cost max bytes) (bytes_cost max (bytes ++ piece)) n m
-      (kept_debt (record { reader = reader; judge = after; numbers = numbers }) (bytes ++ piece))
-      (ap (λ l. judge_owes after (read_so_far l (bytes ++ piece)).entries) fed.limit)
-      (piece_paid old.judge begun was is entries (has_ended reader.kept.lines.stage) u.judging more
-      (sym u.read.ended ∙ going) ready judge)
-      taken
+      search (read_to, has_any, reading_grown, fed_ready, paid_then, piece_paid, arith)

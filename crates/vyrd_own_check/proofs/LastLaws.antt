@@ -41,23 +41,10 @@ module _ (old : OwnReading) (l : Charter) (w : Verdict) (wrong : untold_by old l
   r = rules_by l
 
   some_begun : has_begun old ≡ true
-  some_begun = by_parts old.entries old.ended wrong
-    where
-      by_parts : (es : List Entry) (b : Bool)
-          → option_or (verdict_so_far r old.starting es)
-          (cond b (end_verdict r old.starting es) None) ≡ Some w → (has_any es || b) ≡ true
-      by_parts [] true e = refl
-      by_parts [] false e = let none : verdict_so_far r old.starting []
-          ≡ None = nothing_so_far r old.starting in
-          absurd (never (sym (ap (λ o. option_or o None) none) ∙ e))
-        where
-          never : None ≡ Some w → ⊥
-          never f = cc
-      by_parts (x ∷ es) b e = refl
+  some_begun = search (has_any, nothing_so_far, arith)
 
   wrong_within : (max : ℕ) → IsFormed max old → IsWithin (length old.numbers) w
-  wrong_within max formed = by_parts (verdict_so_far r old.starting old.entries) old.ended refl refl
-      wrong
+  wrong_within max formed = by_parts (verdict_so_far r _ _) old.ended refl refl wrong
     where
       by_parts : (o : Option Verdict) (b : Bool) → verdict_so_far r old.starting old.entries ≡ o
           → old.ended ≡ b
@@ -65,14 +52,9 @@ module _ (old : OwnReading) (l : Charter) (w : Verdict) (wrong : untold_by old l
           → IsWithin (length old.numbers) w
       by_parts (Some x) b is done e =
           let same : x ≡ w = cc in
-          within_more (length old.starting + length old.entries) (length old.numbers) w
-          (omega (arith, formed.numbered))
-          (subst (IsWithin (length old.starting + length old.entries)) same
-          (so_far_within r old.starting old.entries x is))
-      by_parts None true is done e =
-          within_more (length old.starting + length old.entries + 1) (length old.numbers) w
-          (omega (arith, formed.numbered, ap ends done))
-          (end_within r old.starting old.entries w e)
+          within_more _ _ w (omega (arith, formed.numbered))
+          (subst (IsWithin _) same (so_far_within r _ _ x is))
+      by_parts None true is done e = search (within_more, ends, end_within, arith)
       by_parts None false is done e = cc
 
   module _ (new : OwnReading) (g : IsGrown old new) where
@@ -119,17 +101,14 @@ known_stays max old new v formed g found = by_fault old.fault refl
               wrong_stays
                   old l w wrong new g,
               g.numbers.1,
-              told_stays old.numbers g.numbers.0 w (wrong_within old
-                  l w wrong max formed),
+              told_stays old.numbers g.numbers.0 w (wrong_within old l w wrong max formed),
             )
 
     by_fault : (o : Option TextFault) → old.fault ≡ o → known_own_verdict new ≡ Some v
     by_fault (Some f) e = ap known_own_verdict (g.fault f e) ∙ found
     by_fault None e = by_wrong (charter_in old) refl
         (or_known (option_map (told_in_text old.numbers) (untold_in old)) v
-        (sym (known_is old
-        ∙ ap (λ o. option_or (option_map (told_in_text old.numbers) (untold_in old))
-        (option_map (λ fault. Malformed fault.line fault.rule) o)) e) ∙ found))
+        (sym (cc (known_is old)) ∙ found))
       where
         or_known : (o : Option Verdict) (a : Verdict) → option_or o None ≡ Some a → o ≡ Some a
         or_known None a f = cc
@@ -141,18 +120,15 @@ pub own_verdict_lasts : (max : ℕ) (bytes more : List ℕ) (v : Verdict) → Is
     → own_text_verdict_so_far max (bytes ++ more) ≡ Some v
 unfolding own_text_verdict_so_far
 own_verdict_lasts max bytes more v limit found =
-    known_stays max (own_reading (to_go_on max) bytes) (own_reading (to_go_on max) (bytes ++ more))
-    v
-    (reading_formed max bytes limit.low limit.high)
-    (reading_grown max false bytes more limit.low limit.high) found
+    known_stays max (own_reading _ _) (own_reading _ _) v (reading_formed _ _ limit.low limit.high)
+    (reading_grown _ _ _ _ limit.low limit.high) found
 
 pub own_verdict_stands : (max : ℕ) (bytes more : List ℕ) (v : Verdict) → IsLimit max
     → own_text_verdict_so_far max bytes ≡ Some v
     → own_text_verdict max (bytes ++ more) ≡ v
 unfolding own_text_verdict_so_far own_text_verdict
 own_verdict_stands max bytes more v limit found =
-    ap (λ o. unwrap_or o (accepted (own_reading (input_of max true) (bytes ++ more)).entries))
-    (known_stays max (own_reading (to_go_on max) bytes)
+    cc (known_stays max (own_reading (to_go_on max) bytes)
     (own_reading (input_of max true) (bytes ++ more)) v
     (reading_formed max bytes limit.low limit.high)
     (reading_grown max true bytes more limit.low limit.high) found)

@@ -18,9 +18,8 @@ number_last found place [] i d last low = absurd (omega (arith, last))
 number_last found place (run ∷ []) zero d last low = cc (is_at_most run.place place low)
 number_last found place (run ∷ []) (suc i) d last low = absurd (omega (arith, last))
 number_last found place (run ∷ next ∷ runs) zero d last low = absurd (omega (arith, last))
-number_last found place (run ∷ next ∷ runs) (suc i) d last low =
-    number_last (cond (nat_le run.place place) (number_in run place) found) place (next ∷ runs) i d
-    (omega (arith, last)) low
+number_last found place (run ∷ next ∷ runs) (suc i) d last low = number_last
+    (cond (nat_le _ _) (number_in _ _) found) place (next ∷ runs) i d (omega (arith, last)) low
 
 -- one run more
 number_push : (found place : ℕ) (runs : List Run) (run : Run)
@@ -43,21 +42,12 @@ module _ (runs after : List Run) (count line : ℕ) (before : (place : ℕ) → 
     → number_from 0 after place ≡ number_from 0 runs place)
     (here : number_from 0 after count ≡ line) where
   pub numbers_more : numbers_by after (count + 1) ≡ numbers_by runs count ++ line ∷ []
-  numbers_more =
-      ap (map (number_from 0 after)) (numbers_below-push count)
-      ∙ map-append (number_from 0 after) (numbers_below count) (count ∷ [])
+  numbers_more = ap (map _) (numbers_below-push _) ∙ map-append (number_from 0 after)
+      (numbers_below _) (count ∷ [])
       ∙ (λ i. map_alike (number_from 0 after) (number_from 0 runs) count before i ++ here i ∷ [])
 
   pub are_more : line < 2 ^ 64 → AreNumbers runs count → AreNumbers after (count + 1)
-  are_more low all place within = by_test (nat_lt place count) refl
-    where
-      by_test : (b : Bool) → nat_lt place count ≡ b → number_from 0 after place < 2 ^ 64
-      by_test true e = subst (λ n. n < 2 ^ 64) (sym (before place (below_of place count e)))
-          (all place (below_of place count e))
-      by_test false e =
-          let same : count ≡ place = let h = not_below_of place count e in
-          omega (arith, h, within) in
-          subst (λ n. n < 2 ^ 64) (sym here ∙ ap (number_from 0 after) same) low
+  are_more low all = search (below_of, not_below_of, arith)
 
 -- the number at a place
 pub number_there : (runs : List Run) (count place other : ℕ) → place < count

@@ -37,8 +37,7 @@ counted j starting log none f = (faultless_of none f).taken_in.entries
 
 -- more entries after some
 any_more : (xs more : List Entry) → has_any xs ≡ true → has_any (xs ++ more) ≡ true
-any_more [] more e = cc
-any_more (x ∷ xs) more e = refl
+any_more xs more e = search arith
 
 -- what has begun goes on
 pub begun_on : (old new : OwnReading) → IsGrown old new → has_begun old ≡ true → has_begun new
@@ -51,18 +50,16 @@ pub judge_before : (before after : Option JudgeView) (old new : OwnReading) (mor
     → new.entries ≡ old.entries ++ more
     → IsBegun (has_any more || new.ended) new.header new.lines new.starting before after
     → IsBefore after new old.entries
-judge_before (Some j) after old new more judging g headed all begun =
-    search (begun, charter_stays, begun_on, arith)
-judge_before None after old new more judging g headed all begun =
-    by_test (has_any more || new.ended) refl begun
+judge_before (Some j) after old new more judging g headed all begun = grind arith
+judge_before None after old new more judging g headed all begun = by_test (has_any _ || new.ended)
+    refl begun
   where
     same : has_begun new ≡ (has_any more || new.ended)
-    same = ap (λ es. has_any es || new.ended) (all ∙ ap (λ es. es ++ more) judging.0)
+    same = cc judging.0
 
     by_made : (h : Header) (o : Option JudgeView) → new.header ≡ Some h → has_begun new ≡ true
         → IsMade h new.lines new.starting o → IsBefore o new old.entries
-    by_made h None has now made =
-        (judging.0, λ f. (own h new.lines, ap (option_map (λ k. own k new.lines)) has, made))
+    by_made h None has now made = (judging.0, λ f. (own h _, ap (option_map _) has, made))
     by_made h (Some j) has now made = grind (arith, made.0, judging.0, made.1, made.2)
 
     by_header : (o : Option Header) → new.header ≡ o → has_begun new ≡ true
@@ -100,8 +97,7 @@ pub judging_on : (old new : JudgeView) (read : OwnReading) (log more : List Entr
     → IsReady (Some old) read log more done
     → new.kept.charter ≡ old.kept.charter → HasFollowed new read.starting (log ++ more)
     → new.so_far ≡ None → IsJudging (Some new) read
-judging_on old new read log more done ready same followed none =
-    grind (arith, ready.before.charter, ready.entries, ready.before.begun)
+judging_on old new read log more done ready same followed none = search arith
 
 -- If the starting words stand for no state, that is what is wrong once an entry or `end` was read.
 start_wrong : (r : Rules) (starting : List StartWord) (entries : List Entry) (done : Bool)
@@ -111,23 +107,12 @@ start_wrong : (r : Rules) (starting : List StartWord) (entries : List Entry) (do
     (cond done (end_verdict r starting entries) None)
     ≡ Some (Malformed 2 StartState)
 unfolding verdict_so_far end_verdict
-start_wrong r starting [] false stands begun = cc
-start_wrong r starting [] true stands begun =
-    ap (λ o. option_or o (end_verdict r starting [])) (nothing_so_far r starting)
-    ∙ ap (λ b. option_or (then_some b (Malformed 2 StartState))
-    (then_some (is_call_open r.header (newest_first []))
-    (Malformed (line_of starting (length {A = Entry} [])) CallOpen))) stands
-start_wrong r starting (e ∷ entries) done stands begun =
-    ap (λ b. option_or (option_or (then_some b (Malformed 2 StartState))
-    (option_or (first_fault r starting (front r.header (e ∷ entries)))
-    (shape_verdict r.header starting (e ∷ entries))))
-    (cond done (end_verdict r starting (e ∷ entries)) None)) stands
+start_wrong r starting entries done stands begun = search (nothing_so_far, front, arith)
 
 -- nothing was read
 unread : (entries : List Entry) (done : Bool) → (has_any entries || done) ≡ false
     → (entries ≡ []) × (done ≡ false)
-unread [] done e = (refl, e)
-unread (x ∷ entries) done e = cc
+unread entries done e = search arith
 
 -- without a judge all that was read since is the last entries
 only_last : (read : OwnReading) (log more : List Entry) (done : Bool)
@@ -143,19 +128,8 @@ nothing_wrong read e = grind (arith, read, unread, nothing_so_far)
 pub wrong_without : (read : OwnReading) (log more : List Entry) (done : Bool)
     → IsReady None read log more done
     → then_some (has_any more || done) (Malformed 2 StartState) ≡ untold_in read
-wrong_without read log more done ready = by_test (has_any more || done) refl
-  where
-    same : has_begun read ≡ (has_any more || done)
-    same = only_last read log more done ready
-
-    by_test : (b : Bool) → (has_any more || done) ≡ b
-        → then_some b (Malformed 2 StartState) ≡ untold_in read
-    by_test false e = sym (nothing_wrong read (same ∙ e))
-    by_test true e =
-        let begun = same ∙ e in
-        let stands = ready.before.1 begun in
-        sym (ap (option_and_then (untold_by read)) stands.1
-        ∙ start_wrong (rules_by stands.0) read.starting read.entries read.ended stands.2 begun)
+wrong_without read log more done ready = search
+    (has_any, only_last, nothing_wrong, start_wrong, arith)
 
 pub still_without : (read : OwnReading) (log more : List Entry) (done : Bool)
     → IsReady None read log more done
@@ -166,5 +140,4 @@ still_without read log more done ready none = grind (arith, read, more, has_any,
 pub undecided_first : (reader : ReaderState) (numbers : List ℕ) → HasRead reader [] → numbers ≡ []
     → IsUndecided (record { reader = reader; judge = None; numbers = numbers }) []
 unfolding own_reading own_text_verdict_so_far
-undecided_first reader numbers read none =
-    record { read = read; judging = (refl, refl); numbers = none; nothing = refl }
+undecided_first reader numbers read none = search arith

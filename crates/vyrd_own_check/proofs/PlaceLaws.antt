@@ -54,8 +54,7 @@ fault_within : (r : Rules) (starting : List StartWord) (states : List State)
     → IsWithin (length starting + length earlier + length xs) v
 fault_within r starting states earlier [] v found = cc
 fault_within r starting states earlier (e ∷ later) v found =
-    by_fault (λ f. fault_within r starting states (e ∷ earlier) later v f)
-    (fault_at r starting states (record { earlier = earlier; here = e; later = later })) found
+    by_fault (λ f. fault_within r starting states (e ∷ earlier) later v f) (fault_at r _ _ _) found
   where
     n : ℕ
     n = length starting + length earlier + suc (length later)
@@ -73,8 +72,7 @@ fault_within r starting states earlier (e ∷ later) v found =
 -- a front is no longer than its log, and shorter where the log breaks a rule
 front_short : (h : Header) (earlier xs : List Entry) → length (front_after h earlier xs) ≤ length xs
 front_short h earlier [] = omega arith
-front_short h earlier (e ∷ later) = by_rule (broken_rule h earlier e)
-    (front_short h (e ∷ earlier) later)
+front_short h earlier (e ∷ later) = by_rule (broken_rule h _ e) (front_short h (e ∷ earlier) later)
   where
     by_rule : (o : Option Rule) → length (front_after h (e ∷ earlier) later) ≤ length later
         → length (elim o as (λ _. List Entry) [
@@ -117,24 +115,14 @@ first_within : (r : Rules) (starting : List StartWord) (xs : List Entry) (v : Ve
     → first_fault r starting xs ≡ Some v
     → IsWithin (length starting + length xs) v
 unfolding first_fault
-first_within r starting xs v found =
-    within_more (length starting + 0 + length xs) (length starting + length xs) v (omega arith)
-    (fault_within r starting (states_along r starting xs) [] xs v found)
+first_within r starting xs v found = within_more (length _ + 0 + length xs) (length _ + length _) v
+    (omega arith) (fault_within r starting (states_along r _ _) [] _ v found)
 
 shape_within : (h : Header) (starting : List StartWord) (es : List Entry) (v : Verdict)
     → shape_verdict h starting es ≡ Some v
     → IsWithin (length starting + length es) v
 unfolding shape_verdict
-shape_within h starting es v found = by_break (first_break h es) refl found
-  where
-    by_break : (o : Option Rule) → first_break h es ≡ o
-        → option_map (Malformed (line_of starting (length (front h es)))) o ≡ Some v
-        → IsWithin (length starting + length es) v
-    by_break None is f = cc
-    by_break (Some rule) is f =
-        let few = break_few h es rule is in
-        found_within (length starting + length es)
-        (Malformed (line_of starting (length (front h es))) rule) v f (omega (arith, few))
+shape_within h starting es v found = search (front, break_few, found_within, arith)
 
 -- no verdict stands before the first entry
 pub nothing_so_far : (r : Rules) (starting : List StartWord) → verdict_so_far r starting [] ≡ None
@@ -179,17 +167,4 @@ pub end_within : (r : Rules) (starting : List StartWord) (es : List Entry) (v : 
     → end_verdict r starting es ≡ Some v
     → IsWithin (length starting + length es + 1) v
 unfolding end_verdict
-end_within r starting es v found = by_start (is_none (state_at_start r starting))
-    (is_call_open r.header (newest_first es)) found
-  where
-    n : ℕ
-    n = length starting + length es + 1
-
-    by_start : (b open_call : Bool)
-        → option_or (then_some b (Malformed 2 StartState))
-        (then_some open_call (Malformed (line_of starting (length es)) CallOpen)) ≡ Some v
-        → IsWithin n v
-    by_start true open_call f = found_within n (Malformed 2 StartState) v f (omega arith)
-    by_start false true f = found_within n (Malformed (line_of starting (length es)) CallOpen) v f
-        (omega arith)
-    by_start false false f = cc
+end_within r starting es v found = search (is_none, found_within, arith)

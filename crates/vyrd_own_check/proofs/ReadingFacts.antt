@@ -23,8 +23,7 @@ pub known_so_far : (max : ℕ) (bytes numbers : List ℕ) (wrong fault : Option 
     → option_or (option_map (told_in_text numbers) wrong) fault ≡ own_text_verdict_so_far max bytes
 unfolding own_text_verdict_so_far
 known_so_far max bytes numbers wrong fault numbered wrong_is fault_is =
-    (λ i. option_or (option_map (told_in_text (numbered i)) (wrong_is i)) (fault_is i))
-    ∙ sym (known_is (read_so_far max bytes))
+    cc (known_is (read_so_far max bytes))
 
 pub first_none : {A : Type 0} (a b : Option A) → option_or a b ≡ None → a ≡ None
 first_none None b e = refl
@@ -45,8 +44,7 @@ module _ (max : ℕ) (bytes : List ℕ) (nothing : own_text_verdict_so_far max b
   entries_right = first_none _ _ nothing
 
   pub untold_right : untold_in read ≡ None
-  untold_right = none_told (told_in_text read.numbers) (untold_in read)
-      (sym (told_is read) ∙ entries_right)
+  untold_right = none_told (told_in_text _) _ (sym (told_is read) ∙ entries_right)
 
   -- if `end` was read and nothing is wrong, the log is accepted
   ended_right : (l : Charter) → charter_in read ≡ Some l → read.ended ≡ true
@@ -97,8 +95,7 @@ module _ (max : ℕ) (bytes : List ℕ) (nothing : own_text_verdict_so_far max b
 pub not_ended : (max : ℕ) (bytes : List ℕ) → read_whole max bytes
     ≡ record (read_so_far max bytes) { fault = (read_whole max bytes).fault }
     → (read_so_far max bytes).ended ≡ false → (read_whole max bytes).ended ≡ true → ⊥
-not_ended max bytes alike none done = never (sym none ∙ sym (ap (λ (x : OwnReading). x.ended) alike)
-    ∙ done)
+not_ended max bytes alike none done = never (sym none ∙ sym (cc) ∙ done)
   where
     never : false ≡ true → ⊥
     never e = cc

@@ -71,13 +71,7 @@ new_name_short taken text name rest h = by_name (is_name (word_of text)) refl h
         (Ok (name, rest)) → IsShortName name
     by_taken e true k = cc
     by_taken e false k =
-        let p : ◌≡◌ {A = List ℕ × List ℕ} (word_of text, after_word text) (name, rest) = cc in
-        let same : word_of text ≡ name = ap (λ (x : List ℕ × List ℕ). x.0) p in
-        subst IsShortName same (record {
-          short = second_true _ _ (first_true _ _ (first_true _ _ e));
-          one_word = word_lacks 32 not_space text;
-          one_line = word_lacks 10 not_line_feed text;
-        })
+        search (word_of, second_true, first_true, word_lacks, not_space, not_line_feed, arith)
 
     by_name : (t : Bool) → is_name (word_of text) ≡ t
         → ◌≡◌ {A = Found (List ℕ)}
@@ -95,10 +89,9 @@ few_parameters : (w : Written) (left : ℕ) (names : List (List ℕ)) (text : Li
 few_parameters w left names [] all h = grind arith
 few_parameters w zero names (b ∷ text) all h = cc
 few_parameters w (suc left) names (b ∷ text) all h =
-    let a = after_inv (codes " ") (b ∷ text) _ _ all h in
+    let a = after_inv _ _ _ _ _ h in
     let taken = is_known w (word_of a.0) || is_among (word_of a.0) names in
-    let i = then_inv (λ name rest. parameters_read w left (names ++ name ∷ []) rest)
-    (new_name taken a.0) all a.2 in
+    let i = then_inv _ (new_name _ a.0) all a.2 in
     let more = few_parameters w left (names ++ i.0 ∷ []) i.1 all i.3 in
     omega (arith, more, length-append names (i.0 ∷ []))
 
@@ -113,17 +106,11 @@ module _ (w : Written) (name : List ℕ) (parameters : List (List ℕ)) where
   none_named : (make : List ℕ → ℕ → Line) (t : Taken (List ℕ × ℕ))
       → ((a : List ℕ) (n : ℕ) → make a n ≡ lines.method name parameters → ⊥)
       → taken_with (λ (r : List ℕ × ℕ). make r.0 r.1) t ≡ Ok (lines.method name parameters) → ⊥
-  none_named make t none k =
-      let n = taken_inv (λ (r : List ℕ × ℕ). make r.0 r.1) t (lines.method name parameters) k in
-      none n.0.0 n.0.1 n.2
+  none_named make t none k = search (taken_inv, arith)
 
   part_none : (text : List ℕ) (o : Option ℕ) → part_of text o ≡ Ok (lines.method name parameters)
       → ⊥
-  part_none text None k = cc
-  part_none text (Some n) k =
-      let t = kept (nat_le 1 n && nat_le n 16) _ (Ok (lines.part n)) (lines.method name parameters)
-      k in
-      cc
+  part_none text o k = search (kept, arith)
 
   outer_none : (below : Last) (line : List ℕ) (t : Taken Line) → outer_read w below line ≡ Some t
       → t ≡ Ok (lines.method name parameters) → ⊥
@@ -171,14 +158,7 @@ module _ (w : Written) (name : List ℕ) (parameters : List (List ℕ)) where
 
   inner_none : (line : List ℕ) → method_line_read w line ≡ Ok (lines.method name parameters) → ⊥
   unfolding method_line_read
-  inner_none line h = by_method (last_in w.methods) h
-    where
-      by_method : (o : Option Method) → of_method w line o ≡ Ok (lines.method name parameters) → ⊥
-      by_method None k = cc
-      by_method (Some m) k =
-          let n = taken_inv lines.inner (within_read w m line) (lines.method name parameters) k in
-          let same : lines.inner n.0 ≡ lines.method name parameters = n.2 in
-          cc
+  inner_none line h = search (last_in, taken_inv, arith)
 
   named : (text : List ℕ) → method_read w text ≡ Ok (lines.method name parameters)
       → IsMethodLine w name parameters
@@ -215,22 +195,7 @@ module _ (w : Written) (name : List ℕ) (parameters : List (List ℕ)) where
   pub method_line : (below : Last) (line : List ℕ) → line_read w below line
       ≡ Ok (lines.method name parameters) → IsMethodLine w name parameters
   unfolding line_read
-  method_line below line h = by_remark (is_remark line)
-      (past (nat_lt 200 (length line)) _ _ (lines.method name parameters) h)
-    where
-      by_outer : (o : Option (Taken Line)) → outer_read w below line ≡ o → or_method w line o
-          ≡ Ok (lines.method name parameters)
-          → IsMethodLine w name parameters
-      by_outer (Some t) f k = absurd (outer_none below line t f k)
-      by_outer None f k =
-          after_or (codes "method ") line _ _ _ _ (λ rest a j. named rest j)
-          (λ j. absurd (inner_none line j)) k
-
-      by_remark : (t : Bool) → cond t (Ok (lines.remark line))
-          (or_method w line (outer_read w below line)) ≡ Ok (lines.method name parameters)
-          → IsMethodLine w name parameters
-      by_remark true k = cc
-      by_remark false k = by_outer (outer_read w below line) refl k
+  method_line below line h = search (past, outer_none, after_or, named, inner_none, arith)
 
 -- a line of a method changes nothing that a call looks at
 inner_callable : (m : Method) (i : Inner) → is_callable (with_inner m i) ≡ is_callable m
@@ -263,7 +228,7 @@ line_callable w below line (lines.part k) h all = all
 line_callable w below line (lines.shows key much) h all = all
 line_callable w below line (lines.inner i) h all = search (last_length, last_callable, arith)
 line_callable w below line (lines.method name parameters) h all =
-    let is = method_line w name parameters below line h in
+    let is = method_line w _ _ _ _ h in
     let m : Method = record {
       name = name;
       names = parameters;
@@ -273,31 +238,16 @@ line_callable w below line (lines.method name parameters) h all =
       cases = [];
     } in
     both_true _ _
-    (is_at_most (length (w.methods ++ m ∷ [])) 64
+    (is_at_most (length _) 64
     (let room = is.room in omega (arith, room, length-append w.methods (m ∷ []))))
-    (list_all-append is_callable w.methods (m ∷ [])
-    ∙ both_true _ _ (second_true (nat_le (length w.methods) 64) _ all)
+    (list_all-append is_callable w.methods (m ∷ []) ∙ both_true _ _ (second_true (nat_le _ _) _ all)
     (both_true _ _
     (both_true _ _
     (both_true _ _ (both_true _ _ (is_at_most (length parameters) 3 is.few) is.called.short)
-    is.called.one_word)
-    is.called.one_line) refl))
+    is.called.one_word) is.called.one_line) refl))
 
 -- and so those of what is read next
 pub next_callable : (s : SoFar) (line : List ℕ) → are_callable s.specification.methods ≡ true
     → are_callable (read_next s line).1.specification.methods ≡ true
 unfolding read_next
-next_callable s line all =
-    by_log (bytes_eq line (codes "log")) (nat_le 1000 s.lines) (unfinished s.specification.methods)
-    (line_read s.specification s.below line) refl
-  where
-    by_log : (log many : Bool) (o : Option SpecificationRule) (t : Taken Line)
-        → line_read s.specification s.below line ≡ t
-        → let r : SpecificationLine × SoFar = cond log (ended_with s o)
-        (cond many (told.Refused refusals.TooMany 1, s) (reader.told s line t)) in
-        are_callable r.1.specification.methods ≡ true
-    by_log true many None t e = all
-    by_log true many (Some rule) t e = all
-    by_log false true o t e = all
-    by_log false false o (Ok says) e = line_callable s.specification s.below line says e all
-    by_log false false o (Err stop) e = all
+next_callable s line all = search (unfinished, ended_with, line_callable, arith)

@@ -72,48 +72,16 @@ module _ (r : LineState) (line : List ℕ) where
 
   header_counts : (o : Option headers.Header) → r.stage ≡ stages.Header
       → Counts stages.Header r.line (header_step r o)
-  header_counts None e = broken_counts stages.Header rules.BadHeader e
-  header_counts (Some h) e = moved stages.Header (stages.Specification h) r.line found.Nothing
-      (next r (stages.Specification h)) refl refl
-      (λ f. cc) (λ f. cc) refl (omega arith)
+  header_counts o e = search (broken_counts, moved, arith)
 
   specification_counts : (h : headers.Header) (x : SpecificationLine) (t : SoFar) → r.stage
       ≡ stages.Specification h
       → Counts (stages.Specification h) r.line (specification_step r h (x, t))
-  specification_counts h told.More t e =
-      moved (stages.Specification h) (stages.Specification h) r.line found.Specified
-      (next (record r { said = t }) (stages.Specification h)) refl refl
-      (λ f. cc) (λ f. cc) refl (omega arith)
-  specification_counts h told.Log t e =
-      moved (stages.Specification h) (stages.Starts h None) r.line found.Nothing
-      (next (record r { said = t }) (stages.Starts h None)) refl refl
-      (λ f. cc) (λ f. cc) refl (omega arith)
-  specification_counts h (told.Refused rule column) t e =
-      left (stages.Specification h) r.line
-      (broken (record r { said = t }) (rules.Specification rule)).0 e refl
+  specification_counts h x t e = search (moved, left, broken, arith)
 
   entry_counts : (st : Stage) (h : headers.Header) → r.stage ≡ st → has_ended st ≡ false
       → Counts st r.line (entry_step r h line)
-  entry_counts st h e open_yet = by_tests (is_note line) (bytes_eq line end_line)
-      (own_entry_in r.said.specification line)
-    where
-      none : ends (has_ended st) ≡ 0
-      none = ap ends open_yet
-
-      by_tests : (note is_end : Bool) (o : Option Entry)
-          → Counts st r.line
-          (cond note (next r (stages.Entries h), found.Nothing)
-          (cond is_end (next r (stages.End h), found.End) (spelled_step r h o)))
-      by_tests true is_end o =
-          moved st (stages.Entries h) r.line found.Nothing (next r (stages.Entries h)) refl refl
-          (λ f. refl) (λ f. refl) (omega (arith, none)) (omega arith)
-      by_tests false true o =
-          moved st (stages.End h) r.line found.End (next r (stages.End h)) refl refl (λ f. refl)
-          (λ f. refl) (omega (arith, none)) (omega arith)
-      by_tests false false None = broken_counts st rules.BadEntry e
-      by_tests false false (Some x) =
-          moved st (stages.Entries h) r.line (found.Entry x) (next r (stages.Entries h)) refl refl
-          (λ f. refl) (λ f. refl) (omega (arith, none)) (omega arith)
+  entry_counts st h e open_yet = search (ends, moved, broken_counts, arith)
 
   starts_count : (h : headers.Header) (last : Option StartWord) → r.stage ≡ stages.Starts h last
       → Counts (stages.Starts h last) r.line (starts_step r h last line)
@@ -121,27 +89,22 @@ module _ (r : LineState) (line : List ℕ) where
     where
       by_rule : (s : StartWord) (o : Option Rule) → Counts (stages.Starts h last) r.line
           (word_step r h s o)
-      by_rule s None = moved (stages.Starts h last) (stages.Starts h (Some s)) r.line
-          (found.Start s) (next r (stages.Starts h (Some s))) refl refl
-          (λ f. cc) (λ f. cc) refl (omega arith)
+      by_rule s None = search (moved, arith)
       by_rule s (Some rule) = broken_counts (stages.Starts h last) rule e
 
       by_tests : (note : Bool) (o : Option StartWord)
           → Counts (stages.Starts h last) r.line
           (cond note (next r (stages.Starts h last), found.Nothing) (start_step r h last line o))
-      by_tests true o = moved (stages.Starts h last) (stages.Starts h last) r.line found.Nothing
-          (next r (stages.Starts h last)) refl refl
-          (λ f. cc) (λ f. cc) refl (omega arith)
+      by_tests true o = search (moved, arith)
       by_tests false None = entry_counts (stages.Starts h last) h e refl
       by_tests false (Some s) = by_rule s (start_rule h last s)
 
   stage_counts : (st : Stage) → r.stage ≡ st → Counts st r.line (stage_step r st line)
   stage_counts stages.Header e = header_counts (own_header_in line) e
-  stage_counts (stages.Specification h) e = specification_counts h (read_next r.said line).0
-      (read_next r.said line).1 e
-  stage_counts (stages.Starts h last) e = starts_count h last e
-  stage_counts (stages.Entries h) e = entry_counts (stages.Entries h) h e refl
-  stage_counts (stages.End h) e = broken_counts (stages.End h) rules.AfterEnd e
+  stage_counts (stages.Specification h) e = search (specification_counts, read_next, arith)
+  stage_counts (stages.Starts h last) e = starts_count h _ e
+  stage_counts (stages.Entries h) e = entry_counts _ h e refl
+  stage_counts (stages.End h) e = broken_counts _ _ e
 
   step_counts : Counts r.stage r.line (own_step r line)
   step_counts = by_tests (is_some r.fault) (nat_lt r.max_lines r.line)

@@ -52,9 +52,8 @@ kind_of : (w : Written) (fields : List (List ℕ)) (kind : Kind) → AllCallable
     → guessed_own_kind w fields ≡ Some kind → IsOf w kind
 kind_of w [] kind all e = cc
 kind_of w (word ∷ []) kind all e = search arith
-kind_of w (word ∷ x ∷ more) kind all e =
-    by_tests (bytes_eq word (codes "call")) (bytes_eq word (codes "return"))
-    (bytes_eq word (codes "write")) e
+kind_of w (word ∷ x ∷ more) kind all e = by_tests (bytes_eq word (codes "call"))
+    (bytes_eq word (codes "return")) (bytes_eq word (codes "write")) e
   where
     by_name : (o : Option OwnMethod) → named_from 0 w.methods x ≡ o
         → option_map (λ m. Call (own_call m) (args_from more)) o ≡ Some kind → IsOf w kind
@@ -63,8 +62,8 @@ kind_of w (word ∷ x ∷ more) kind all e =
         grind (
           arith,
           (named_is 0 w.methods x m all is).number,
-          zero-add (named_is 0 w.methods x m
-              all is).place,
+          zero-add
+              (named_is 0 w.methods x m all is).place,
           (named_is 0 w.methods x m all is).called,
         )
 
@@ -73,7 +72,7 @@ kind_of w (word ∷ x ∷ more) kind all e =
         (cond b (Some (Return (number_of x)))
         (cond c (Some (Write (number_of x) (args_from more).a)) (Some BlockCommit))) ≡ Some kind
         → IsOf w kind
-    by_tests true b c f = by_name (named_from 0 w.methods x) refl f
+    by_tests true b c f = by_name (named_from 0 _ x) refl f
     by_tests false true c f = let same : Return (number_of x) ≡ kind = cc in subst (IsOf w) same tt
     by_tests false false true f = grind arith
     by_tests false false false f = let same : BlockCommit ≡ kind = cc in subst (IsOf w) same tt
@@ -119,13 +118,7 @@ module _ (padded : Bool) (args : Args)
     (e : (padded && nat_lt args.a (2 ^ 32) && nat_lt args.b (2 ^ 32) && nat_lt args.c (2 ^ 32))
     ≡ true) where
   are_small : AreSmall args
-  are_small = record {
-    a = below_of args.a (2 ^ 32) (second_true padded _ (first_true _ _ (first_true _ _ e)));
-    b = below_of args.b (2 ^ 32)
-        (second_true (padded && nat_lt args.a (2 ^ 32)) _ (first_true _ _ e));
-    c = below_of args.c (2 ^ 32)
-        (second_true (padded && nat_lt args.a (2 ^ 32) && nat_lt args.b (2 ^ 32)) _ e);
-  }
+  are_small = search (below_of, second_true, first_true, arith)
 
   is_padded : padded ≡ true
   is_padded = first_true _ _ (first_true _ _ (first_true _ _ e))
@@ -153,18 +146,12 @@ module _ (w : Written) (all : AllCallable w) (method : Method) (of : IsCalled w 
   pub called_fields : (args : Args) → own_fields w (Call method args)
       ≡ codes "call" ∷ own_name w of.named.number ∷ map decimal
       (take of.named.arity (args.a ∷ args.b ∷ args.c ∷ []))
-  called_fields args =
-      ap (call_fields w args) called_number
-      ∙ ap (λ n. codes "call" ∷ own_name w of.named.number ∷ map decimal
-      (take n (args.a ∷ args.b ∷ args.c ∷ []))) called_arity
+  called_fields args = search (called_number, called_arity, arith)
 
   pub called_test : (args : Args) → is_own_kind w (Call method args)
       ≡ (are_padded of.named.arity args && nat_lt args.a (2 ^ 32) && nat_lt args.b (2 ^ 32)
       && nat_lt args.c (2 ^ 32))
-  called_test args =
-      ap (takes_args w args) called_number
-      ∙ ap (λ n. are_padded n args && nat_lt args.a (2 ^ 32) && nat_lt args.b (2 ^ 32)
-      && nat_lt args.c (2 ^ 32)) called_arity
+  called_test args = search (called_number, called_arity, arith)
 
 pub below_64 : (n : ℕ) → n < 2 ^ 32 → n < 2 ^ 64
 below_64 n low = omega arith
@@ -179,8 +166,7 @@ c_is_0 n args e few = grind (arith, few, second_true, same_of)
 args_guess : (n : ℕ) (args : Args) → n ≤ 3 → (n ≡ 0 → args.a ≡ 0) → are_padded n args ≡ true
     → AreSmall args
     → args_from (map decimal (take n (args.a ∷ args.b ∷ args.c ∷ []))) ≡ args
-args_guess n args few other e small =
-    search (few, small, b_is_0, c_is_0, number_of_decimal, below_64, arith)
+args_guess n args few other e small = search (b_is_0, c_is_0, number_of_decimal, below_64, arith)
 
 pub below_most : (n : ℕ) → nat_lt n most ≡ true → n < 2 ^ 64
 below_most n e = let h = below_of n most e in omega (arith, h)
@@ -191,20 +177,17 @@ kind_guess : (w : Written) (kind : Kind) → AllCallable w → is_own_kind w kin
     → guessed_own_kind w (own_fields w kind) ≡ Some kind
 kind_guess w (Call method args) all e of other =
     let m = of.named in
-    let n = named_is 0 w.methods (own_name w m.number) m all of.found in
+    let n = named_is 0 w.methods (own_name w _) m all of.found in
     let ranged = sym (called_test w all method of args) ∙ e in
-    let none : m.arity ≡ 0 → args.a ≡ 0 = λ z. other m.number (called_number w all method of)
+    let none : m.arity ≡ 0 → args.a ≡ 0 = λ z. other m.number (called_number w all _ of)
     (called_arity w all method of ∙ z) in
-    let read = args_guess m.arity args n.few none (is_padded (are_padded m.arity args) args ranged)
-    (are_small (are_padded m.arity args) args ranged) in
-    ap (guessed_own_kind w) (called_fields w all method of args)
-    ∙ ap (option_map
-    (λ x. Call (own_call x)
-    (args_from (map decimal (take m.arity (args.a ∷ args.b ∷ args.c ∷ [])))))) of.found
+    let read = args_guess m.arity args n.few none (is_padded _ args ranged)
+    (are_small (are_padded m.arity args) _ ranged) in
+    ap (guessed_own_kind w) (called_fields w all _ of _) ∙ ap (option_map _) of.found
     ∙ (λ i. Some (Call (of.is i) (read i)))
 kind_guess w (Return reply) all e of other = cc (number_of_decimal reply (below_most reply e))
 kind_guess w (Write word value) all e of other =
-    search (number_of_decimal, below_64, below_of, first_true, second_true, arith)
+    grind (arith, number_of_decimal, below_64, below_of, first_true, second_true)
 kind_guess w Commit all e of other = refl
 kind_guess w BlockOpen all e of other = refl
 kind_guess w BlockClose all e of other = refl
@@ -259,24 +242,11 @@ module _ (b : ℕ) (w : Written) (all : AllCallable w) (out : IsNoField b w) whe
 
   lack_kind : (kind : Kind) → is_own_kind w kind ≡ true → IsOf w kind
       → all_lack b (own_fields w kind) ≡ true
-  lack_kind (Call method args) e of =
-      let m = of.named in
-      let small = are_small (are_padded m.arity args) args (sym (called_test w all method of args)
-      ∙ e) in
-      ap (all_lack b) (called_fields w all method of args)
-      ∙ both_true _ _ out.called
-      (both_true _ _ (out.names (own_name w m.number) m of.found)
-      (lack_take m.arity (args.a ∷ args.b ∷ args.c ∷ [])
-      (both_true _ _ (lack_number args.a (below_64 args.a small.a))
-      (both_true _ _ (lack_number args.b (below_64 args.b small.b))
-      (both_true _ _ (lack_number args.c (below_64 args.c small.c)) refl)))))
-  lack_kind (Return reply) e of = both_true _ _ out.returned
-      (both_true _ _ (lack_number reply (below_most reply e)) refl)
-  lack_kind (Write word value) e of =
-      both_true _ _ out.written
-      (both_true _ _ (lack_number word (below_64 word (below_of word (2 ^ 32) (first_true _ _ e))))
-      (both_true _ _
-      (lack_number value (below_of value (2 ^ 64) (second_true (nat_lt word (2 ^ 32)) _ e))) refl))
+  lack_kind (Call method args) e of = search
+      (are_small, called_test, called_fields, both_true, lack_take, lack_number, below_64, arith)
+  lack_kind (Return reply) e of = search (both_true, lack_number, below_most, arith)
+  lack_kind (Write word value) e of = search
+      (both_true, lack_number, below_64, below_of, first_true, second_true, arith)
   lack_kind Commit e of = both_true _ _ out.committed refl
   lack_kind BlockOpen e of = both_true _ _ out.opened refl
   lack_kind BlockClose e of = both_true _ _ out.closed refl
@@ -285,16 +255,12 @@ module _ (b : ℕ) (w : Written) (all : AllCallable w) (out : IsNoField b w) whe
   lack_fields : (e : Entry) → is_own_entry w e ≡ true → IsOf w e.kind
       → all_lack b (decimal e.caller ∷ own_fields w e.kind) ≡ true
   lack_fields e ranged of =
-      let low : e.caller < 2 ^ 32 = below_of e.caller (2 ^ 32) (first_true _ _ ranged) in
-      both_true _ _ (lack_number e.caller (below_64 e.caller low))
-      (lack_kind e.kind (second_true (nat_lt e.caller (2 ^ 32)) _ ranged) of)
+      search (below_of, first_true, both_true, lack_number, below_64, lack_kind, second_true, arith)
 
 -- an entry's line has no line feed
 pub entry_one_line : (w : Written) (e : Entry) → AllCallable w → is_own_entry w e ≡ true
     → IsOf w e.kind → lacks 10 (own_entry_line w e) ≡ true
-entry_one_line w e all ranged of =
-    lacks-join 10 32 (decimal e.caller) (own_fields w e.kind) refl
-    (lack_fields 10 w all (line_feed_no_field w all) e ranged of)
+entry_one_line w e all ranged of = search (lacks-join, lack_fields, line_feed_no_field, arith)
 
 -- a spelled entry is read back
 pub entry_complete : (w : Written) (e : Entry) → AllCallable w → is_own_entry w e ≡ true
@@ -312,16 +278,11 @@ entry_complete w e all ranged of other =
     (Some x) None)) guess
     ∙ ap (λ b. cond b (Some e) None) (both_true _ _ ranged (bytes_same (own_entry_line w e)))
   where
-    low : e.caller < 2 ^ 32
-    low = below_of e.caller (2 ^ 32) (first_true _ _ ranged)
-
     kind : is_own_kind w e.kind ≡ true
     kind = second_true (nat_lt e.caller (2 ^ 32)) _ ranged
 
     guess : guessed_own_entry w (decimal e.caller ∷ own_fields w e.kind) ≡ Some e
-    guess = (λ i. option_map
-        (λ k. record { caller = number_of_decimal e.caller (below_64 e.caller low) i; kind = k })
-        (kind_guess w e.kind all kind of other i))
+    guess = search (number_of_decimal, below_64, kind_guess, arith)
 
 -- an entry's line is its caller, a space and what it says
 pub own_line_is : (w : Written) (caller : ℕ) (kind : Kind) → AllCallable w → IsOf w kind
@@ -343,18 +304,13 @@ module _ (w : Written) (line : List ℕ) (all : AllCallable w) where
   -- a line without a number before a space
   pub no_caller : ((n : ℕ) (rest : List ℕ) → n < 2 ^ 32 → line ≡ decimal n ++ 32 ∷ rest → ⊥)
       → None ≡ own_entry_in w line
-  no_caller none = no_entry (λ e ok of same.
-      none e.caller (own_kind_text w e.kind) (below_of e.caller (2 ^ 32) (first_true _ _ ok))
-      (same ∙ own_line_is w e.caller e.kind all of))
+  no_caller none = search (no_entry, below_of, first_true, own_line_is, arith)
 
   -- a line that says nothing after its caller
   pub no_kind : (caller : ℕ) (rest : List ℕ) → caller < 2 ^ 64 → line ≡ decimal caller ++ 32 ∷ rest
       → IsOwnKindRead w rest None → None ≡ own_entry_in w line
-  no_kind caller rest low is none = no_entry (λ e ok of same.
-      let small : e.caller < 2 ^ 32 = below_of e.caller (2 ^ 32) (first_true _ _ ok) in
-      let parts = one_before_space caller e.caller rest (own_kind_text w e.kind) low (omega arith)
-      (sym is ∙ same ∙ own_line_is w e.caller e.kind all of) in
-      none e.kind (second_true (nat_lt e.caller (2 ^ 32)) _ ok) of parts.1)
+  no_kind caller rest low is none = search
+      (no_entry, below_of, first_true, one_before_space, own_line_is, second_true, arith)
 
   -- a line that is an entry's
   pub entry_read : (caller : ℕ) (kind : Kind) (rest : List ℕ) → caller < 2 ^ 32
@@ -373,43 +329,27 @@ pub call_text_is : (w : Written) (all : AllCallable w) (method : Method) (args :
     (of : IsCalled w method)
     → own_kind_text w (Call method args) ≡ codes "call "
     ++ (own_name w of.named.number ++ after_field (own_args of.named.arity args))
-call_text_is w all method args of = ap spaced (called_fields w all method of args)
-    ∙ by_arity of.named.arity
+call_text_is w all method args of = cc (called_fields w all method of args, by_arity of.named.arity)
   where
     by_arity : (n : ℕ)
         → spaced (codes "call" ∷ own_name w of.named.number ∷ map decimal
         (take n (args.a ∷ args.b ∷ args.c ∷ [])))
         ≡ codes "call " ++ (own_name w of.named.number ++ after_field (own_args n args))
-    by_arity zero = ap (λ t. codes "call " ++ t) (sym (append-nil (own_name w of.named.number)))
+    by_arity zero = cc (append-nil (own_name w of.named.number))
     by_arity (suc n) = refl
 
 -- a call's text begins with a c, whatever its method
 call_begins : (w : Written) (method : Method) (args : Args) → is_own_kind w (Call method args)
     ≡ true
     → get_or (own_kind_text w (Call method args)) 0 0 ≡ 99
-call_begins w method args e = by_number (own_number method) refl
-  where
-    by_number : (o : Option ℕ) → own_number method ≡ o
-        → get_or (own_kind_text w (Call method args)) 0 0 ≡ 99
-    by_number None is = let never : false ≡ true = sym (ap (takes_args w args) is) ∙ e in cc
-    by_number (Some i) is = ap (λ o. get_or (spaced (call_fields w args o)) 0 0) is
+call_begins w method args e = search arith
 
 -- a word before a space that no value follows isn't a write
 pub no_value : (text : List ℕ) (n : ℕ) (r : List ℕ) → n < 2 ^ 64 → text ≡ decimal n ++ 32 ∷ r
     → ((v : ℕ) → v < 2 ^ 64 → r ≡ decimal v → ⊥)
     → (w : Written) → IsOwnKindRead w (codes "write " ++ text) None
-no_value text n r low e none w (Write word value) ok of f =
-    let small : word < 2 ^ 32 = below_of word (2 ^ 32) (first_true _ _ ok) in
-    let fits : value < 2 ^ 64 = below_of value (2 ^ 64) (second_true (nat_lt word (2 ^ 32)) _ ok) in
-    let is = one_before_space n word r (decimal value) low (omega arith)
-    (sym e ∙ append_cancel_left (codes "write ") text (decimal word ++ 32 ∷ decimal value) f) in
-    none value fits is.1
-no_value text n r low e none w (Call method args) ok of f = search (call_begins, arith)
-no_value text n r low e none w (Return reply) ok of f = grind arith
-no_value text n r low e none w Commit ok of f = grind arith
-no_value text n r low e none w BlockOpen ok of f = grind arith
-no_value text n r low e none w BlockClose ok of f = grind arith
-no_value text n r low e none w BlockCommit ok of f = grind arith
+no_value text n r low e none w = search
+    (below_of, first_true, second_true, one_before_space, call_begins, arith)
 
 -- the greatest number isn't a reply
 pub no_reply : (text : List ℕ) (n : ℕ) → n < 2 ^ 64 → n ≡ most → text ≡ decimal n → (w : Written)
@@ -439,32 +379,17 @@ module _ (w : Written) (all : AllCallable w) (text name : List ℕ) (rest : Opti
       → (named_from 0 w.methods name ≡ Some of.named) × (rest ≡ own_args of.named.arity args)
   called method args of f =
       let m = of.named in
-      let n = named_is 0 w.methods (own_name w m.number) m all of.found in
+      let n = named_is 0 w.methods (own_name w _) m all of.found in
       let same : text ≡ own_name w m.number ++ after_field (own_args m.arity args) =
-      append_cancel_left (codes "call ") text
-      (own_name w m.number ++ after_field (own_args m.arity args))
-      (f ∙ call_text_is w all method args of) in
-      let one = one_field name (own_name w m.number) rest (own_args m.arity args) one_word
-      n.one_word (sym parts ∙ same) in
+      append_cancel_left (codes "call ") _ _ (f ∙ call_text_is w all _ _ of) in
+      let one = one_field name (own_name w _) _ _ one_word n.one_word (sym parts ∙ same) in
       (ap (named_from 0 w.methods) one.0 ∙ of.found, one.1)
 
   only_call : ((method : Method) (args : Args) → is_own_kind w (Call method args) ≡ true
       → IsCalled w method
       → codes "call " ++ text ≡ own_kind_text w (Call method args) → ⊥)
       → IsOwnKindRead w (codes "call " ++ text) None
-  only_call none (Call method args) ok of f = none method args ok of f
-  only_call none (Return reply) ok of f = absurd
-      (let h : 99 ≡ 114 = ap (λ t. get_or t 0 0) f in omega (arith, h))
-  only_call none (Write word value) ok of f = absurd
-      (let h : 99 ≡ 119 = ap (λ t. get_or t 0 0) f in omega (arith, h))
-  only_call none Commit ok of f = absurd
-      (let h : 97 ≡ 111 = ap (λ t. get_or t 1 0) f in omega (arith, h))
-  only_call none BlockOpen ok of f = absurd
-      (let h : 99 ≡ 111 = ap (λ t. get_or t 0 0) f in omega (arith, h))
-  only_call none BlockClose ok of f = absurd
-      (let h : 97 ≡ 108 = ap (λ t. get_or t 1 0) f in omega (arith, h))
-  only_call none BlockCommit ok of f = absurd
-      (let h : 97 ≡ 108 = ap (λ t. get_or t 1 0) f in omega (arith, h))
+  only_call none = search arith
 
   -- a name that no method has
   pub no_method : named_from 0 w.methods name ≡ None → IsOwnKindRead w (codes "call " ++ text) None
@@ -478,13 +403,12 @@ module _ (w : Written) (all : AllCallable w) (text name : List ℕ) (rest : Opti
       → IsOwnKindRead w (codes "call " ++ text) None
   no_arguments m found none = only_call (λ method args ok of f.
       let x = of.named in
-      let is = called method args of f in
+      let is = called _ _ of f in
       let same : m ≡ x = let two : Some m ≡ Some x = sym found ∙ is.0 in cc in
       let ranged = sym (called_test w all method of args) ∙ ok in
       let small = are_small (are_padded x.arity args) args ranged in
-      none args (ap (λ y. are_padded y.arity args) same
-      ∙ is_padded (are_padded x.arity args) args ranged) small.a small.b small.c
-      (is.1 ∙ ap (λ y. own_args y.arity args) (sym same)))
+      none args (cc (is_padded (are_padded x.arity args) args ranged)) small.a small.b small.c
+      (cc is.1))
 
   -- a call that was read
   pub call_read : (m : OwnMethod) (args : Args) → named_from 0 w.methods name ≡ Some m
@@ -492,19 +416,18 @@ module _ (w : Written) (all : AllCallable w) (text name : List ℕ) (rest : Opti
       → args.a < 2 ^ 32 → args.b < 2 ^ 32 → args.c < 2 ^ 32
       → IsOwnKindRead w (codes "call " ++ text) (Some (Call (own_call m) args))
   call_read m args found read a b c =
-      let n = named_is 0 w.methods name m all found in
-      let name_is : own_name w m.number ≡ name = ap (name_in w.methods)
-      (n.number ∙ zero-add n.place) ∙ n.called in
+      let n = named_is 0 _ _ m all found in
+      let name_is : own_name w m.number ≡ name = ap (name_in _)
+      (n.number ∙ zero-add _) ∙ n.called in
       let of : IsCalled w (own_call m) =
-      record { named = m; is = refl; found = ap (named_from 0 w.methods) name_is ∙ found } in
+      record { named = m; is = refl; found = ap (named_from 0 _) name_is ∙ found } in
       let arity : (i : ℕ) → own_number (own_call m) ≡ Some i → own_arity w i ≡ m.arity = λ i is.
-      let same : Some m.number ≡ Some i = sym (called_number w all (own_call m) of) ∙ is in
+      let same : Some m.number ≡ Some i = sym (called_number w all _ of) ∙ is in
       let number : m.number ≡ i = cc in
       ap (own_arity w) (sym number) ∙ called_arity w all (own_call m) of in (
-        called_test w all (own_call m) of args ∙ ranged_call (are_padded m.arity args) args read.0 a
+        called_test w all (own_call m) of args ∙ ranged_call (are_padded m.arity args) _ read.0 a
             b c,
         of,
         λ i is zero. read.1 (sym (arity i is) ∙ zero),
-        ap (λ t. codes "call " ++ t) (parts ∙ (λ i. sym name_is i ++ after_field (read.2 i)))
-            ∙ sym (call_text_is w all (own_call m) args of),
+        cc (call_text_is w all (own_call m) args of),
       )

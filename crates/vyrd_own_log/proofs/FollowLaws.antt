@@ -137,8 +137,7 @@ line_own : (line : List ℕ) (h : Header) → own_header_in line ≡ Some h → 
 line_own line h is =
     let spelled = header_sound line h is in
     made_own spelled.words spelled.callers (limits_of Own 3 spelled.words spelled.callers) refl h
-    (sym (header_complete spelled.words spelled.callers spelled.sized)
-    ∙ ap own_header_in (sym spelled.spelled) ∙ is)
+    (sym (header_complete _ _ spelled.sized) ∙ ap own_header_in (sym spelled.spelled) ∙ is)
 
 parts_follow : (input : Input) (parts : List (List ℕ)) (h : Header)
     → (own_text_read input parts).header ≡ Some h
@@ -150,9 +149,8 @@ parts_follow input (line ∷ next ∷ lines) h has = by_header (own_header_in li
     text : Option Header → OwnReading
     text o = elim o as (λ _. OwnReading) [
       | None ↦ own_stopped 1 (Some BadHeader)
-      | Some g ↦ record (specification_read input g nothing_read 2 (next ∷ lines)) {
-        header = Some g;
-      }
+      | Some g ↦
+          record (specification_read input g nothing_read 2 (next ∷ lines)) { header = Some g }
     ]
 
     by_header : (o : Option Header) → own_header_in line ≡ o → (text o).header ≡ Some h
@@ -161,8 +159,7 @@ parts_follow input (line ∷ next ∷ lines) h has = by_header (own_header_in li
     by_header (Some g) is e =
         let same : g ≡ h = cc in (
           line_own line h (is ∙ ap Some same),
-          subst (λ k. do_follow k None
-              (specification_read input g nothing_read 2 (next ∷ lines)).starting ≡ true) same
+          rw (← same)
               (specification_follow input g nothing_read 2 (next ∷ lines)),
         )
 

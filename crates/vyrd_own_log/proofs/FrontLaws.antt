@@ -60,26 +60,13 @@ module _ (r : LineState) (h : Header) (e : entries.Entry) (text rest : List ℕ)
   caller = below_64 e.caller (below_of e.caller (2 ^ 32) (first_true _ _ at.ranged))
 
   note : is_note line ≡ false
-  note = ap is_note line_is ∙ not_note (decimal e.caller) _
-      (decimal_lacks 35 e.caller (λ h. omega arith) caller)
+  note = search (line_is, not_note, decimal_lacks, caller, arith)
 
   end : bytes_eq line end_line ≡ false
   end = ap (λ t. bytes_eq t end_line) line_is ∙ not_end (decimal e.caller) _
 
   pub entry_step_is : own_step r line ≡ (next r (stages.Entries h), found.Entry e)
-  entry_step_is =
-      ap (λ f. cond (is_some f) (r, found.Nothing)
-      (cond (nat_lt r.max_lines r.line) (broken r TooManyLines) (stage_step r r.stage line))) fine
-      ∙ ap (λ b. cond b (broken r TooManyLines) (stage_step r r.stage line))
-      (isnt_below r.max_lines r.line within)
-      ∙ ap (λ st. stage_step r st line) stage
-      ∙ ap (λ b. cond b (next r (stages.Entries h), found.Nothing)
-      (cond (bytes_eq line end_line) (next r (stages.End h), found.End)
-      (spelled_step r h (own_entry_in r.said.specification line)))) note
-      ∙ ap (λ b. cond b (next r (stages.End h), found.End)
-      (spelled_step r h (own_entry_in r.said.specification line))) end
-      ∙ ap (spelled_step r h)
-      (entry_complete r.said.specification e all at.ranged at.of at.no_other)
+  entry_step_is = search (is_some, broken, isnt_below, note, end, entry_complete, arith)
 
 -- a reader whose next line has this number
 abbrev pub at_line : OwnReaderKept → ℕ → OwnReaderKept
@@ -144,9 +131,8 @@ pub front_then : (k m n : OwnReaderKept) (piece rest after : List ℕ) (es fs gs
     → IsFedFront k piece after es gs ms os n
 front_then k m n piece rest after es fs gs ms ns os first second = record {
   read = first.read ++ second.read;
-  parted = first.parted ∙ ap (λ t. first.read ++ t) second.parted
-      ∙ sym (append_assoc first.read second.read after);
-  fed = fed_then k m n first.read second.read es fs gs ms ns os first.fed second.fed;
+  parted = cc (first.parted, second.parted, append_assoc first.read second.read after);
+  fed = fed_then k m n first.read second.read _ fs _ _ ns _ first.fed second.fed;
   sound = second.sound;
 }
 
@@ -154,5 +140,4 @@ front_then k m n piece rest after es fs gs ms ns os first second = record {
 pub line_front : (k n : OwnReaderKept) (line piece after : List ℕ) (es fs : List entries.Entry)
     (ms ns : List ℕ) → piece ≡ line ++ 10 ∷ after
     → IsFed k (line ++ 10 ∷ []) es fs ms ns n → IsSound n → IsFedFront k piece after es fs ms ns n
-line_front k n line piece after es fs ms ns is fed sound =
-    grind (arith, line ++ 10 ∷ [], append_assoc line (10 ∷ []) after)
+line_front k n line piece after es fs ms ns is fed sound = search (append_assoc, arith)

@@ -99,22 +99,14 @@ module _ (max : ℕ) (before : List ℕ) (at : Reached max before) where
   line_feed = taken_to 10
       (brought_by at.kept.lines.line (at.kept.unfinished ++ [])
       (own_step at.kept.lines (at.kept.unfinished ++ [])).1)
-      (record {
+      (record at.kept {
         lines = (own_step at.kept.lines (at.kept.unfinished ++ [])).0;
         unfinished = [];
-        specified = at.kept.specified;
-        start = at.kept.start;
-      })
-      (line_taken at.kept [] at.sound refl at.kept.specified at.kept.start)
-      (line_sound at.kept [] at.sound refl at.kept.specified at.kept.start)
+      }) (line_taken _ [] at.sound refl _ _) (line_sound at.kept [] at.sound refl _ _)
       (line_counted at.kept.lines (at.kept.unfinished ++ []) at.brought at.counted)
 
   one_more : (x : ℕ) → Reached max (before ++ x ∷ [])
-  one_more x = by_test (x == 10) refl
-    where
-      by_test : (b : Bool) → (x == 10) ≡ b → Reached max (before ++ x ∷ [])
-      by_test true e = subst (λ y. Reached max (before ++ y ∷ [])) (sym (same_of x 10 e)) line_feed
-      by_test false e = byte_within x (both_true _ _ (ap not e) refl)
+  one_more x = search (same_of, line_feed, byte_within, both_true, arith)
 
 all_more : (max : ℕ) (before bytes : List ℕ) → Reached max before → Reached max (before ++ bytes)
 all_more max before [] at = subst (Reached max) (sym (append-nil before)) at
@@ -153,21 +145,7 @@ past_of k b counted e = grind (arith, counted, has_any)
 module _ (k : OwnReaderKept) (w : Bool) (more : List ℕ) where
   header_stays : (h : Header) → header_at k.lines.stage ≡ Some h
       → (goes_on k.lines k.unfinished w more).header ≡ Some h
-  header_stays h e = by_fault k.lines.fault
-    where
-      by_stage : (st : Stage) (lines : List (List ℕ)) → header_at st ≡ Some h
-          → (lines_on (input_to k.lines w) k.lines.said k.lines.line st lines).header ≡ Some h
-      by_stage stages.Header lines f = cc
-      by_stage (stages.Specification g) lines f = f
-      by_stage (stages.Starts g last) lines f = f
-      by_stage (stages.Entries g) lines f = f
-      by_stage (stages.End g) lines f = f
-
-      by_fault : (o : Option TextFault)
-          → (unless_faulty k.lines (input_to k.lines w) (cut (k.unfinished ++ more)) o).header
-          ≡ Some h
-      by_fault (Some f) = e
-      by_fault None = by_stage k.lines.stage (cut (k.unfinished ++ more)) e
+  header_stays h e = search arith
 
   end_stays : has_ended k.lines.stage ≡ true → IsOver (goes_on k.lines k.unfinished w more)
   end_stays e = by_fault k.lines.fault
@@ -185,36 +163,15 @@ module _ (k : OwnReaderKept) (w : Bool) (more : List ℕ) where
       by_fault (Some f) = record { ended = e; entries = refl; numbers = refl }
       by_fault None =
           let p = parts_of (k.unfinished ++ more) in
-          subst (λ ps. IsOver
-          (lines_on (input_to k.lines w) k.lines.said k.lines.line k.lines.stage ps)) (sym p.2)
-          (by_stage k.lines.stage p.0 p.1 e)
+          rw p.2 (by_stage k.lines.stage p.0 p.1 e)
 
   -- neither lines of the specification nor starting words come any more
   past_bare : is_past k.lines.stage ≡ true → IsBare (goes_on k.lines k.unfinished w more)
-  past_bare e = by_fault k.lines.fault
-    where
-      by_stage : (st : Stage) (lines : List (List ℕ)) → is_past st ≡ true
-          → IsBare (lines_on (input_to k.lines w) k.lines.said k.lines.line st lines)
-      by_stage stages.Header lines f = cc
-      by_stage (stages.Specification g) lines f = cc
-      by_stage (stages.Starts g last) lines f = cc
-      by_stage (stages.Entries g) lines f =
-          let bare = entries_bare (input_to k.lines w) k.lines.said.specification k.lines.line
-          lines in
-          record { lines = bare.lines; starting = bare.starting }
-      by_stage (stages.End g) [] f = record { lines = refl; starting = refl }
-      by_stage (stages.End g) (line ∷ lines) f = record { lines = refl; starting = refl }
-
-      by_fault : (o : Option TextFault)
-          → IsBare (unless_faulty k.lines (input_to k.lines w) (cut (k.unfinished ++ more)) o)
-      by_fault (Some f) = record { lines = refl; starting = refl }
-      by_fault None = by_stage k.lines.stage (cut (k.unfinished ++ more)) e
+  past_bare e = search (entries_bare, arith)
 
   fault_stays : (f : TextFault) → k.lines.fault ≡ Some f → goes_on k.lines k.unfinished w more
       ≡ known k.lines k.lines.fault
-  fault_stays f is =
-      ap (unless_faulty k.lines (input_to k.lines w) (cut (k.unfinished ++ more))) is
-      ∙ ap (known k.lines) (sym is)
+  fault_stays f is = search arith
 
 pub reading_grown : (max : ℕ) (w : Bool) (bytes more : List ℕ) → 1 ≤ max → max ≤ most_lines
     → IsGrown (own_reading (to_go_on max) bytes) (own_reading (input_of max w) (bytes ++ more))
@@ -288,11 +245,8 @@ pub reading_callable : (max : ℕ) (bytes : List ℕ) → 1 ≤ max → max ≤ 
 reading_callable max bytes low high =
     let at = reached_all max bytes low high in
     let old = ap (λ m. own_reading (to_go_on m) bytes) (sym at.limit)
-    ∙ read_now at.kept at.brought bytes at.sound at.reached in
-    ap (λ ls. are_callable (written_in ls).methods) (ap (λ (read : OwnReading). read.lines) old
-    ∙ append-nil at.brought.lines)
-    ∙ ap (λ s. are_callable s.specification.methods) (sym at.reached.said)
-    ∙ at.sound.steady.callable
+    ∙ read_now at.kept _ _ at.sound at.reached in
+    cc (append-nil at.brought.lines, at.reached.said, at.sound.steady.callable)
 
 -- what is true of all that is read
 pub reading_formed : (max : ℕ) (bytes : List ℕ) → 1 ≤ max → max ≤ most_lines

@@ -59,9 +59,7 @@ from_sound line (a ∷ b ∷ c ∷ d ∷ f ∷ more) h e =
       words = number_of d;
       callers = number_of f;
       sized = first_true _ _ is;
-      spelled = sym ((bytes_eq-Decides (header_line 3 Own (number_of d) (number_of f)) line).0
-          (second_true (is_own_sized (number_of d) (number_of f)) _ is))
-          ∙ line_is (number_of d) (number_of f);
+      spelled = sym ((bytes_eq-Decides _ _).0 (second_true _ _ is)) ∙ line_is _ _;
     }
 
 pub header_sound : (line : List ℕ) (h : Header) → own_header_in line ≡ Some h → IsHeaderLine line h
@@ -72,53 +70,44 @@ header_sound line h e = from_sound line (fields_of line) h e
 pub no_header : (line : List ℕ)
     → ((words callers : ℕ) → is_own_sized words callers ≡ true → line ≡ own_text words callers → ⊥)
     → None ≡ own_header_in line
-no_header line none = by_answer (own_header_in line) refl
+no_header line none = by_answer (own_header_in _) refl
   where
     by_answer : (o : Option Header) → own_header_in line ≡ o → None ≡ o
     by_answer None e = refl
-    by_answer (Some h) e = let is = header_sound line h e in absurd
-        (none is.words is.callers is.sized is.spelled)
+    by_answer (Some h) e = let is = header_sound _ h e in absurd (none _ _ is.sized is.spelled)
 
 pub no_beginning : (line : List ℕ) → ((rest : List ℕ) → line ≡ codes "vyrd 3 own " ++ rest → ⊥)
     → None ≡ own_header_in line
-no_beginning line none = no_header line
-    (λ words callers sized e. none (decimal words ++ 32 ∷ decimal callers) e)
+no_beginning line none = search (no_header, arith)
 
 -- the text of a header is read as that header
 pub header_complete : (words callers : ℕ) → is_own_sized words callers ≡ true
     → own_header_in (own_text words callers) ≡ header_of 3 Own words callers
 unfolding own_header_in
-header_complete words callers sized =
-    ap (λ t. own_header_from t (fields_of t)) (sym (line_is words callers))
-    ∙ ap (own_header_from text)
+header_complete words callers sized = ap (λ t. own_header_from t (fields_of t))
+    (sym (line_is words callers)) ∙ ap (own_header_from text)
     (split-join 32 (codes "vyrd") (decimal 3 ∷ codes "own" ∷ decimal words ∷ decimal callers ∷ [])
-    lack)
-    ∙ (λ i. own_header_spelled text (number_of_decimal words w i) (number_of_decimal callers c i))
-    ∙ ap (λ b. cond b (header_of 3 Own words callers) None) (both_true _ _ sized (bytes_same text))
+    lack) ∙ (λ i. own_header_spelled text (number_of_decimal words w i)
+    (number_of_decimal callers c i)) ∙ ap (λ b. cond b (header_of 3 Own words callers) None)
+    (both_true _ _ sized (bytes_same text))
   where
     text : List ℕ
     text = header_line 3 Own words callers
 
     w : words < 2 ^ 64
-    w = let h = few_words words callers sized in omega (arith, h)
+    w = let h = few_words _ callers sized in omega (arith, h)
 
     c : callers < 2 ^ 64
-    c = let h = few_callers words callers sized in omega (arith, h)
+    c = let h = few_callers _ callers sized in omega (arith, h)
 
     lack : all_lack 32 (codes "vyrd" ∷ decimal 3 ∷ codes "own" ∷ decimal words ∷ decimal callers
         ∷ []) ≡ true
-    lack = both_true _ _ refl
-        (both_true _ _ (decimal_lacks 32 3 no_space (omega arith)) (both_true _ _ refl
-        (both_true _ _ (decimal_lacks 32 words no_space w)
-        (both_true _ _ (decimal_lacks 32 callers no_space c) refl))))
+    lack = search (both_true, decimal_lacks, no_space, arith)
 
 module _ (line rest : List ℕ) (begun : line ≡ codes "vyrd 3 own " ++ rest) where
   pub no_words : ((n : ℕ) (more : List ℕ) → n < 2 ^ 32 → rest ≡ decimal n ++ 32 ∷ more → ⊥)
       → None ≡ own_header_in line
-  no_words none = no_header line (λ words callers sized e.
-      none words (decimal callers) (few_words words callers sized)
-      (append_cancel_left (codes "vyrd 3 own ") rest (decimal words ++ 32 ∷ decimal callers)
-      (sym begun ∙ e)))
+  no_words none = search (no_header, few_words, arith)
 
   module _ (n : ℕ) (more : List ℕ) (low : n < 2 ^ 32) (parts : rest ≡ decimal n ++ 32 ∷ more) where
     after_words : (words callers : ℕ) → is_own_sized words callers ≡ true

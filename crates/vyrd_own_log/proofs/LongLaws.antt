@@ -127,21 +127,15 @@ module _ (line : List ℕ) (long : 200 < length line) where
         s,
       )
   unfolding read_next line_read
-  long_next s =
-      ap (λ b. cond b (reader.ended_with s (reader.unfinished s.specification.methods))
+  long_next s = ap (λ b. cond b (reader.ended_with s (reader.unfinished s.specification.methods))
       (cond (nat_le 1000 s.lines) (told.Refused TooMany 1, s)
       (reader.told s line (line_read s.specification s.below line))))
       (long_isnt (codes "log") (omega arith))
       ∙ ap (λ t. cond (nat_le 1000 s.lines) (told.Refused TooMany 1, s) (reader.told s line t))
-      too_long
-      ∙ by_many (nat_le 1000 s.lines)
+      too_long ∙ by_many (nat_le 1000 s.lines)
     where
       too_long : line_read s.specification s.below line ≡ Err (TooLong, drop 200 line)
-      too_long = ap
-          (λ b. cond b (Err (TooLong, drop 200 line))
-          (cond (reader.is_remark line) (Ok (remark line))
-          (reader.or_method s.specification line (outer_read s.specification s.below line))))
-          (is_below 200 (length line) long)
+      too_long = cc (is_below 200 (length line) long)
 
       by_many : (b : Bool) → ◌≡◌ {A = SpecificationLine × SoFar}
           (cond b (told.Refused TooMany 1, s) (reader.told s line (Err (TooLong, drop 200 line))))

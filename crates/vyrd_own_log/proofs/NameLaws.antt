@@ -97,9 +97,8 @@ fields_after (Some rest) = slice_split (λ b. b == 32) rest
 split_field : (field : List ℕ) (rest : Option (List ℕ)) → lacks 32 field ≡ true
     → slice_split (λ b. b == 32) (field ++ after_field rest) ≡ field ∷ fields_after rest
 unfolding fields_after
-split_field field None lack = ap (slice_split (λ b. b == 32)) (append-nil field)
-    ∙ split_whole 32 field lack
-split_field field (Some rest) lack = split_at 32 field rest lack
+split_field field None lack = cc (append-nil field, split_whole 32 field lack)
+split_field field (Some rest) lack = split_at _ _ _ lack
 
 same_after : (r s : Option (List ℕ)) → after_field r ≡ after_field s → r ≡ s
 same_after r s e = grind arith
@@ -108,26 +107,19 @@ same_after r s e = grind arith
 pub one_field : (a b : List ℕ) (r s : Option (List ℕ)) → lacks 32 a ≡ true → lacks 32 b ≡ true
     → a ++ after_field r ≡ b ++ after_field s → (a ≡ b) × (r ≡ s)
 one_field a b r s la lb e =
-    let parts : a ∷ fields_after r ≡ b ∷ fields_after s =
-    sym (split_field a r la) ∙ ap (slice_split (λ b. b == 32)) e ∙ split_field b s lb in
-    let same : a ≡ b = cc in (
-      same,
-      same_after r s
-          (append_cancel_left a (after_field r) (after_field s)
-          (e ∙ ap (λ t. t ++ after_field s) (sym same))),
-    )
+    let parts : a ∷ fields_after r ≡ b ∷ fields_after s = sym (split_field a r la)
+    ∙ ap (slice_split _) e ∙ split_field b s lb in
+    let same : a ≡ b = cc in (same, same_after r s (append_cancel_left a _ _ (cc)))
 
 -- where a text is cut at its first space
 not_true : (b : Bool) → ¬ (b ≡ true) → not b ≡ true
-not_true true h = absurd (h refl)
-not_true false h = refl
+not_true b h = search arith
 
 pub front_lacks : (b k : ℕ) (xs : List ℕ) → k ≤ length xs
     → ((i : ℕ) → i < k → ¬ ((get_or xs i 0 == b) ≡ true)) → lacks b (take k xs) ≡ true
 front_lacks b zero xs h none = refl
 front_lacks b (suc k) [] h none = refl
-front_lacks b (suc k) (x ∷ xs) h none =
-    both_true _ _ (not_true (x == b) (none 0 (omega arith)))
+front_lacks b (suc k) (x ∷ xs) h none = both_true _ _ (not_true _ (none 0 (omega arith)))
     (front_lacks b k xs (omega arith) (λ i l. none (suc i) (omega arith)))
 
 pub whole_lacks : (b : ℕ) (xs : List ℕ)
@@ -137,6 +129,5 @@ whole_lacks b xs none = ap (lacks b) (sym (take_all (length xs) xs (omega arith)
 
 pub parted_at : (b : ℕ) (xs : List ℕ) (k : ℕ) → k < length xs → (get_or xs k 0 == b) ≡ true
     → xs ≡ take k xs ++ b ∷ take (length xs - (k + 1)) (drop (k + 1) xs)
-parted_at b xs k h e =
-    sym (take-append-drop k xs) ∙ ap (λ t. take k xs ++ t) (drop_more xs k 0 h
-    ∙ (λ i. same_of (get_or xs k 0) b e i ∷ sym (take_rest xs (k + 1)) i))
+parted_at b xs k h e = sym (take-append-drop k _) ∙ ap (λ t. take k xs ++ t)
+    (drop_more _ k 0 h ∙ (λ i. same_of _ b e i ∷ sym (take_rest xs (k + 1)) i))

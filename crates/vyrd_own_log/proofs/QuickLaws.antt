@@ -54,8 +54,7 @@ name_skipped i m methods name text rest none is = by_test (bytes_eq m.name name)
         → cond b (Some (own_method i m)) (named_from (i + 1) methods name)
         ≡ named_from (i + 1) methods name
     by_test false e = refl
-    by_test true e = absurd
-        (none (is ∙ ap (λ t. t ++ rest) (sym ((bytes_eq-Decides m.name name).0 e))))
+    by_test true e = absurd (none (cc ((bytes_eq-Decides m.name name).0 e)))
 
 -- the first method of a name is the one that the name finds
 pub name_found : (i : ℕ) (m : Method) (methods : List Method) → named_from i (m ∷ methods) m.name
@@ -70,17 +69,10 @@ pub called_kind : (w : Written) (all : AllCallable w) (text name behind rest : L
     → args.a < 2 ^ 32 → args.b < 2 ^ 32 → args.c < 2 ^ 32
     → IsOwnKindAtFront w (codes "call " ++ text) (Call (own_call m) args) rest
 called_kind w all text name behind rest m args found parted are a b c =
-    let field = after_field (own_args m.arity args) in
-    let read = call_read w all (name ++ field) name (own_args m.arity args) refl
-    (named_is 0 w.methods name m all found).one_word m args found
-    (are.0, are.1, refl) a b c in (
-      read.0,
-      read.1,
-      read.2,
-      ap (λ t. codes "call " ++ t) (parted ∙ ap (λ t. name ++ t) are.2
-          ∙ sym (append_assoc name field (10 ∷ rest)))
-          ∙ ap (λ t. t ++ 10 ∷ rest) read.3,
-    )
+    let field = after_field (own_args _ _) in
+    let read = call_read w all (name ++ field) _ (own_args _ _) refl
+    (named_is 0 w.methods name m all found).one_word m args found (are.0, are.1, refl) a b c in
+    (read.0, read.1, read.2, cc (are.2, append_assoc name field (10 ∷ rest), read.3))
 
 -- a caller and what it did
 pub entry_at_front : (w : Written) (all : AllCallable w) (text rest after : List ℕ) (caller : ℕ)

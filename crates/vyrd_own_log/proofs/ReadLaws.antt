@@ -79,25 +79,19 @@ pub line_fed : (k n : OwnReaderKept) (xs : List ℕ) (found : Found) (es fs : Li
     → fs ≡ es ++ entries_of found → ns ≡ ms ++ numbers_of k.lines.line found
     → IsFed k (xs ++ 10 ∷ []) es fs ms ns n
 line_fed k n xs found es fs ms ns sound one step empty specified start grown counted =
-    let found_is : found ≡ (own_step k.lines (k.unfinished ++ xs)).1 =
-    ap (λ (s : LineState × Found). s.1) step in record {
+    let found_is : found ≡ (own_step k.lines (k.unfinished ++ xs)).1 = cc in
+    record {
       brought = brought_by k.lines.line (k.unfinished ++ xs)
           (own_step k.lines (k.unfinished ++ xs)).1;
       taken = subst
           (λ m. IsTaken k (xs ++ 10 ∷ [])
           (brought_by k.lines.line (k.unfinished ++ xs) (own_step k.lines (k.unfinished ++ xs)).1)
-          m)
-          (λ i. record {
-            lines = (sym step i).0;
-            unfinished = sym empty i;
-            specified = n.specified;
-            start = n.start;
-          })
+          m) (λ i. record n { lines = (sym step i).0; unfinished = sym empty i })
           (line_taken k xs sound one n.specified n.start);
-      specified = specified ∙ ap (λ f. k.specified ++ lines_of (k.unfinished ++ xs) f) found_is;
-      start = start ∙ ap (λ f. k.start ++ starts_of f) found_is;
-      grown = grown ∙ ap (λ f. es ++ entries_of f) found_is;
-      counted = counted ∙ ap (λ f. ms ++ numbers_of k.lines.line f) found_is;
+      specified = cc;
+      start = cc;
+      grown = cc;
+      counted = cc;
     }
 
 pub line_kept : (k n : OwnReaderKept) (xs : List ℕ) (found : Found) → IsSound k → is_one_line xs
@@ -108,17 +102,14 @@ line_kept k n xs found sound one step empty =
 
 -- what holds of an `Ok`
 pub one_ok : {E P Q : Type 0} (r : Result (Unit {0}) E) → (P → Q) → OnOk r P → OnOk r Q
-one_ok (Ok x) f p = f p
-one_ok (Err e) f p = tt
+one_ok r f p = search arith
 
 pub three_ok : {E P Q R S : Type 0} (r : Result (Unit {0}) E) → (P → Q → R → S) → OnOk r P
     → OnOk r Q → OnOk r R → OnOk r S
-three_ok (Ok x) f p q t = f p q t
-three_ok (Err e) f p q t = tt
+three_ok r f p q t = search arith
 
 pub any_ok : {E P : Type 0} (r : Result (Unit {0}) E) → P → OnOk r P
-any_ok (Ok x) p = p
-any_ok (Err e) p = tt
+any_ok r p = search arith
 
 -- the rule of unfinished bytes, by a test for their length
 pub rest_is : (r : LineState) (rest bytes : List ℕ) (is_long : Bool) → has_any bytes ≡ true
@@ -134,12 +125,10 @@ pub long_is : (a b n : ℕ) → a ≤ 200 → n ≡ a + b → nat_lt (200 - a) b
 long_is a b n small is = grind (arith, small, below_of, is_below, not_below_of, isnt_below)
 
 pub some_of : (xs : List ℕ) → false ≡ (length xs == 0) → has_any xs ≡ true
-some_of [] e = cc
-some_of (x ∷ xs) e = refl
+some_of xs e = search arith
 
 pub ok_of : {E P : Type 0} (r : Result (Unit {0}) E) → false ≡ is_err r → OnOk r P → P
-ok_of (Ok x) e p = p
-ok_of (Err x) e p = cc
+ok_of r e p = search arith
 
 -- a fault that is found before the line is whole
 module _ (k n : OwnReaderKept) (bytes : List ℕ) (sound : IsSound k)
@@ -214,8 +203,7 @@ pub fresh_read : (max : ℕ) (r : ReaderState) → 1 ≤ max → max ≤ most_li
     → r.kept ≡ fresh_kept max → HasRead r []
 unfolding own_reading
 fresh_read max r low high works is =
-    subst (λ k. HasRead (record { kept = k; has_failed = r.has_failed }) []) (sym is)
-    (has_read (record { kept = fresh_kept max; has_failed = r.has_failed }) nothing_brought [] works
+    rw is (has_read _ nothing_brought [] works
     (record {
       steady = record { low = low; high = high; counted = omega arith; callable = refl };
       first = (refl, refl);
@@ -239,31 +227,21 @@ module _ (old new : ReaderState) (bytes piece : List ℕ) (es fs : List Entry) (
 
   pub fed_read : HasRead new (bytes ++ piece)
   fed_read = has_read new all (bytes ++ piece) works (kept has.sound) now
-      (one.specified ∙ ap (λ t. t ++ one.brought.lines) has.lines)
-      (one.start ∙ ap (λ t. t ++ one.brought.starting) has.start)
+      (cc (one.specified, has.lines)) (cc (one.start, has.start))
 
   same_input : so_far new ≡ so_far old
   same_input = ap (λ n. record { max_lines = n; is_whole = false }) one.taken.limit
 
   said : all ≡ brought_in (own_reading (so_far old) (bytes ++ piece))
-  said = brought_is new.kept all (bytes ++ piece) (kept has.sound) now
-      ∙ ap (λ input. brought_in (own_reading input (bytes ++ piece))) same_input
+  said = grind (arith, brought_is new.kept all (bytes ++ piece) (kept has.sound) now)
 
   pub fed_entries : IsGrownBy es (own_reading (so_far old) bytes).entries fs
       (own_reading (so_far old) (bytes ++ piece)).entries
-  fed_entries = record {
-    more = one.brought.entries;
-    one = one.grown;
-    other = sym (ap (λ x. x.entries) said);
-  }
+  fed_entries = search (said, arith)
 
   pub fed_numbers : IsGrownBy ms (own_reading (so_far old) bytes).numbers ns
       (own_reading (so_far old) (bytes ++ piece)).numbers
-  fed_numbers = record {
-    more = one.brought.numbers;
-    one = one.counted;
-    other = sym (ap (λ x. x.numbers) said);
-  }
+  fed_numbers = search (said, arith)
 
   pub fed_fault : new.kept.lines.fault ≡ (own_reading (so_far old) (bytes ++ piece)).fault
   fed_fault = fed_read.fault ∙ ap (λ input. (own_reading input (bytes ++ piece)).fault) same_input
@@ -292,35 +270,22 @@ module _ (r : ReaderState) (bytes : List ℕ) (has : HasRead r bytes) where
       ≡ record (own_reading (so_far r) bytes) { fault = (own_reading (whole r) bytes).fault }
   end_alike = λ i. record {
     header = (ap (λ read. read.header) at_end ∙ has.header) i;
-    lines = (ap (λ read. read.lines) at_end ∙ append-nil (own_reading (so_far r) bytes).lines) i;
-    starting = (ap (λ read. read.starting) at_end
-        ∙ append-nil (own_reading (so_far r) bytes).starting) i;
-    entries = (ap (λ read. read.entries) at_end ∙ append-nil (own_reading (so_far r) bytes).entries)
-        i;
-    numbers = (ap (λ read. read.numbers) at_end ∙ append-nil (own_reading (so_far r) bytes).numbers)
-        i;
+    lines = (ap (λ read. read.lines) at_end ∙ append-nil (own_reading _ _).lines) i;
+    starting = (ap (λ read. read.starting) at_end ∙ append-nil (own_reading _ _).starting) i;
+    entries = (ap (λ read. read.entries) at_end ∙ append-nil (own_reading _ _).entries) i;
+    numbers = (ap (λ read. read.numbers) at_end ∙ append-nil (own_reading _ _).numbers) i;
     ended = (ap (λ read. read.ended) at_end ∙ has.ended) i;
     fault = (own_reading (whole r) bytes).fault;
   }
 
   no_fault_ends : fault_at_end r.kept.lines r.kept.unfinished ≡ None → has_ended r.kept.lines.stage
       ≡ true
-  no_fault_ends none = by_end r.kept.lines.fault (has_ended r.kept.lines.stage) none
-    where
-      by_end : (f : Option TextFault) (b : Bool) → option_or f (cond b None (Some (record {
-        line = r.kept.lines.line;
-        rule = cond (has_any r.kept.unfinished) NoLineFeed NoEnd;
-      }))) ≡ None → b ≡ true
-      by_end None true e = refl
-      by_end None false e = cc
-      by_end (Some f) b e = cc
+  no_fault_ends none = search (has_any, arith)
 
   pub end_ended : (x : Result (Unit {0}) fault.TextFault)
       → IsAnswer x (fault_at_end r.kept.lines r.kept.unfinished)
       → OnOk x ((own_reading (whole r) bytes).ended ≡ true)
-  end_ended (Ok x) is = ap (λ read. read.ended) at_end ∙ no_fault_ends is
-  end_ended (Err e) is = tt
+  end_ended x is = search (at_end, no_fault_ends, arith)
 
 pub no_fault : (o : Option LineFault) → is_some o ≡ false → option_map fault_of o ≡ None
-no_fault None e = refl
-no_fault (Some f) e = cc
+no_fault o e = search arith

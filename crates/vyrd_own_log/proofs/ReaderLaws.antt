@@ -61,10 +61,9 @@ pub taken_then : (k m n : OwnReaderKept) (xs ys : List ℕ) (b c : Brought) → 
 taken_then k m n xs ys b c first second = record {
   limit = second.limit ∙ first.limit;
   reached = λ a before has.
-      subst (λ t. HasReached n.lines n.unfinished (brought_then a (brought_then b c)) t)
-      (append_assoc before xs ys)
-      (subst (λ t. HasReached n.lines n.unfinished t ((before ++ xs) ++ ys)) (three a b c)
-      (second.reached (brought_then a b) (before ++ xs) (first.reached a before has)));
+      rw (← append_assoc before xs ys)
+      (rw (← three a b c)
+      (second.reached _ (before ++ xs) (first.reached a _ has)));
 }
 
 -- Where bytes bring nothing: the reader goes on with what follows them as the other does.
@@ -76,16 +75,11 @@ nothing_taken : (k n : OwnReaderKept) (xs : List ℕ) → n.lines.max_lines ≡ 
     → IsTaken k xs nothing_brought n
 nothing_taken k n xs same said on = record {
   limit = same;
-  reached = λ a before has. subst (λ b. HasReached n.lines n.unfinished b (before ++ xs))
-      (sym (and_nothing a)) (record {
-        follows = λ w more.
-            ap (λ m. own_reading (record { max_lines = m; is_whole = w }) ((before ++ xs) ++ more))
-            same
-            ∙ ap (own_reading (input_to k.lines w)) (append_assoc before xs more)
-            ∙ has.follows w (xs ++ more)
-            ∙ ap (with_read a) (on w more);
-        said = said ∙ has.said;
-      });
+  reached = λ a before has. rw (and_nothing a) (record {
+    follows = λ w more.
+        cc (append_assoc before xs more, has.follows w (xs ++ more), on w more);
+    said = said ∙ has.said;
+  });
 }
 
 -- no bytes
@@ -96,17 +90,13 @@ empty_taken k start = nothing_taken k (record k { start = start }) [] refl refl 
 -- a line that goes on
 pub longer_taken : (k : OwnReaderKept) (xs : List ℕ) → IsTaken k xs nothing_brought
     (record k { unfinished = k.unfinished ++ xs })
-longer_taken k xs = nothing_taken k (record k { unfinished = k.unfinished ++ xs }) xs refl refl
-    (λ w more. ap (λ t. reads_on k.lines (input_to k.lines w) (cut t))
-    (sym (append_assoc k.unfinished xs more)))
+longer_taken k xs = nothing_taken k _ _ refl refl (λ w more. cc (append_assoc k.unfinished xs more))
 
 -- a reader with a fault takes nothing in
 pub faulty_taken : (k : OwnReaderKept) (f : TextFault) (xs : List ℕ) → k.lines.fault ≡ Some f
     → IsTaken k xs nothing_brought k
-faulty_taken k f xs is = nothing_taken k k xs refl refl
-    (λ w more. ap (unless_faulty k.lines (input_to k.lines w) (cut (k.unfinished ++ (xs ++ more))))
-    is
-    ∙ sym (ap (unless_faulty k.lines (input_to k.lines w) (cut (k.unfinished ++ more))) is))
+faulty_taken k f xs is = nothing_taken k k _ refl refl (λ w more. ap (unless_faulty k.lines _ _) is
+    ∙ sym (ap (unless_faulty k.lines _ _) is))
 
 -- the beginning of a line, and what follows it
 record IsCut (front more : List ℕ) : Type 0 where

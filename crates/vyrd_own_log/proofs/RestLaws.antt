@@ -36,32 +36,18 @@ module _ (r : LineState) (line : List ℕ) (long : 200 < length line)
       ≡ broken r (bad_at r.said st)
   long_step Header e = ap (header_step r) (long_header line long)
   long_step (Specification h) e = ap (specification_step r h) (long_next line long r.said)
-  long_step (Starts h last) e =
-      ap (λ b. cond b (next r (Starts h last), Nothing) (start_step r h last line (start_in line)))
-      (long_note line long)
-      ∙ ap (start_step r h last line) (long_start line more_than)
-      ∙ entries h
+  long_step (Starts h last) e = cc (long_note line long, long_start line more_than, entries h)
     where
       entries : (h : headers.Header) → entry_step r h line ≡ broken r BadEntry
-      entries h =
-          (λ i. cond (long_note line long i) (next r (Entries h), Nothing)
-          (cond (long_isnt_end line more_than i) (next r (End h), ends.End)
-          (spelled_step r h (long_entry line long r.said.specification all i))))
-  long_step (Entries h) e =
-      (λ i. cond (long_note line long i) (next r (Entries h), Nothing)
-      (cond (long_isnt_end line more_than i) (next r (End h), ends.End)
-      (spelled_step r h (long_entry line long r.said.specification all i))))
+      entries h = search (long_note, long_isnt_end, more_than, long_entry, arith)
+  long_step (Entries h) e = search (long_note, long_isnt_end, more_than, long_entry, arith)
   long_step (End h) e = cc
 
 -- a rule that the beginning of a line breaks is the one that the line breaks
 module _ (r : LineState) (rest more : List ℕ) (rule : Rule) (all : AllCallable r.said.specification)
     (fine : r.fault ≡ None) where
   pub rest_step : rest_rule r rest ≡ Some rule → own_step r (rest ++ more) ≡ broken r rule
-  rest_step is =
-      ap (λ f. cond (is_some f) (r, Nothing)
-      (cond (nat_lt r.max_lines r.line) (broken r TooManyLines)
-      (stage_step r r.stage (rest ++ more)))) fine
-      ∙ by_past (nat_lt r.max_lines r.line) is
+  rest_step is = cc (by_past (nat_lt r.max_lines r.line) is)
     where
       long : nat_lt 200 (length rest) ≡ true → 200 < length (rest ++ more)
       long e = let h = below_of 200 (length rest) e in omega (arith, h, length-append rest more)
@@ -94,21 +80,14 @@ module _ (r : LineState) (rest more : List ℕ) (rule : Rule) (all : AllCallable
           (cond (has_ended r.stage && has_any rest) (Some AfterEnd)
           (cond (nat_lt 200 (length rest)) (Some (bad_at r.said r.stage)) None)) ≡ Some rule
           → cond past (broken r TooManyLines) (stage_step r r.stage (rest ++ more)) ≡ broken r rule
-      by_past false f = by_stage r.stage
-          (ap (λ b. cond b (Some TooManyLines)
-          (cond (has_ended r.stage && has_any rest) (Some AfterEnd)
-          (cond (nat_lt 200 (length rest)) (Some (bad_at r.said r.stage)) None)))
-          (sym (and-false (has_any rest))) ∙ f)
+      by_past false f = by_stage r.stage (cc (and-false (has_any rest)))
       by_past true f = past_any rest f
         where
           past_any : (xs : List ℕ) → cond (has_any xs && true) (Some TooManyLines)
               (cond (has_ended r.stage && has_any xs) (Some AfterEnd)
               (cond (nat_lt 200 (length xs)) (Some (bad_at r.said r.stage)) None)) ≡ Some rule
               → broken r TooManyLines ≡ broken r rule
-          past_any [] g =
-              let none : ◌≡◌ {A = Option Rule} None (Some rule) =
-              ap (λ b. cond b (Some AfterEnd) None) (sym (and-false (has_ended r.stage))) ∙ g in
-              cc
+          past_any [] g = search arith
           past_any (x ∷ xs) g = let same : TooManyLines ≡ rule = cc in ap (broken r) same
 
 -- no bytes break no rule
@@ -139,8 +118,7 @@ module _ (r : LineState) (rest : List ℕ) (first : IsFirst r.stage r) where
       ≡ cond (has_any xs && nat_lt r.max_lines r.line) (Some TooManyLines)
       (cond (true && has_any xs) (Some AfterEnd)
       (cond (nat_lt 200 (length xs)) (Some AfterEnd) None))
-  after_rules [] = refl
-  after_rules (x ∷ xs) = refl
+  after_rules xs = search arith
 
   none_after : (xs : List ℕ) → cond (has_any xs && nat_lt r.max_lines r.line) (Some TooManyLines)
       (cond (true && has_any xs) (Some AfterEnd)
@@ -154,27 +132,7 @@ module _ (r : LineState) (rest : List ℕ) (first : IsFirst r.stage r) where
       ≡ known (record r { stage = st })
       (fault_on r.line
       (rest_if (record r { stage = st }) (has_any rest) (nat_lt 200 (length rest))))
-  so_far_at Header f =
-      ap (own_stopped 1)
-      (ap (λ k. rules_at (nat_lt r.max_lines k) (nat_lt 200 (length rest)) (has_any rest) BadHeader
-      false) (sym f.0)
-      ∙ so_far_rules (nat_lt r.max_lines r.line) (nat_lt 200 (length rest))
-      (has_any rest) BadHeader)
-      ∙ ap (λ k. known (record r { stage = Header })
-      (fault_on k (rest_if (record r { stage = Header }) (has_any rest)
-      (nat_lt 200 (length rest))))) (sym f.0)
-  so_far_at (Specification h) f =
-      ap (λ o. headed h (own_stopped r.line o))
-      (so_far_rules (nat_lt r.max_lines r.line) (nat_lt 200 (length rest)) (has_any rest)
-      (long_rule r.said))
-  so_far_at (Starts h last) f =
-      ap (λ o. headed h (own_stopped r.line o))
-      (so_far_rules (nat_lt r.max_lines r.line) (nat_lt 200 (length rest)) (has_any rest) BadEntry)
-  so_far_at (Entries h) f =
-      ap (λ o. headed h (own_stopped r.line o))
-      (so_far_rules (nat_lt r.max_lines r.line) (nat_lt 200 (length rest)) (has_any rest) BadEntry)
-  so_far_at (End h) f =
-      ap (λ o. headed h (record (own_stopped r.line o) { ended = true })) (after_rules rest)
+  so_far_at st f = search (has_any, so_far_rules, after_rules, arith)
 
   pub rest_so_far : lines_on (input_to r false) r.said r.line r.stage (rest ∷ [])
       ≡ known r (fault_on r.line (rest_rule r rest))
@@ -185,28 +143,7 @@ module _ (r : LineState) (rest : List ℕ) (first : IsFirst r.stage r) where
       (nat_lt 200 (length rest)) ≡ None
       → lines_on (input_to r true) r.said r.line st (rest ∷ []) ≡ known (record r { stage = st })
       (end_fault (record r { stage = st }) rest)
-  whole_at Header f none =
-      ap (own_stopped 1)
-      (ap (λ k. rules_at (nat_lt r.max_lines k) (nat_lt 200 (length rest)) (has_any rest) BadHeader
-      true) (sym f.0)
-      ∙ end_rules (nat_lt r.max_lines r.line) (nat_lt 200 (length rest)) (has_any rest) BadHeader
-      none)
-      ∙ ap (λ k. known (record r { stage = Header })
-      (Some (record { line = k; rule = cond (has_any rest) NoLineFeed NoEnd }))) (sym f.0)
-  whole_at (Specification h) f none =
-      ap (λ o. headed h (own_stopped r.line o))
-      (end_rules (nat_lt r.max_lines r.line) (nat_lt 200 (length rest)) (has_any rest)
-      (long_rule r.said) none)
-  whole_at (Starts h last) f none =
-      ap (λ o. headed h (own_stopped r.line o))
-      (end_rules (nat_lt r.max_lines r.line) (nat_lt 200 (length rest)) (has_any rest) BadEntry
-      none)
-  whole_at (Entries h) f none =
-      ap (λ o. headed h (own_stopped r.line o))
-      (end_rules (nat_lt r.max_lines r.line) (nat_lt 200 (length rest)) (has_any rest) BadEntry
-      none)
-  whole_at (End h) f none =
-      ap (λ o. headed h (record (own_stopped r.line o) { ended = true })) (none_after rest none)
+  whole_at st f none = search (has_any, end_rules, none_after, arith)
 
   pub rest_whole : rest_rule r rest ≡ None → lines_on (input_to r true) r.said r.line r.stage
       (rest ∷ []) ≡ known r (end_fault r rest)
@@ -223,29 +160,7 @@ module _ (r : LineState) (rest : List ℕ) (first : IsFirst r.stage r) (w : Bool
       (nat_lt 200 (length rest)) ≡ Some rule
       → lines_on (input_to r w) r.said r.line st (rest ∷ []) ≡ known (record r { stage = st })
       (Some (record { line = r.line; rule = rule }))
-  bad_rest Header f e =
-      ap (own_stopped 1)
-      (ap (λ k. rules_at (nat_lt r.max_lines k) (nat_lt 200 (length rest)) (has_any rest) BadHeader
-      w) (sym f.0)
-      ∙ rules_bad (nat_lt r.max_lines r.line) (nat_lt 200 (length rest)) (has_any rest) BadHeader w
-      rule e)
-      ∙ ap (λ k. known (record r { stage = Header }) (Some (record { line = k; rule = rule })))
-      (sym f.0)
-  bad_rest (Specification h) f e =
-      ap (λ o. headed h (own_stopped r.line o))
-      (rules_bad (nat_lt r.max_lines r.line) (nat_lt 200 (length rest)) (has_any rest)
-      (long_rule r.said) w rule e)
-  bad_rest (Starts h last) f e =
-      ap (λ o. headed h (own_stopped r.line o))
-      (rules_bad (nat_lt r.max_lines r.line) (nat_lt 200 (length rest)) (has_any rest) BadEntry w
-      rule e)
-  bad_rest (Entries h) f e =
-      ap (λ o. headed h (own_stopped r.line o))
-      (rules_bad (nat_lt r.max_lines r.line) (nat_lt 200 (length rest)) (has_any rest) BadEntry w
-      rule e)
-  bad_rest (End h) f e =
-      ap (λ o. headed h (record (own_stopped r.line o) { ended = true }))
-      (after_rules r rest first rest ∙ e)
+  bad_rest st f e = search (has_any, rules_bad, after_rules, arith)
 
   pub rest_bad : rest_rule r rest ≡ Some rule → lines_on (input_to r w) r.said r.line r.stage
       (rest ∷ []) ≡ known r (Some (record { line = r.line; rule = rule }))
@@ -255,8 +170,7 @@ module _ (r : LineState) (rest : List ℕ) (first : IsFirst r.stage r) (w : Bool
 pub rest_stays : (r : LineState) (rest more : List ℕ) (rule : Rule) → rest_rule r rest ≡ Some rule
     → rest_rule r (rest ++ more) ≡ Some rule
 rest_stays r [] more rule e = grind arith
-rest_stays r (b ∷ rest) more rule e = by_tests (nat_lt r.max_lines r.line) (has_ended r.stage)
-    (nat_lt 200 (length (b ∷ rest))) refl e
+rest_stays r (b ∷ rest) more rule e = by_tests (nat_lt _ _) (has_ended _) (nat_lt _ _) refl e
   where
     by_tests : (past done long : Bool) → nat_lt 200 (length (b ∷ rest)) ≡ long
         → cond past (Some TooManyLines)

@@ -42,24 +42,7 @@ module _ (r : LineState) (line : List ℕ) (steady : IsSteady r) where
   unchanged = record { limit = refl; steady = steady; first = λ f. f; said = refl }
 
   broken_is : (rule : Rule) → IsStep r line (broken r rule)
-  broken_is rule = record {
-    limit = refl;
-    steady = record {
-      low = steady.low;
-      high = steady.high;
-      counted = steady.counted;
-      callable = steady.callable;
-    };
-    first = first_of r.stage;
-    said = refl;
-  }
-    where
-      first_of : (st : Stage) → IsFirst st r → IsFirst st (broken r rule).0
-      first_of stages.Header f = f
-      first_of (stages.Specification h) f = tt
-      first_of (stages.Starts h last) f = tt
-      first_of (stages.Entries h) f = tt
-      first_of (stages.End h) f = tt
+  broken_is rule = search (broken, arith)
 
   module _ (within : r.line ≤ r.max_lines) where
     counted : r.line + 1 ≤ r.max_lines + 1

@@ -241,13 +241,9 @@ module _ (line nxt : List ℕ) (lines : List (List ℕ)) (w : Bool) where
       → IsFirst st (state m n st s f)
       → Goes (state m n st s f) (own_step (state m n st s f) line)
   state_goes m n st s (Some f) low first = refl
-  state_goes m n stages.Header s None low first =
-      subst (λ k. Goes (state m k stages.Header s None)
-      (own_step (state m k stages.Header s None) line)) (sym first.0)
-      (subst (λ t. Goes (state m 1 stages.Header t None)
-      (own_step (state m 1 stages.Header t None) line)) (sym first.1) (header_goes m low))
+  state_goes m n stages.Header s None low first = rw first.0 (rw first.1 (header_goes m low))
   state_goes m n (stages.Specification h) s None low first = specification_goes m n s h
-  state_goes m n (stages.Starts h last) s None low first = starts_goes m n s h last
+  state_goes m n (stages.Starts h last) s None low first = starts_goes m n s h _
   state_goes m n (stages.Entries h) s None low first = entries_goes m n s h
   state_goes m n (stages.End h) s None low first = end_goes m n s h
 

@@ -25,8 +25,7 @@ module _ (w : Written) (args : Args) (reply : ℕ) (s : State) where
       ≡ option_map (with_effects s)
       (option_and_then (λ m. effects_of w m s (given w i args) reply) o)
   unfolding next_of
-  next_of_method i None = refl
-  next_of_method i (Some m) = refl
+  next_of_method i o = search arith
 
   next_of_number : (n : Option ℕ) → option_and_then (λ i. own_next w i (given w i args) reply s) n
       ≡ option_map (with_effects s) (option_and_then (λ i. own_effects w i args reply s) n)
@@ -60,8 +59,7 @@ pub answer_found : (w : Written) (method : declared.Method) (args : Args) (s : S
     → own_number method ≡ Some i → own_method w i ≡ Some m
     → given_args ≡ take m.arity (args.a ∷ args.b ∷ args.c ∷ []) → o ≡ answer_of w m given_args s
     → o ≡ answer_by w method args s
-answer_found w method args s i m given_args o number found is answer =
-    grind (arith, found, given, own_method)
+answer_found w method args s i m given_args o number found is answer = cc
 
 -- there are three arguments at most
 pub few_given : (n a b c : ℕ) (xs : List ℕ) → xs ≡ take n (a ∷ b ∷ c ∷ []) → length xs ≤ 3

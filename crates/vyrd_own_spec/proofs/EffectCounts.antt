@@ -53,21 +53,14 @@ fewer p (x ∷ s) = by_test (p x) (fewer p s)
     by_test false rest = omega (arith, rest)
 
 one_more : (s : Amounts) (k a : ℕ) → length (with_amount s k a) ≤ suc (length s)
-one_more s k a = by_test (a == 0)
-  where
-    by_test : (b : Bool) → length (cond b (filter (λ e. not (e.0 == k)) s) (put nat_cmp k a s))
-        ≤ suc (length s)
-    by_test true = let kept = fewer (λ e. not (e.0 == k)) s in omega (arith, kept)
-    by_test false = put_one k a s
+one_more s k a = search (put, fewer, put_one, arith)
 
 -- how many keys are left from before, if what is shown is cleared or not
 more_left : (b : Bool) (m n : ℕ) → m ≤ suc n → cond b 0 m ≤ suc (cond b 0 n)
-more_left true m n e = omega arith
-more_left false m n e = e
+more_left b m n e = search arith
 
 none_left : (b : Bool) → cond b 0 0 ≤ 0
-none_left true = omega arith
-none_left false = omega arith
+none_left b = search arith
 
 -- how many keys are shown after some effects
 shown_then : (s : State) (es : List Effect) → length (with_effects s es).shown
@@ -121,8 +114,7 @@ most_found f (y ∷ ys) (suc i) x is =
 case_few : (s : State) (values : List ℕ) (cases : List Case) (es : List Effect)
     → allowed_effects s values cases ≡ Some es → length es ≤ most_of line_count cases
 case_few s values [] es is = absurd (none-some _ is)
-case_few s values (case ∷ cases) es is =
-    by_test (holds (value s values case.allow)) (case_few s values cases es) is
+case_few s values (case ∷ cases) es is = by_test (holds _) (case_few s values cases es) is
   where
     by_test : (b : Bool)
         → (allowed_effects s values cases ≡ Some es → length es ≤ most_of line_count cases)
@@ -131,17 +123,13 @@ case_few s values (case ∷ cases) es is =
         ≡ Some es
         → length es ≤ most_of line_count (case ∷ cases)
     by_test true rest e = search (length-map, values, arith)
-    by_test false rest e =
-        grind (arith, rest e, le-max_right (line_count case) (most_of line_count cases))
+    by_test false rest e = search arith
 
 method_few : (w : Written) (i : ℕ) (args : Args) (reply : ℕ) (s : State) (es : List Effect)
     (o : Option Method) → own_method w i ≡ o
     → option_and_then (λ m. effects_of w m s (given w i args) reply) o ≡ Some es
     → length es ≤ most_effects w
-method_few w i args reply s es None is e = absurd (none-some _ e)
-method_few w i args reply s es (Some m) is e =
-    let here = case_few s (at_hand w m s (given w i args) ++ reply ∷ []) m.cases es e in
-    omega (arith, here, most_found longest_case w.methods i m is)
+method_few w i args reply s es o is e = search (case_few, given, most_found, arith)
 
 -- a call has no more effects than the longest case has lines
 pub effects_few : (w : Written) (method : declared.Method) (args : Args) (reply : ℕ) (s : State)

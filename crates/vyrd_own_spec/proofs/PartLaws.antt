@@ -9,18 +9,9 @@ use Rattle.vyrd_own_spec.specs.Small.{IsSmall}
 use Rattle.vyrd_own_spec.specs.Parts.{width_of, AreFew}
 
 narrow_by : (b : Bool) (words : ℕ) → words ≤ 16 → cond b 1 words ≤ 16
-narrow_by true words low = omega arith
-narrow_by false words low = low
+narrow_by b words low = search arith
 
 pub are_few : (h : Header) (w : Written) (width places count : ℕ) → IsSmall w → width ≡ width_of w
     → 1 ≤ width
     → count ≡ length w.shows → places ≡ max count 1 → AreFew w width places (h.size / width)
-are_few h w width places count small is wide many most = record {
-  wide = wide;
-  narrow = omega (arith, narrow_by (w.words == 0) w.words small.words, is);
-  some = omega (arith, most);
-  few = omega (arith, most, many, small.shows);
-  shows = omega (arith, most, many);
-  constants = small.constants;
-  parts_few = omega (arith, most_size h, div-le_self h.size width);
-}
+are_few h w width places count small is wide many most = search (narrow_by, most_size, arith)

@@ -96,12 +96,9 @@ line_kept w (constant name n) is fits =
     grind (arith, length-append w.constants (n ∷ []), is.registers, is.words, is.shown, is.methods)
 line_kept w (register name n) is fits =
     grind (arith, is.constants, length-append w.registers (n ∷ []), is.words, is.shown, is.methods)
-line_kept w (list name) is fits =
-    grind (arith, is.constants, is.registers, is.words, is.shown, is.methods)
-line_kept w (holds n) is fits =
-    grind (arith, is.constants, is.registers, is.words, is.shown, is.methods)
-line_kept w (hidden key most) is fits =
-    grind (arith, is.constants, is.registers, is.words, is.shown, is.methods)
+line_kept w (list name) is fits = search arith
+line_kept w (holds n) is fits = search arith
+line_kept w (hidden key most) is fits = search arith
 line_kept w (part k) is fits = grind (arith, is.constants, is.registers, is.shown, is.methods)
 line_kept w (shows key most) is fits =
     grind (
@@ -109,26 +106,12 @@ line_kept w (shows key most) is fits =
       is.constants,
       is.registers,
       is.words,
-      length-append w.shows ((key, most) ∷ []),
+      length-append w.shows
+          ((key, most) ∷ []),
       is.methods,
     )
-line_kept w (method name parameters) is fits = record {
-  constants = is.constants;
-  registers = is.registers;
-  words = is.words;
-  shown = is.shown;
-  methods = one_more w.methods _ is.methods (omega (arith, fits), omega arith);
-}
-line_kept w (inner i) is fits =
-    grind (
-      arith,
-      is.constants,
-      is.registers,
-      is.words,
-      is.shown,
-      methods_kept w.methods i
-          is.methods fits,
-    )
+line_kept w (method name parameters) is fits = search (one_more, arith)
+line_kept w (inner i) is fits = search (methods_kept, arith)
 
 -- ---- what is read fits
 
@@ -139,8 +122,7 @@ FitsIf P (Err stop) = Unit {0}
 after_fits : {A : Type 0} (P : A → Type 0) (o : Option (List ℕ)) (there : List ℕ → A)
     (otherwise : A)
     → ((rest : List ℕ) → P (there rest)) → P otherwise → P (if_after o there otherwise)
-after_fits P (Some rest) there otherwise a b = a rest
-after_fits P None there otherwise a b = b
+after_fits P o there otherwise a b = search arith
 
 cond_fits : {A : Type 0} (P : A → Type 0) (b : Bool) (x y : A) → (b ≡ true → P x)
     → (b ≡ false → P y) → P (cond b x y)
@@ -150,22 +132,18 @@ cond_fits P false x y a b = b refl
 with_fits : {A B : Type 0} (P : A → Type 0) (Q : B → Type 0) (make : A → B) (r : Taken A)
     → FitsIf P r
     → ((x : A) → P x → Q (make x)) → FitsIf Q (taken_with make r)
-with_fits P Q make (Ok x) is each = each x is
-with_fits P Q make (Err stop) is each = tt
+with_fits P Q make r is each = search arith
 
 any_fits : {A B : Type 0} (Q : B → Type 0) (make : A → B) (r : Taken A) → ((x : A) → Q (make x))
     → FitsIf Q (taken_with make r)
-any_fits Q make (Ok x) each = each x
-any_fits Q make (Err stop) each = tt
+any_fits Q make r each = search arith
 
 then_fits : {A B : Type 0} (Q : B → Type 0) (next : A → List ℕ → Taken B) (r : Taken (A × List ℕ))
     → ((x : A) (rest : List ℕ) → FitsIf Q (next x rest)) → FitsIf Q (and_then next r)
-then_fits Q next (Ok found) each = each found.0 found.1
-then_fits Q next (Err stop) each = tt
+then_fits Q next r each = search arith
 
 ended_fits : {A : Type 0} (Q : A → Type 0) (x : A) (text : List ℕ) → Q x → FitsIf Q (ended x text)
-ended_fits Q x [] is = is
-ended_fits Q x (b ∷ rest) is = tt
+ended_fits Q x text is = search arith
 
 few : (n most : ℕ) → nat_le most n ≡ false → n < most
 few n most e = grind (arith, nat_tests)
@@ -176,61 +154,34 @@ MaybeFits P None = Unit {0}
 
 module _ (w : Written) where
   constant_fits : (text : List ℕ) → FitsIf (LineFits w) (constant_read w text)
-  constant_fits text =
-      cond_fits (FitsIf (LineFits w)) (is_past_constants w) _ _ (λ _. tt)
-      (λ _. cond_fits (FitsIf (LineFits w)) (nat_le 64 (length w.constants)) _ _ (λ _. tt)
-      (λ e. any_fits (LineFits w) (λ r. constant r.0 r.1)
-      (named_number (is_known w (word_of text)) text) (λ r. few (length w.constants) 64 e)))
+  constant_fits text = search (cond_fits, any_fits, word_of, few, arith)
 
   register_fits : (text : List ℕ) → FitsIf (LineFits w) (register_read w text)
-  register_fits text =
-      cond_fits (FitsIf (LineFits w)) (has_any w.methods) _ _ (λ _. tt)
-      (λ _. cond_fits (FitsIf (LineFits w)) (nat_le 16 (length w.registers)) _ _ (λ _. tt)
-      (λ e. any_fits (LineFits w) (λ r. register r.0 r.1)
-      (named_number (is_known w (word_of text)) text) (λ r. few (length w.registers) 16 e)))
+  register_fits text = search (cond_fits, has_any, any_fits, word_of, few, arith)
 
   list_fits : (text : List ℕ) → FitsIf (LineFits w) (list_line_read w text)
-  list_fits text =
-      cond_fits (FitsIf (LineFits w)) (has_any w.methods) _ _ (λ _. tt)
-      (λ _. cond_fits (FitsIf (LineFits w)) (nat_le 16 (length w.lists)) _ _ (λ _. tt)
-      (λ e. then_fits (LineFits w) (λ name rest. ended (list name) rest)
-      (new_name (is_known w (word_of text)) text)
-      (λ name rest. ended_fits (LineFits w) (list name) rest tt)))
+  list_fits text = search (cond_fits, has_any, then_fits, ended, word_of, ended_fits, arith)
 
   holds_fits : (below : Last) (text : List ℕ) → FitsIf (LineFits w) (holds_read below text)
-  holds_fits below text =
-      cond_fits (FitsIf (LineFits w)) (is_list below) _ _
-      (λ _. any_fits (LineFits w) holds (last_number text) (λ n. tt)) (λ _. tt)
+  holds_fits below text = search (cond_fits, any_fits, arith)
 
   hidden_fits : (text : List ℕ) → FitsIf (LineFits w) (hidden_read w text)
-  hidden_fits text =
-      cond_fits (FitsIf (LineFits w)) (has_any w.methods) _ _ (λ _. tt)
-      (λ _. any_fits (LineFits w) (λ r. hidden r.0 r.1) (two_numbers text) (λ r. tt))
+  hidden_fits text = search (cond_fits, has_any, any_fits, arith)
 
   part_of_fits : (text : List ℕ) (n : Option ℕ) → FitsIf (LineFits w) (part_of text n)
-  part_of_fits text None = tt
-  part_of_fits text (Some k) =
-      cond_fits (FitsIf (LineFits w)) (nat_le 1 k && nat_le k 16) _ _
-      (λ e. at_most_of k 16 (second_true (nat_le 1 k) (nat_le k 16) e)) (λ _. tt)
+  part_of_fits text n = search (cond_fits, at_most_of, second_true, arith)
 
   part_fits : (text : List ℕ) → FitsIf (LineFits w) (part_read w text)
-  part_fits text =
-      cond_fits (FitsIf (LineFits w)) (not (w.words == 0) || has_any w.methods) _ _ (λ _. tt)
-      (λ _. part_of_fits text (number_in text))
+  part_fits text = search (cond_fits, has_any, part_of_fits, arith)
 
   shows_fits : (below : Last) (text : List ℕ) → FitsIf (LineFits w) (shows_read w below text)
-  shows_fits below text =
-      cond_fits (FitsIf (LineFits w)) (not (is_part below)) _ _ (λ _. tt)
-      (λ _. cond_fits (FitsIf (LineFits w)) (nat_le 4 (length w.shows)) _ _ (λ _. tt)
-      (λ e. any_fits (LineFits w) (λ r. shows r.0 r.1) (two_read (part_scope w) (codes " ") text)
-      (λ r. few (length w.shows) 4 e)))
+  shows_fits below text = search (cond_fits, any_fits, few, arith)
 
   outer_fits : (below : Last) (line : List ℕ) → MaybeFits (LineFits w) (outer_read w below line)
   unfolding outer_read
-  outer_fits below line =
-      after_fits (MaybeFits (LineFits w)) (after (codes "let ") line) _ _ constant_fits
-      (after_fits (MaybeFits (LineFits w)) (after (codes "register ") line) _ _ register_fits
-      (after_fits (MaybeFits (LineFits w)) (after (codes "list ") line) _ _ list_fits
+  outer_fits below line = after_fits (MaybeFits _) (after _ _) _ _ constant_fits
+      (after_fits (MaybeFits _) (after _ _) _ _ register_fits
+      (after_fits (MaybeFits _) (after _ _) _ _ list_fits
       (after_fits (MaybeFits (LineFits w)) (after (codes "  holds ") line) _ _ (holds_fits below)
       (after_fits (MaybeFits (LineFits w)) (after (codes "hidden ") line) _ _ hidden_fits
       (after_fits (MaybeFits (LineFits w)) (after (codes "part ") line) _ _ part_fits
@@ -241,15 +192,12 @@ module _ (w : Written) where
       → FitsIf (λ found. length found ≤ length names + left) (parameters_read w left names text)
   parameters_fit left names [] = omega arith
   parameters_fit zero names (b ∷ text) = tt
-  parameters_fit (suc left) names (b ∷ text) =
-      after_fits (FitsIf (λ found. length found ≤ length names + suc left))
-      (after (codes " ") (b ∷ text)) _ _
-      (λ next. then_fits (λ found. length found ≤ length names + suc left)
-      (λ name rest. parameters_read w left (names ++ name ∷ []) rest)
-      (new_name (is_known w (word_of next) || is_among (word_of next) names) next)
-      (λ name rest. weaker name rest (parameters_read w left (names ++ name ∷ []) rest)
-      (parameters_fit left (names ++ name ∷ []) rest)))
-      tt
+  parameters_fit (suc left) names (b ∷ text) = after_fits (FitsIf _) (after _ _) _ _
+      (λ next. then_fits (λ found. length _ ≤ length _ + suc _)
+      (λ name rest. parameters_read w _ _ _)
+      (new_name (is_known w _ || is_among (word_of next) names) next)
+      (λ name rest. weaker name rest (parameters_read w _ _ _)
+      (parameters_fit left (names ++ name ∷ []) rest))) tt
     where
       weaker : (name rest : List ℕ) (r : Taken (List (List ℕ)))
           → FitsIf (λ found. length found ≤ length (names ++ name ∷ []) + left) r
@@ -258,60 +206,31 @@ module _ (w : Written) where
       weaker name rest (Err stop) is = tt
 
   method_fits : (text : List ℕ) → FitsIf (LineFits w) (method_read w text)
-  method_fits text =
-      cond_fits (FitsIf (LineFits w)) (is_unfinished w.methods) _ _ (λ _. tt)
-      (λ _. cond_fits (FitsIf (LineFits w)) (nat_le 64 (length w.methods)) _ _ (λ _. tt)
-      (λ _. with_fits (λ r. length r.1 ≤ 3) (LineFits w) (λ r. method r.0 r.1) (named_method w text)
-      (then_fits (λ (r : List ℕ × List (List ℕ)). length r.1 ≤ 3)
-      (λ name rest. taken_with (λ names. (name, names)) (parameters_read w 3 [] rest))
-      (new_name (is_method (word_of text) w.methods) text)
-      (λ name rest. with_fits (λ names. length names ≤ 3)
-      (λ (r : List ℕ × List (List ℕ)). length r.1 ≤ 3) (λ names. (name, names))
-      (parameters_read w 3 [] rest) (parameters_fit 3 [] rest) (λ names is. is)))
-      (λ r is. is)))
+  method_fits text = search (cond_fits, with_fits, then_fits, word_of, parameters_fit, arith)
 
   naming_fits : (m : Method) (text : List ℕ) → FitsIf (InnerFits m) (naming_read w m text)
-  naming_fits m text =
-      cond_fits (FitsIf (InnerFits m)) (is_closed m) _ _ (λ _. tt)
-      (λ _. cond_fits (FitsIf (InnerFits m)) (nat_le 16 (length m.names)) _ _ (λ _. tt)
-      (λ e. any_fits (InnerFits m) (λ r. naming r.0 r.1) (named_expr w m text)
-      (λ r. few (length m.names) 16 e)))
+  naming_fits m text = search (cond_fits, any_fits, few, arith)
 
   answer_fits : (m : Method) (text : List ℕ) → FitsIf (InnerFits m) (answer_read w m text)
-  answer_fits m text =
-      cond_fits (FitsIf (InnerFits m)) (is_closed m) _ _ (λ _. tt)
-      (λ _. any_fits (InnerFits m) answering (last_read (method_scope w m []) text) (λ x. tt))
+  answer_fits m text = search (cond_fits, any_fits, arith)
 
   allow_fits : (m : Method) (text : List ℕ) → FitsIf (InnerFits m) (allow_read w m text)
-  allow_fits m text =
-      cond_fits (FitsIf (InnerFits m)) (nat_le 8 (length m.cases)) _ _ (λ _. tt)
-      (λ _. any_fits (InnerFits m) allowing (last_read (method_scope w m (codes "reply" ∷ [])) text)
-      (λ x. tt))
+  allow_fits m text = search (cond_fits, any_fits, arith)
 
   case_fits : (m : Method) (text : List ℕ) → FitsIf (InnerFits m) (case_line_read w m text)
-  case_fits m text =
-      cond_fits (FitsIf (InnerFits m)) (not (has_any m.cases)) _ _ (λ _. tt)
-      (λ _. cond_fits (FitsIf (InnerFits m)) (nat_le 8 (changes_in (last_in m.cases))) _ _ (λ _. tt)
-      (λ _. any_fits (InnerFits m) changing
-      (change_read w.register_names (method_scope w m (codes "reply" ∷ [])) text) (λ x. tt)))
+  case_fits m text = search (cond_fits, has_any, last_in, any_fits, arith)
 
   inner_fits : (m : Method) (line : List ℕ) → MaybeFits (InnerFits m) (inner_read w m line)
   unfolding inner_read
-  inner_fits m line =
-      after_fits (MaybeFits (InnerFits m)) (after (codes "  let ") line) _ _ (naming_fits m)
-      (after_fits (MaybeFits (InnerFits m)) (after (codes "  answer ") line) _ _ (answer_fits m)
-      (after_fits (MaybeFits (InnerFits m)) (after (codes "  allow ") line) _ _ (allow_fits m) tt))
+  inner_fits m line = search (after_fits, after, naming_fits, answer_fits, allow_fits, arith)
 
   if_line_fits : (m : Method) (line : List ℕ) (o : Option (Taken Inner)) → MaybeFits (InnerFits m) o
       → FitsIf (InnerFits m) (if_line line o)
-  if_line_fits m line (Some r) is = is
-  if_line_fits m line None is = tt
+  if_line_fits m line o is = search arith
 
   within_fits : (m : Method) (line : List ℕ) → FitsIf (InnerFits m) (within_read w m line)
   unfolding within_read
-  within_fits m line =
-      after_fits (FitsIf (InnerFits m)) (after (codes "    ") line) _ _ (case_fits m)
-      (if_line_fits m line (inner_read w m line) (inner_fits m line))
+  within_fits m line = search (after_fits, after, case_fits, if_line_fits, inner_fits, arith)
 
 last_of : (methods : List Method) (m : Method) (i : Inner) → last_in methods ≡ Some m
     → InnerFits m i → LastFits methods i
@@ -325,10 +244,7 @@ last_of (x ∷ next ∷ methods) m i e fits = last_of (next ∷ methods) m i (sh
 module _ (w : Written) where
   method_line_fits : (line : List ℕ) (o : Option Method) → last_in w.methods ≡ o
       → FitsIf (LineFits w) (of_method w line o)
-  method_line_fits line None e = tt
-  method_line_fits line (Some m) e =
-      with_fits (InnerFits m) (LineFits w) inner (within_read w m line) (within_fits w m line)
-      (λ i is. last_of w.methods m i e is)
+  method_line_fits line o e = search (with_fits, inner, within_fits, last_of, arith)
 
   last_line_fits : (line : List ℕ) → FitsIf (LineFits w) (method_line_read w line)
   unfolding method_line_read
@@ -336,17 +252,11 @@ module _ (w : Written) where
 
   or_fits : (line : List ℕ) (o : Option (Taken Line)) → MaybeFits (LineFits w) o
       → FitsIf (LineFits w) (or_method w line o)
-  or_fits line (Some r) is = is
-  or_fits line None is =
-      after_fits (FitsIf (LineFits w)) (after (codes "method ") line) _ _ (method_fits w)
-      (last_line_fits line)
+  or_fits line o is = search (after_fits, after, method_fits, last_line_fits, arith)
 
   line_fits : (below : Last) (line : List ℕ) → FitsIf (LineFits w) (line_read w below line)
   unfolding line_read
-  line_fits below line =
-      cond_fits (FitsIf (LineFits w)) (nat_lt 200 (length line)) _ _ (λ _. tt)
-      (λ _. cond_fits (FitsIf (LineFits w)) (is_remark line) _ _ (λ _. tt)
-      (λ _. or_fits line (outer_read w below line) (outer_fits w below line)))
+  line_fits below line = search (cond_fits, or_fits, outer_fits, arith)
 
 told_kept : (s : SoFar) (line : List ℕ) (r : Taken Line) → Within s.specification
     → FitsIf (LineFits s.specification) r
@@ -356,20 +266,16 @@ told_kept s line (Err stop) is fits = is
 
 ended_kept : (s : SoFar) (o : Option SpecificationRule) → Within s.specification
     → Within (ended_with s o).1.specification
-ended_kept s (Some rule) is = is
-ended_kept s None is = is
+ended_kept s o is = search arith
 
 next_kept : (s : SoFar) (line : List ℕ) → Within s.specification
     → Within (read_next s line).1.specification
 unfolding read_next
-next_kept s line is =
-    cond_fits (λ (t : SpecificationLine × SoFar). Within t.1.specification)
-    (bytes_eq line (codes "log")) _ _
-    (λ _. ended_kept s (unfinished s.specification.methods) is)
+next_kept s line is = cond_fits (λ (t : SpecificationLine × SoFar). Within t.1.specification)
+    (bytes_eq line (codes "log")) _ _ (λ _. ended_kept s (unfinished s.specification.methods) is)
     (λ _. cond_fits (λ (t : SpecificationLine × SoFar). Within t.1.specification)
     (nat_le 1000 s.lines) _ _ (λ _. is)
-    (λ _. told_kept s line (line_read s.specification s.below line) is
-    (line_fits s.specification s.below line)))
+    (λ _. told_kept s line (line_read _ _ _) is (line_fits _ _ _)))
 
 lines_kept : (s : SoFar) (lines : List (List ℕ)) → Within s.specification
     → Within (read_lines s lines).specification

@@ -29,8 +29,7 @@ use Rattle.vyrd_own_spec.specs.Sums.{are_low, HasSums}
 -- amounts that are low stay so with one that is
 low_filter : (p : ℕ × ℕ → Bool) (s : Amounts) → are_low s ≡ true → are_low (filter p s) ≡ true
 low_filter p [] low = refl
-low_filter p (e ∷ s) low = by_test (p e)
-    (low_filter p s (second_true (nat_lt e.1 (2 ^ 64)) (are_low s) low))
+low_filter p (e ∷ s) low = by_test (p e) (low_filter p s (second_true (nat_lt _ _) _ low))
   where
     by_test : (b : Bool) → are_low (filter p s) ≡ true
         → are_low (cond b (e ∷ filter p s) (filter p s)) ≡ true
@@ -74,14 +73,11 @@ pub sums_more : (sums after : Amounts) (f : ℕ → ℕ × ℕ) (m : ℕ) (pair 
     → after ≡ plus_amount sums pair.0 pair.1 → amount_of sums pair.0 + pair.1 < 2 ^ 64
     → HasSums after f (m + 1)
 sums_more sums after f m pair has is then small =
-    subst (λ s. HasSums s f (m + 1)) (sym then) (record {
+    rw then (record {
       formed = IsAmounts-with_amount sums pair.0 (amount_of sums pair.0 + pair.1) has.formed;
       low = low_with sums pair.0 (amount_of sums pair.0 + pair.1)
-          (is_below (amount_of sums pair.0 + pair.1) (2 ^ 64) small) has.low;
-      each = λ q. amount_of-plus sums pair.0 pair.1 q
-          ∙ ap (λ n. n + part_given q pair) (has.each q)
-          ∙ ap (λ p. given q (map f (numbers_below m)) + part_given q p) is
-          ∙ sym (given_map_push q f m);
+          (is_below _ _ small) has.low;
+      each = λ q. cc (amount_of-plus sums pair.0 pair.1 q, has.each q, given_map_push q f m);
     })
 
 -- more places give no less
@@ -98,7 +94,7 @@ pub beyond_all : (sums : Amounts) (f : ℕ → ℕ × ℕ) (m n : ℕ) (pair : �
 beyond_all sums f m n pair has is low much = (pair.0, at_end)
   where
     own_more : part_given pair.0 (f m) ≡ pair.1
-    own_more = ap (part_given pair.0) (sym is) ∙ own_part pair.0 pair.1
+    own_more = ap (part_given _) (sym is) ∙ own_part pair.0 _
 
     rest : ℕ
     rest = n - (m + 1)
@@ -110,16 +106,13 @@ beyond_all sums f m n pair has is low much = (pair.0, at_end)
     here = omega (arith, much, has.each pair.0, given_map_push pair.0 f m, own_more)
 
     at_end : 2 ^ 64 ≤ given pair.0 (map f (numbers_below n))
-    at_end = subst (λ k. 2 ^ 64 ≤ given pair.0 (map f (numbers_below k))) all
-        (omega (arith, here, rises pair.0 f (m + 1) rest))
+    at_end = rw (← all) (omega (arith, here, rises pair.0 f (m + 1) rest))
 
 -- the sums of all places are what is collected
 pub all_summed : (sums : Amounts) (f : ℕ → ℕ × ℕ) (m : ℕ) → HasSums sums f m
     → sums ≡ collected (map f (numbers_below m))
-all_summed sums f m has =
-    same_amounts sums (collected (map f (numbers_below m))) has.formed
-    (IsAmounts-collected (map f (numbers_below m)))
-    (λ q. has.each q ∙ sym (amount_of-collected (map f (numbers_below m)) q))
+all_summed sums f m has = same_amounts _ _ has.formed (IsAmounts-collected (map f _))
+    (λ q. has.each q ∙ sym (amount_of-collected _ q))
 
 -- a pair as it was decoded
 pub decoded : (w : Written) (width places part j a b : ℕ) (words : List ℕ) (pair : ℕ × ℕ)
@@ -134,9 +127,8 @@ pub shown_summed : (w : Written) (width places parts : ℕ) (words : List ℕ) (
     → AreFew w width places parts → length words ≡ parts * width
     → HasSums sums (pair_at width places (own_gives w) words) (parts * places)
     → sums ≡ own_view w words
-shown_summed w width places parts words sums wide few count has =
-    all_summed sums (pair_at width places (own_gives w) words) (parts * places) has
-    ∙ own_shown w words wide few count
+shown_summed w width places parts words sums wide few count has = all_summed _
+    (pair_at width places (own_gives w) words) (parts * places) has ∙ own_shown w _ wide few count
 
 pub shown_beyond : (w : Written) (width places parts : ℕ) (words : List ℕ) → width ≡ width_of w
     → AreFew w width places parts → length words ≡ parts * width
@@ -147,8 +139,7 @@ shown_beyond w width places parts words wide few count (q, much) =
     let pairs = map (pair_at width places (own_gives w) words) (numbers_below (parts * places)) in (
       q,
       subst (λ n. 2 ^ 64 ≤ n)
-          (sym (amount_of-collected pairs q)
-          ∙ ap (λ s. amount_of s q) (own_shown w words wide few count)) much,
+          (cc (amount_of-collected pairs q, own_shown w words wide few count)) much,
     )
 
 -- how many words there are, if they are a whole number of parts

@@ -38,5 +38,4 @@ pub cases_are_0 : (w : Written) (m : Method) (args : List ℕ) (reply : ℕ) (s 
     → list_all (λ case. value s (at_hand w m s args ++ reply ∷ []) case.allow == 0) m.cases ≡ true
 unfolding next_of
 cases_are_0 w m args reply s none =
-    none_holds s (at_hand w m s args ++ reply ∷ []) _ m.cases
-    (no_effects s (effects_of w m s args reply) none)
+    none_holds s (at_hand w m s _ ++ reply ∷ []) _ m.cases (no_effects s _ none)

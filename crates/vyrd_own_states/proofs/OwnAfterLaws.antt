@@ -14,20 +14,13 @@ module _ {p : Written} {charter : Charter} {words : List ℕ} {whole : ℕ}
     (is : before ≡ amount_of ((rules_by charter).view (set words w v)) q) where
   -- the same of the words with the other value
   changed_whole : AreWhole p charter (set words w v) whole
-  changed_whole = record {
-    is = known.is ∙ ap (λ n. n / width_of p * width_of p) (sym (length-set words w v));
-    seen = known.seen;
-  }
+  changed_whole = record { is = cc (known.is, length-set words w v); seen = known.seen; }
 
   -- a word behind them shows nothing
   pub behind_whole : whole ≤ w → before ≡ amount_of ((rules_by charter).view words) q
   behind_whole past =
-      is ∙ ap (λ view. amount_of view q)
-      (sym (whole_seen changed_whole) ∙ ap (own_view p) (take-set-le whole words w v past)
-      ∙ whole_seen known)
+      cc (whole_seen changed_whole, take-set-le whole words w v past, whole_seen known)
 
   -- one of theirs can be changed among them
   pub among_whole : w < whole → before ≡ amount_of (own_view p (set (take whole words) w v)) q
-  among_whole low =
-      is ∙ ap (λ view. amount_of view q)
-      (sym (whole_seen changed_whole) ∙ ap (own_view p) (take-set-lt whole words w v low))
+  among_whole low = cc (whole_seen changed_whole, take-set-lt whole words w v low)

@@ -31,13 +31,7 @@ module _ (w : Written) (words : List ℕ) (width places parts whole q : ℕ)
   -- a part among the words of all whole parts
   same_words : width ≡ w.words → (i : ℕ) → i < parts
       → words_of width i (take whole words) ≡ part_words w words i
-  same_words is i low =
-      let taken : List ℕ = take whole words in
-      let turned : i * width ≡ width * i = omega arith in
-      let within : i * width + width ≤ whole = omega (arith, all, part_within i parts width low) in
-      ap (λ k. slice_range taken k (k + width)) turned
-      ∙ ap (λ k. slice_range taken (k * i) (k * i + k)) is
-      ∙ part_kept w words whole i (omega (arith, within, turned, ap (λ k. k * i) is, is))
+  same_words is i low = search (part_within, part_kept, arith)
 
   told_as : (b : Bool) → (w.words == 0) ≡ b → width ≡ cond b 1 w.words
       → flat_map (λ i. told i (given q (own_pairs places
@@ -47,16 +41,14 @@ module _ (w : Written) (words : List ℕ) (width places parts whole q : ℕ)
       ≡ given_parts q (cond b []
       (numbered (λ n. part_gives w n (part_words w words n)) (length words / w.words)))
   told_as true e is = none_told _ (numbers_below parts) (λ i. ap (told i) (none_given q places))
-  told_as false e is =
-      flat_alike _ (λ i. told i (given q (part_gives w i (part_words w words i)))) 0 parts
+  told_as false e is = flat_alike _ (λ i. told i (given q _)) 0 parts
       (λ i from low. ap (told i)
-      (all_given q (part_gives w i (words_of width i (take whole words))) places
-      (omega (arith, few_gives w i (words_of width i (take whole words)), few.shows))
-      ∙ ap (λ own. given q (part_gives w i own)) (same_words is i (omega (arith, low)))))
-      ∙ ap (λ n. flat_map (λ i. told i (given q (part_gives w i (part_words w words i))))
-      (numbers_below n)) (many ∙ ap (λ k. length words / k) is)
-      ∙ sym (given_numbered q (λ n. part_gives w n (part_words w words n))
-      (length words / w.words))
+      (cc (
+        all_given q (part_gives w i (words_of width i (take whole words))) places
+            (omega (arith, few_gives w i (words_of width i (take whole words)), few.shows)),
+        same_words is i (omega (arith, low)),
+      ))) ∙ ap (λ n. flat_map (λ i. told i (given q (part_gives w i (part_words w words i))))
+      (numbers_below n)) (cc) ∙ sym (given_numbered q (λ n. part_gives w n _) (length _ / w.words))
 
 module _ {h : Header} {lines : List (List ℕ)} {charter : Charter} (words : List ℕ)
     {width places parts a b : ℕ} (same : own h lines ≡ charter) (subject : h.subject ≡ Own)
@@ -70,11 +62,7 @@ module _ {h : Header} {lines : List (List ℕ)} {charter : Charter} (words : Lis
       ≡ given_parts q (parts_by_number charter words)
   own_parts_told =
       let w : Written = written_in lines in
-      let all : length words ≡ h.size =
-      count ∙ ap (λ c. plain_words (rules_by c).header) (sym same)
-      ∙ ap (λ s. plain_words_of s h.size) subject in
-      given_numbered q (part_pairs width places (own_gives w) (take (a * b) words)) parts
-      ∙ told_as w words width places parts (a * b) q few
-      (many ∙ ap (λ n. n / width) (sym all))
-      (ap (λ k. k * b) first ∙ ap (λ k. parts * k) second) (w.words == 0) refl wide
+      let all : length words ≡ h.size = cc in
+      given_numbered q (part_pairs width _ (own_gives w) (take _ _)) parts
+      ∙ told_as w words width places parts (a * b) q few (cc) (cc) (w.words == 0) refl wide
       ∙ ap (λ c. given_parts q (parts_by_number c words)) same

@@ -39,11 +39,7 @@ module _ (w : Written) (words : List ℕ) (whole : ℕ) where
       let rest : ℕ = whole - from in
       let all : whole ≡ from + rest = omega arith in
       let own : from + w.words - from ≡ w.words = omega arith in
-      ap (λ n. take n (drop from (take whole words))) own
-      ∙ ap (λ n. take w.words (drop from (take n words))) all
-      ∙ ap (take w.words) (drop-take from rest words)
-      ∙ take-take w.words rest (drop from words) (omega arith)
-      ∙ ap (λ n. take n (drop from words)) (sym own)
+      cc (drop-take from rest words, take-take w.words rest (drop from words) (omega arith))
 
   -- the words of all whole parts show what all words show
   view_kept : 1 ≤ w.words → whole ≡ length words / w.words * w.words
@@ -56,31 +52,20 @@ module _ (w : Written) (words : List ℕ) (whole : ℕ) where
       let turned : w.words * parts ≡ parts * w.words = omega arith in
       let within : whole ≤ length words =
       omega (arith, is, turned, div-add-mod (length words) w.words) in
-      let count : length (take whole words) ≡ parts * w.words + 0 =
-      omega (arith, length-take whole words, within, is) in
-      let quotient : length (take whole words) / w.words ≡ parts =
-      ap (λ n. n / w.words) count ∙ div-mul-add parts w.words 0 (omega arith) in
+      let count : length (take whole words) ≡ parts * w.words
+      + 0 = omega (arith, length-take whole words, within, is) in
+      let quotient : length (take whole words) / w.words
+      ≡ parts = cc (div-mul-add parts w.words 0 (omega arith)) in
       ap (λ n. collected (flat_map before (numbers_below n))) quotient
-      ∙ ap collected (flat_alike before after 0 parts
-      (λ i from to. ap (part_gives w i) (part_kept i (ends i to))))
+      ∙ ap collected
+      (flat_alike before after 0 parts (λ i from to. ap (part_gives w i) (part_kept i (ends i to))))
     where
       ends : (i : ℕ) → i < 0 + length words / w.words → w.words * i + w.words ≤ whole
-      ends i low =
-          let turned : w.words * i ≡ i * w.words = omega arith in
-          let within = part_within i (length words / w.words) w.words (omega arith) in
-          omega (arith, is, turned, within)
+      ends i low = grind arith
 
   whole_shown : whole ≡ length words / width_of w * width_of w
       → own_view w (take whole words) ≡ own_view w words
-  whole_shown is = by_test (w.words == 0) refl is
-    where
-      by_test : (b : Bool) → (w.words == 0) ≡ b
-          → whole ≡ length words / cond b 1 w.words * cond b 1 w.words
-          → cond b [] (view_of w (take whole words)) ≡ cond b [] (view_of w words)
-      by_test true e all = refl
-      by_test false e all =
-          let other : w.words ≢ 0 = apart_of w.words 0 e in
-          view_kept (omega arith) all
+  whole_shown is = search (apart_of, view_kept, arith)
 
 -- how many words all whole parts have
 whole_count : (h : Header) (w : Written) (n width parts a b : ℕ) → h.subject ≡ Own
@@ -111,5 +96,4 @@ module _ {h : Header} {lines : List (List ℕ)} {charter : Charter} {words : Lis
 pub whole_seen : {w : Written} {charter : Charter} {words : List ℕ} {whole : ℕ}
     → AreWhole w charter words whole
     → own_view w (take whole words) ≡ (rules_by charter).view words
-whole_seen {w} {charter} {words} {whole} known =
-    whole_shown w words whole known.is ∙ known.seen words
+whole_seen e0 = search (whole_shown, arith)

@@ -15,27 +15,12 @@ module _ (f : ℕ → ℕ × ℕ) (q m amount : ℕ) (pair : ℕ × ℕ) where
   -- it gives to its own key
   pub place_given : amount ≡ given q (map f (numbers_below m)) → pair ≡ f m → pair.0 ≡ q
       → amount + pair.1 ≡ given q (map f (numbers_below (m + 1)))
-  place_given is here same =
-      omega (
-        arith,
-        is,
-        given_map_push q f m,
-        ap (part_given q) here,
-        ap (λ k. part_given q (k, pair.1)) same,
-        own_part q pair.1,
-      )
+  place_given is here same = search (given_map_push, own_part, arith)
 
   -- and nothing to another
   pub place_passed : amount ≡ given q (map f (numbers_below m)) → pair ≡ f m → pair.0 ≢ q
       → amount ≡ given q (map f (numbers_below (m + 1)))
-  place_passed is here other =
-      omega (
-        arith,
-        is,
-        given_map_push q f m,
-        ap (part_given q) here,
-        other_part q pair.0 pair.1 (λ same. other (sym same)),
-      )
+  place_passed is here other = search (given_map_push, other_part, arith)
 
 -- ---- one part more
 
@@ -45,19 +30,13 @@ module _ (width places : ℕ) (gives : Gives) (words : List ℕ) (q part amount 
       → more ≡ given q (part_pairs width places gives words part)
       → amount + more
       ≡ given q (flat_map (part_pairs width places gives words) (numbers_below (part + 1)))
-  part_added more is new =
-      omega (arith, is, new, given_flat_push q (part_pairs width places gives words) part)
+  part_added more is new = search (given_flat_push, arith)
 
   -- what all parts give to a key is its amount
   pub all_parts : (parts : ℕ) (view : Amounts) → part ≡ parts
       → amount ≡ given q (flat_map (part_pairs width places gives words) (numbers_below part))
       → collected (pairs_by width places parts gives words) ≡ view → amount ≡ amount_of view q
-  all_parts parts view end is shown =
-      let pairs : ℕ → List (ℕ × ℕ) = part_pairs width places gives words in
-      is ∙ ap (λ n. given q (flat_map pairs (numbers_below n))) end
-      ∙ sym (places_give width places gives words q pairs (λ p. refl) parts)
-      ∙ sym (amount_of-collected (pairs_by width places parts gives words) q)
-      ∙ ap (λ s. amount_of s q) shown
+  all_parts parts view end is shown = search (given, places_give, amount_of-collected, arith)
 
 -- ---- pairs as they are decoded
 

@@ -32,19 +32,13 @@ module _ (h : Header) (w : Written) (starting : List StartWord) (front : List En
   -- nor if the state isn't known
   pub nothing_known : None ≡ state_then (own_rules h w) starting front at
       → [] ≡ own_reply_items h w starting front at reply
-  nothing_known none = ap (λ o. option_map_or
-      (λ state. option_map_or (own_refused_items h w at reply state) (called_at front at) []) o [])
-      none
+  nothing_known none = cc
 
   -- and otherwise what that state says of the call
   pub known_says : (s : State) (called : Called)
       → Some s ≡ state_then (own_rules h w) starting front at → called_at front at ≡ Some called
       → own_refused_items h w at reply s called ≡ own_reply_items h w starting front at reply
-  known_says s called known is =
-      ap (λ o. option_map_or (own_refused_items h w at reply s) o []) (sym is)
-      ∙ ap (λ o. option_map_or
-      (λ state. option_map_or (own_refused_items h w at reply state) (called_at front at) []) o [])
-      known
+  known_says s called known is = cc
 
 -- a charter tells its header and its lines
 pub header_by : (h g : Header) (lines others : List (List ℕ)) → own h lines ≡ own g others → h ≡ g

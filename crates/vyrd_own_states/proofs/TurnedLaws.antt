@@ -48,28 +48,13 @@ module _ (width : ℕ) (words : List ℕ) (w v : ℕ) (some : 1 ≤ width) where
       let k : ℕ = w - from in
       let at : w ≡ from + k = omega (arith, high) in
       let past : from + width - from ≤ k = omega (arith, high) in
-      ap (λ n. take (from + width - from) (drop from (set words n v))) at
-      ∙ ap (take (from + width - from)) (drop-set-add from words k v)
-      ∙ take-set-le (from + width - from) (drop from words) k v past
+      cc (drop-set-add from words k v, take-set-le (from + width - from) (drop from words) k v past)
 
   -- so all parts that it isn't in have the words of before
   others_kept : (i : ℕ) → i ≢ w / width
       → words_of width i (set words w v) ≡ words_of width i words
-  others_kept i other = by_order (nat_lt i (w / width)) refl
-    where
-      by_order : (b : Bool) → nat_lt i (w / width) ≡ b
-          → words_of width i (set words w v) ≡ words_of width i words
-      by_order true e =
-          let lower : i + 1 ≤ w / width = omega (arith, below_of i (w / width) e) in
-          let up : (i + 1) * width ≤ w / width * width = mul-le-mul_right width lower in
-          let next : (i + 1) * width ≡ i * width + width = omega arith in
-          ahead i (omega (arith, up, next, begins))
-      by_order false e =
-          let higher : w / width + 1 ≤ i =
-          omega (arith, not_below_of i (w / width) e, other) in
-          let up : (w / width + 1) * width ≤ i * width = mul-le-mul_right width higher in
-          let next : (w / width + 1) * width ≡ w / width * width + width = omega arith in
-          behind i (omega (arith, up, next, begins, offset_low))
+  others_kept i other = search
+      (words_of, below_of, ahead, begins, not_below_of, behind, offset_low, arith)
 
 -- what the part of a word gives, if the word is given another value in a copy of the part's words
 pub given_with : (width places : ℕ) (gives : Gives) (words : List ℕ) (q w v n amount : ℕ)
@@ -88,10 +73,7 @@ module _ (width places parts : ℕ) (gives : Gives) (words : List ℕ) (q w was 
       → collected (pairs_by width places parts gives all) ≡ view
       → given q (flat_map (part_pairs width places gives all) (numbers_below parts))
       ≡ amount_of view q
-  all_given all view shown =
-      all_parts width places gives all q parts
-      (given q (flat_map (part_pairs width places gives all) (numbers_below parts))) parts view
-      refl refl shown
+  all_given all view shown = search (all_parts, given, arith)
 
   -- what the word's part gave gives way to what it gives now
   pub part_turned : (old new before n : ℕ) (view : List ℕ → Amounts) → 1 ≤ width → n ≡ width
@@ -107,8 +89,7 @@ module _ (width places parts : ℕ) (gives : Gives) (words : List ℕ) (q w was 
       let low : w / width < parts = part_of_within w parts width (omega (arith, count, within)) in
       let one = one_apart q (part_pairs width places gives earlier)
       (part_pairs width places gives words) (w / width) parts low
-      (λ i other. ap (λ own. given q (map (gives i own) (numbers_below places)))
-      (others_kept width words w was some i other)) in
+      (λ i other. cc (others_kept width words w was some i other)) in
       omega (
         arith,
         is,
@@ -135,8 +116,7 @@ module _ (width places parts : ℕ) (gives : Gives) (words : List ℕ) (q w was 
       ap length turned ∙ length-set words w was ∙ count in
       let one = one_apart q (part_pairs width places gives words)
       (part_pairs width places gives later) (w / width) parts low
-      (λ i other. ap (λ own. given q (map (gives i own) (numbers_below places)))
-      (sym (ap (words_of width i) turned ∙ others_kept width words w was some i other))) in
+      (λ i other. cc (others_kept width words w was some i other)) in
       omega (
         arith,
         gave,

@@ -104,8 +104,7 @@ ended_inv word e1 = grind (arith, after, first_of_pair, after_sound, second_of_p
 op_inv : (ops : List Op) (text : List ℕ) (op : Op) (rest : List ℕ) → op_among ops text
     ≡ Ok (op, rest) → text ≡ op_word op ++ rest
 op_inv [] text op rest h = cc
-op_inv (o ∷ ops) text op rest h = by_after (λ k. op_inv ops text op rest k) (after (op_word o) text)
-    refl h
+op_inv (o ∷ ops) text op rest h = by_after (λ k. op_inv ops text op rest k) (after _ _) refl h
   where
     by_after : (op_among ops text ≡ Ok (op, rest) → text ≡ op_word op ++ rest)
         → (f : Option (List ℕ)) → after (op_word o) text ≡ f
@@ -133,8 +132,7 @@ of_state_inv {A} s text found x next h = by_reads s.reads h
   where
     by_reads : (t : Bool) → cond t found (Err (StateIsRead, text)) ≡ Ok (x, next)
         → found ≡ Ok (x, next)
-    by_reads true k = k
-    by_reads false k = cc
+    by_reads t k = search arith
 
 module _ (s : Scope) (inner : List ℕ → Found Expr)
     (good : (text : List ℕ) (e : Expr) (rest : List ℕ) → inner text ≡ Ok (e, rest)
@@ -234,11 +232,7 @@ module _ (s : Scope) (inner : List ℕ → Found Expr)
       (P : Type 0)
       → ((rest : List ℕ) → text ≡ word ++ rest → there rest ≡ r → P) → (otherwise ≡ r → P)
       → if_after (after word text) there otherwise ≡ r → P
-  by_word word text there otherwise r P begun no_word h = by_after (after word text) refl h
-    where
-      by_after : (o : Option (List ℕ)) → after word text ≡ o → if_after o there otherwise ≡ r → P
-      by_after None a k = no_word k
-      by_after (Some rest) a k = begun rest (after_sound word text rest a) k
+  by_word word text there otherwise r P begun no_word h = search (after, after_sound, arith)
 
   -- a list's name between two words
   list_sound : (make : ℕ → Expr) (open_word text whole : List ℕ) (e : Expr) (next : List ℕ)

@@ -16,12 +16,11 @@ same_test c = grind (arith, nat_tests)
 -- a word and what follows it
 pub after_is : (word rest text : List ℕ) → text ≡ word ++ rest → after word text ≡ Some rest
 unfolding after
-after_is word rest text e = subst (λ t. after word t ≡ Some rest) (sym e) (front word rest)
+after_is word rest text e = rw e (front word rest)
   where
     front : (word rest : List ℕ) → after word (word ++ rest) ≡ Some rest
     front [] rest = refl
-    front (c ∷ word) rest = ap (λ b. cond b (after word (word ++ rest)) None) (same_test c)
-        ∙ front word rest
+    front (c ∷ word) rest = cc (same_test c, front word rest)
 
 pub after_none : (word text : List ℕ) → ((rest : List ℕ) → text ≡ word ++ rest → ⊥)
     → after word text ≡ None
@@ -33,9 +32,7 @@ after_none (c ∷ word) (b ∷ text) isnt = by_test (after_none word text) (c ==
     by_test : (((rest : List ℕ) → text ≡ word ++ rest → ⊥) → after word text ≡ None) → (t : Bool)
         → (c == b) ≡ t → cond t (after word text) None ≡ None
     by_test more false e = refl
-    by_test more true e =
-        let is : c ≡ b = grind (arith, nat_tests) in
-        more (λ rest h. isnt rest (ap (λ x. x ∷ text) (sym is) ∙ ap (λ xs. c ∷ xs) h))
+    by_test more true e = grind arith
 
 -- numbers
 pub number_is : (word : List ℕ) (n : ℕ) → n < most → word ≡ decimal n → number_in word ≡ Some n
@@ -50,8 +47,7 @@ number_is word n small e =
 pub number_isnt : (word : List ℕ) → ((n : ℕ) → n < most → word ≡ decimal n → ⊥) → number_in word
     ≡ None
 unfolding number_in
-number_isnt word none = by_test (nat_lt (digits_value 10 word) most)
-    (bytes_eq (decimal (digits_value 10 word)) word) refl refl
+number_isnt word none = by_test (nat_lt _ _) (bytes_eq (decimal _) word) refl refl
   where
     n : ℕ
     n = digits_value 10 word
@@ -61,4 +57,4 @@ number_isnt word none = by_test (nat_lt (digits_value 10 word) most)
     by_test false b ea eb = refl
     by_test true false ea eb = refl
     by_test true true ea eb = absurd
-        (none n (grind (arith, nat_tests)) (sym ((bytes_eq-Decides (decimal n) word).0 eb)))
+        (none n (grind (arith, nat_tests)) (sym ((bytes_eq-Decides _ _).0 eb)))

@@ -71,10 +71,8 @@ own_commit seen c b is =
     (no_answer c c open_or_close Commit (newest_first seen) refl) ∙ is.inside in
     let commit = ap (λ o. unwrap_or o false)
     (own_answer c commit_or_open Commit (newest_first seen)) in
-    block_stays seen c (entry c Commit) b (committed b) refl block (λ i. block i && commit i)
-    (own_writes c Commit (newest_first seen)
-    ∙ ap (λ own. written_by own Commit ++ block_writes c (newest_first seen)) (sym (same_number c)))
-    is
+    block_stays _ c _ b _ refl block (λ i. block i && commit i)
+    (cc (own_writes c Commit (newest_first seen), same_number c)) is
 
 own_open : (seen : List Entry) (c : ℕ)
     → IsOpenBlock (seen ++ entry c BlockOpen ∷ []) c
@@ -90,8 +88,7 @@ own_open seen c =
       inside = ap (has_block c) next ∙ block;
       has_commit = ap (has_inner_commit c) next ∙ (λ i. block i && commit i);
       writes = ap (block_writes c) next ∙ own_writes c BlockOpen (newest_first seen)
-          ∙ sym (ap (writes_in c) (drop-append_seam seen (e ∷ []))
-          ∙ ap (λ own. written_by own BlockOpen) (same_number c));
+          ∙ sym (cc (drop-append_seam seen (e ∷ []), same_number c));
     }
 
 own_end : (seen : List Entry) (c : ℕ) (kind : Kind) → open_or_close kind ≡ Some false
@@ -119,20 +116,16 @@ pub blocks_next : (h : Header) (seen : List Entry) (e : Entry) (blocks : List (O
     → e.caller < h.callers → slice_get blocks e.caller ≡ Some o
     → AreBlocks h (seen ++ e ∷ []) (set blocks e.caller (block_after (length seen) e.kind o))
 blocks_next h seen e blocks o are low there d within = by_same e.caller d
-    (λ same. subst (λ k. (n : Option Block) × (slice_get new k ≡ Some n)
-    × IsBlockOf (seen ++ e ∷ []) k n) same (
-      block_after (length seen) e.kind o,
-      slice_get-set_same blocks e.caller _ (slice_get_within blocks e.caller o there),
+    (λ same. rw (← same) (
+      block_after (length _) e.kind o,
+      slice_get-set_same blocks e.caller _ (slice_get_within _ _ o there),
       own_next seen e.caller e.kind o (block_there h seen blocks e.caller o are low there),
     ))
     (λ other. let kept = are d within in (
       kept.0,
-      slice_get-set_other blocks e.caller d _ (apart_of e.caller d other) ∙ kept.1,
-      other_next seen e.caller d e.kind kept.0 other kept.2,
+      slice_get-set_other _ _ d _ (apart_of _ d other) ∙ kept.1,
+      other_next seen e.caller d e.kind _ other kept.2,
     ))
-  where
-    new : List (Option Block)
-    new = set blocks e.caller (block_after (length seen) e.kind o)
 
 -- the same from one place of a front to the next
 pub blocks_at : (h : Header) (front : List Entry) (at : ℕ) (e : Entry)
@@ -141,11 +134,10 @@ pub blocks_at : (h : Header) (front : List Entry) (at : ℕ) (e : Entry)
     → slice_get blocks e.caller ≡ Some o
     → n ≡ block_after at e.kind o → AreBlocks h (take (at + 1) front) (set blocks e.caller n)
 blocks_at h front at e blocks o n here are low there is =
-    let within = slice_get_within front at e here in
+    let within = slice_get_within _ at e here in
     let long : length (take at front) ≡ at = omega (arith, length-take at front) in
-    subst (λ es. AreBlocks h es (set blocks e.caller n)) (sym (take_one_more front at e here))
-    (subst (λ m. AreBlocks h (take at front ++ e ∷ []) (set blocks e.caller m))
-    (ap (λ k. block_after k e.kind o) long ∙ sym is)
+    rw (take_one_more front at e here)
+    (rw (← ap (λ k. block_after k e.kind o) long ∙ sym is)
     (blocks_next h (take at front) e blocks o are low there))
 
 -- the effects before the next place
@@ -159,11 +151,7 @@ effects_next front at e here = search (here, drop_here, next_is, arith)
 pub effects_first : (h : Header) (front : List Entry) (words : List ℕ)
     (blocks : List (Option Block)) → words ≡ replicate (plain_words h) 0
     → blocks ≡ replicate h.callers None → HasEffects h words blocks [] front
-effects_first h front words blocks zeroed closed = record {
-  values = zeroed ∙ sym (words_without h);
-  open_blocks = λ c within.
-      (None, ap (λ bs. slice_get bs c) closed ∙ none_there h.callers c within, refl);
-}
+effects_first h front words blocks zeroed closed = search (words_without, none_there, arith)
 
 -- once the effects of an entry have taken place, the words are those at its place
 pub words_here : (h : Header) (front : List Entry) (at : ℕ) (e : Entry) (words : List ℕ)
@@ -172,6 +160,4 @@ pub words_here : (h : Header) (front : List Entry) (at : ℕ) (e : Entry) (words
     → HasEffects h words blocks (take (at + 1) front) (drop (at + 1) front)
     → words ≡ words_at h [] (place_of e (newest_first (take at front)) (drop (at + 1) front))
 unfolding words_at
-words_here h front at e words blocks here are =
-    are.values ∙ ap (λ es. words_with h [] (effects es (drop (at + 1) front)))
-    (sym (next_is front at e here))
+words_here h front at e words blocks here are = search (next_is, arith)

@@ -29,19 +29,17 @@ changed : (h : Header) (c : ℕ) (kind : Kind) (earlier : List Entry) (committed
 changed h c kind earlier committed b here so own d within = by_same c d
     (λ same. subst
     (λ k. slice_get (set committed c b) k ≡ Some (has_committed k (entry c kind ∷ earlier))) same
-    (slice_get-set_same committed c b
-    (slice_get_within committed c (has_committed c earlier) (so c here))
+    (slice_get-set_same committed c b (slice_get_within _ c (has_committed c _) (so c here))
     ∙ ap Some (sym (committed-own c kind earlier b own))))
-    (λ other. slice_get-set_other committed c d b (apart_of c d other) ∙ so d within
-    ∙ ap Some (sym (committed-other d c kind earlier other)))
+    (λ other. slice_get-set_other _ c d b (apart_of c d other) ∙ so d within
+    ∙ ap Some (sym (committed-other d c _ _ other)))
 
 -- any other entry changes nothing
 unchanged : (h : Header) (c : ℕ) (kind : Kind) (earlier : List Entry) (committed : List Bool)
     → commit_or_call kind ≡ None
     → AreCommitted h earlier committed
     → AreCommitted h (entry c kind ∷ earlier) committed
-unchanged h c kind earlier committed quiet so d within =
-    so d within ∙ ap Some (sym (committed-quiet d c kind earlier quiet))
+unchanged h c kind earlier committed quiet so = search (committed-quiet, arith)
 
 pub committed-next : (h : Header) (c : ℕ) (kind : Kind) (earlier : List Entry)
     (committed : List Bool) → c < h.callers
@@ -103,10 +101,8 @@ committed_step h es at r old new within same low so after =
 -- one more where the test holds
 pub counted_true : (b : Bool) (old new rest total : ℕ) → b ≡ true → new ≡ old + 1
     → old + (cond b 1 0 + rest) ≡ total → new + rest ≡ total
-counted_true true old new rest total is one e = omega arith
-counted_true false old new rest total is one e = cc
+counted_true b old new rest total is one e = search arith
 
 pub counted_false : (b : Bool) (old new rest total : ℕ) → b ≡ false → new ≡ old
     → old + (cond b 1 0 + rest) ≡ total → new + rest ≡ total
-counted_false true old new rest total is one e = cc
-counted_false false old new rest total is one e = omega arith
+counted_false b old new rest total is one e = search arith

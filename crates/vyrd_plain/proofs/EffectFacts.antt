@@ -72,24 +72,14 @@ ahead_by : (b : Bool) (kind : Kind) (writes : List (ℕ × ℕ)) (ahead : Option
     → (b ≡ true → goes_on kind ≡ true)
     → behind writes (cond b (ahead_at kind ahead) ahead)
     ≡ behind (written_by b kind ++ writes) ahead
-ahead_by false kind writes ahead on = refl
-ahead_by true (Call method args) writes ahead on = refl
-ahead_by true (Return reply) writes ahead on = let ends = on refl in cc
-ahead_by true (Write word value) writes None on = refl
-ahead_by true (Write word value) writes (Some more) on = search (append_assoc, more, arith)
-ahead_by true Commit writes ahead on = refl
-ahead_by true BlockOpen writes ahead on = refl
-ahead_by true BlockClose writes ahead on = let ends = on refl in cc
-ahead_by true BlockCommit writes ahead on = let ends = on refl in cc
+ahead_by b kind writes ahead on = search (append_assoc, arith)
 
 -- the entries from a place on begin with the one there
 pub drop_here : (es : List Entry) (at : ℕ) (e : Entry) → slice_get es at ≡ Some e
     → drop at es ≡ e ∷ drop (at + 1) es
 drop_here es at e here =
     let more : suc at ≡ at + 1 = omega arith in
-    drop-cons es at e (slice_get_within es at e here)
-    ∙ ap (λ x. x ∷ drop (suc at) es) (get_or_from_slice_get es at e e here)
-    ∙ ap (λ n. e ∷ drop n es) more
+    cc (drop-cons es at e (slice_get_within es at e here), get_or_from_slice_get es at e e here)
 
 -- what the caller's block still writes, once the entries up to a place have been looked at
 abbrev pub LooksAhead : ℕ → List Entry → ℕ → Type 0
@@ -109,10 +99,9 @@ pub ahead_next : (c : ℕ) (later : List Entry) (i : ℕ) (e : Entry) → slice_
     → LooksAhead c later i → LooksAhead c later (i + 1)
 ahead_next c later i e here on so =
     let rest = writes_ahead c (drop (i + 1) later) in
-    ahead_here c later i e here so
-    ∙ ahead_by (e.caller == c) e.kind (writes_in c (take i later)) rest
-    (λ own. on (same_of e.caller c own))
-    ∙ ap (λ ws. behind ws rest) (sym (writes_in-next c later 0 i e (omega arith) here))
+    ahead_here c _ i e here so ∙ ahead_by (e.caller == c) e.kind (writes_in c (take i _)) rest
+    (λ own. on (same_of _ c own)) ∙ ap (λ ws. behind ws rest)
+    (sym (writes_in-next c later 0 i e (omega arith) here))
 
 -- where the caller's block goes on, by what an entry isn't
 pub goes_on_past : (kind : Kind) → ((reply : ℕ) → kind ≡ Return reply → ⊥) → (kind ≡ BlockClose → ⊥)
@@ -226,21 +215,7 @@ pub inner_effects : (front : List Entry) (at : ℕ) (e : Entry) (b : Block)
     → IsOpenBlock (take at front) e.caller b
     → (e.kind ≡ Commit → ⊥) → (e.kind ≡ BlockClose → ⊥) → (e.kind ≡ BlockCommit → ⊥)
     → effects_at (newest_first (take at front)) e.caller e.kind (drop (at + 1) front) ≡ []
-inner_effects front at e b block = by_kind e.kind
-  where
-    earlier : List Entry
-    earlier = newest_first (take at front)
-
-    by_kind : (kind : Kind) → (kind ≡ Commit → ⊥) → (kind ≡ BlockClose → ⊥)
-        → (kind ≡ BlockCommit → ⊥)
-        → effects_at earlier e.caller kind (drop (at + 1) front) ≡ []
-    by_kind (Call method args) alone ends commits = refl
-    by_kind (Return reply) alone ends commits = refl
-    by_kind (Write word value) alone ends commits = cc (block.inside)
-    by_kind Commit alone ends commits = absurd (alone refl)
-    by_kind BlockOpen alone ends commits = refl
-    by_kind BlockClose alone ends commits = absurd (ends refl)
-    by_kind BlockCommit alone ends commits = absurd (commits refl)
+inner_effects front at e b block e5 e6 e7 = search arith
 
 -- outside a block a write has an effect, and nothing else
 pub write_effects : (front : List Entry) (at : ℕ) (e : Entry) (word value : ℕ)

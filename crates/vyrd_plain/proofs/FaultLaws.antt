@@ -166,19 +166,15 @@ return_gives r starting states c reply earlier later state executions x kept s i
 
     by_window : fault_at r starting states place ≡ observer_fault r window (has_committed c earlier)
         reply (called_in x)
-    by_window =
-        ap (λ o. option_and o
-        (option_and_then (observer_fault r window (has_committed c earlier) reply)
-        (open_call c earlier)))
-        (state_here r states earlier state (commits_after earlier (entry c (Return reply) ∷ later))
-        s.going)
-        ∙ ap (option_and_then (observer_fault r window (has_committed c earlier) reply)) is.called
+    by_window = cc (
+      state_here r states earlier state (commits_after earlier (entry c (Return reply) ∷ later))
+          s.going,
+      is.called,
+    )
 
     answered : must_commit x.method ≡ false → list_any replies window ≡ x.is_answered
-    answered free = same_any replies (answers r x) window (λ st.
-        sym (ap (λ b. not b && is_reply x.reply (r.answer st x.method x.args)) free
-        ∙ ap (λ o. is_reply o (r.answer st x.method x.args))
-        (is.reply ∙ own_answer c returned (Return reply) later))) ∙ sym is.answered
+    answered free = same_any replies (answers r x) window
+        (λ st. sym (cc (is.reply, own_answer c returned (Return reply) later))) ∙ sym is.answered
 
     turned : (b : Bool) → cond b None (Some (Observer reply)) ≡ cond (not b) (Some (Observer reply))
         None
@@ -190,9 +186,11 @@ return_gives r starting states c reply earlier later state executions x kept s i
         → cond (b || list_any replies window) None (Some (Observer reply))
         ≡ cond (not b && not x.is_answered) (Some (Observer reply)) None
     by_commit true committed = refl
-    by_commit false none = ap (λ a. cond a None (Some (Observer reply)))
-        (answered (return_free r.header c reply earlier (called_in x) kept is.called none))
-        ∙ turned x.is_answered
+    by_commit false none =
+        cc (
+          answered (return_free r.header c reply earlier (called_in x) kept is.called none),
+          turned x.is_answered,
+        )
 
     fault : fault_at r starting states place ≡ cond (not x.has_committed && not x.is_answered)
         (Some (Observer reply)) None
@@ -215,10 +213,8 @@ pub return_leads : {r : Rules} {front : List Entry} {at c reply : ℕ} {state : 
     (entry c (Return reply) ∷ drop (at + 1) front) x
     → Leads r front at (entry c (Return reply)) state (set executions c None)
     (return_outcome x reply)
-return_leads {r} {front} {at} {c} {reply} {state} {executions} {x} here is = record {
-  to = return_gives r [] (states_along r [] front) c reply (newest_first (take at front))
-      (drop (at + 1) front) state executions x here.kept here.tracks is;
-}
+return_leads {r} {front} {at} {c} {reply} {state} {executions} {x} here is =
+    record { to = return_gives r [] _ c _ _ _ _ _ x here.kept here.tracks is }
 
 pub call_leads : {r : Rules} {front : List Entry} {at c : ℕ} {method : Method} {args : Args}
     {reply : Option ℕ} {state : State}
@@ -228,15 +224,14 @@ pub call_leads : {r : Rules} {front : List Entry} {at c : ℕ} {method : Method}
     → Leads r front at (entry c (Call method args)) state
     (set executions c (Some (begun r method args reply state))) Goes
 unfolding fault_at
-call_leads {r} {front} {at} {c} {method} {args} {reply} {state} {executions} here replies = record {
-  to = (
-    refl,
-    tracks_call r (states_along r [] front) c method args (newest_first (take at front))
-        (drop (at + 1) front) state executions
-        (begun r method args reply state) refl refl replies refl refl
-        (call_allowed here) here.tracks,
-  );
-}
+call_leads {r} {front} {at} {c} {method} {args} {reply} {state} {executions} here replies =
+    record {
+      to = (
+        refl,
+        tracks_call r _ c _ _ _ _ _ _ _ refl refl replies refl refl
+            (call_allowed here) here.tracks,
+      );
+    }
 
 -- a kind of entry that stands in an execution and isn't judged
 pub data Quiet : Kind → Type 0 where
@@ -256,30 +251,19 @@ quiet_gives : (r : Rules) (starting : List StartWord) (states : List State) (c :
     → Tracks r states earlier (entry c kind ∷ later) state executions
     → PlaceGives r starting states (place_of (entry c kind) earlier later) state executions Goes
 unfolding fault_at
-quiet_gives r starting states c _ earlier later state executions (writes word value) s = (
-  refl,
-  tracks_inside r states c (Write word value) earlier later state executions refl refl refl
-      refl refl s,
-)
-quiet_gives r starting states c _ earlier later state executions opens s = (
-  refl,
-  tracks_inside r states c BlockOpen earlier later state executions refl refl refl refl
-      refl s,
-)
-quiet_gives r starting states c _ earlier later state executions closes s = (
-  refl,
-  tracks_inside r states c BlockClose earlier later state executions refl refl refl refl
-      refl s,
-)
+quiet_gives r starting states c _ earlier later state executions (writes word value) s =
+    (refl, tracks_inside r _ c _ _ _ _ _ refl refl refl refl refl s)
+quiet_gives r starting states c _ earlier later state executions opens s =
+    (refl, tracks_inside r _ c _ _ _ _ _ refl refl refl refl refl s)
+quiet_gives r starting states c _ earlier later state executions closes s =
+    (refl, tracks_inside r _ c _ _ _ _ _ refl refl refl refl refl s)
 
 pub quiet_leads : {r : Rules} {front : List Entry} {at c : ℕ} {kind : Kind} {state : State}
     {executions : List (Option Execution)}
     → Quiet kind → IsAt r front at (entry c kind) state executions
     → Leads r front at (entry c kind) state executions Goes
-quiet_leads {r} {front} {at} {c} {kind} {state} {executions} quiet here = record {
-  to = quiet_gives r [] (states_along r [] front) c kind (newest_first (take at front))
-      (drop (at + 1) front) state executions quiet here.tracks;
-}
+quiet_leads {r} {front} {at} {c} {kind} {state} {executions} quiet here =
+    record { to = quiet_gives r [] _ c _ _ _ _ _ quiet here.tracks }
 
 -- a commit stands in a mutator's execution
 pub commit_called : {r : Rules} {front : List Entry} {at c : ℕ} {kind : Kind} {state : State}
@@ -287,10 +271,8 @@ pub commit_called : {r : Rules} {front : List Entry} {at c : ℕ} {kind : Kind} 
     → Commits kind → IsAt r front at (entry c kind) state executions
     → (called : Called) × (open_call c (newest_first (take at front)) ≡ Some called)
     × (is_observer called.method ≡ false)
-commit_called {r} {front} {at} {c} alone here = commit_kept r.header c
-    (newest_first (take at front)) here.kept
-commit_called {r} {front} {at} {c} with_block here = block_commit_runs r.header c
-    (newest_first (take at front)) here.kept
+commit_called {r} {front} {at} {c} alone here = commit_kept r.header c _ here.kept
+commit_called {r} {front} {at} {c} with_block here = block_commit_runs r.header c _ here.kept
 
 pub commit_mutates : {r : Rules} {front : List Entry} {at c : ℕ} {kind : Kind} {state : State}
     {executions : List (Option Execution)}

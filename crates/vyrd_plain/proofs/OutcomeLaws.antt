@@ -17,27 +17,12 @@ for_execution P o x y is_x is_y p = let same : x ≡ y = cc in subst P same p
 pub refused : (r : Rules) (shown : Amounts) (x : Execution) (reply : ℕ) (before : State)
     → x.reply ≡ Some reply → r.next x.method x.args reply before ≡ None
     → CommitFaults r shown x before (Reply reply)
-refused r shown x reply before replied none = record {
-  reply = reply;
-  returned = replied;
-  fault = ap (λ o. elim o as (λ _. Option Why) [
-    | None ↦ Some (Reply reply)
-    | Some after ↦ option_map
-        View (first_difference shown (r.shown after))
-  ]) none;
-}
+refused r shown x reply before replied none =
+    record { reply = reply; returned = replied; fault = cc }
 
 pub differs : (r : Rules) (shown : Amounts) (x : Execution) (reply : ℕ) (before after : State)
     (key : ℕ) → x.reply ≡ Some reply
     → r.next x.method x.args reply before ≡ Some after → first_difference shown (r.shown after)
     ≡ Some key → CommitFaults r shown x before (View key)
-differs r shown x reply before after key replied next first = record {
-  reply = reply;
-  returned = replied;
-  fault = ap (λ o. elim o as (λ _. Option Why) [
-    | None ↦ Some (Reply reply)
-    | Some s ↦ option_map
-        View (first_difference shown (r.shown s))
-  ]) next
-      ∙ ap (option_map View) first;
-}
+differs r shown x reply before after key replied next first =
+    record { reply = reply; returned = replied; fault = cc }

@@ -91,14 +91,12 @@ is_at r front at e state executions here kept s =
     let rules : broken_rule r.header (newest_first (take at front)) e
     ≡ None = rules_at r.header front at e here kept in
     record {
-      tracks = subst
-          (λ later. Tracks r (states_along r [] front) (newest_first (take at front)) later state
-          executions)
-          (drop-cons front at e within ∙ ap (λ x. x ∷ drop (suc at) front) same
-          ∙ ap (λ n. e ∷ drop n front) more) s;
+      tracks =
+          subst (λ later. Tracks r (states_along r [] front) (newest_first (take at front)) later
+          state executions) (cc (drop-cons front at e within)) s;
       kept = rules;
       within = caller_kept r.header (newest_first (take at front)) e rules;
-      next = newest_next front at e within ∙ ap (λ x. x ∷ newest_first (take at front)) same;
+      next = cc (newest_next front at e within);
     }
 
 -- the same for an entry that was read and whose kind is known
@@ -109,8 +107,7 @@ pub known_at : {r : Rules} {front : List Entry} {at : ℕ} {val : Entry} {kind :
     executions
     → IsAt r front at (entry val.caller kind) state executions
 known_at {r} {front} {at} {val} {kind} {state} {executions} here named kept s =
-    is_at r front at (entry val.caller kind) state executions
-    (here ∙ ap (λ k. Some (entry val.caller k)) named) kept s
+    is_at r _ _ _ _ _ (here ∙ ap (λ k. Some (entry val.caller k)) named) kept s
 
 -- the entry that was read is every entry at its place
 pub same_entry : {o : Option Entry} {r e : Entry} {kind : Kind} → o ≡ Some r → r.kind ≡ kind
@@ -126,8 +123,7 @@ pub running : {r : Rules} {front : List Entry} {at : ℕ} {e : Entry} {state : S
     × IsExecution r (states_along r [] front) e.caller (newest_first (take at front))
     (e ∷ drop (at + 1) front) x
 running {r} {front} {at} {e} {state} {executions} {called} here is =
-    running_at r (states_along r [] front) (newest_first (take at front))
-    (e ∷ drop (at + 1) front) state executions e.caller called here.tracks here.within is
+    running_at r _ _ _ state _ _ called here.tracks here.within is
 
 -- an execution of the caller is what was called
 pub called_is : {r : Rules} {front : List Entry} {at : ℕ} {e : Entry} {state : State}
@@ -155,8 +151,7 @@ pub record Leads (r : Rules) (front : List Entry) (at : ℕ) (e : Entry) (state 
 pub leads_as : {r : Rules} {front : List Entry} {at : ℕ} {e : Entry} {s s' : State}
     {xs xs' : List (Option Execution)} {o o' : Outcome}
     → s' ≡ s → xs' ≡ xs → o' ≡ o → Leads r front at e s xs o → Leads r front at e s' xs' o'
-leads_as {r} {front} {at} {e} {s} {s'} {xs} {xs'} {o} {o'} same_state same_executions same_outcome
-    leads = grind arith
+leads_as e0 e1 e2 e3 = search arith
 
 -- the same for another name of the entry
 pub leads_for : {r : Rules} {front : List Entry} {at : ℕ} {d e : Entry} {s : State}
@@ -200,20 +195,8 @@ fault_here r front at e o here fault =
     let same : get_or front at e ≡ e = get_or_from_slice_get front at e e here in
     let more : suc at ≡ at + 1 = omega arith in
     let next : newest_first (take (at + 1) front) ≡ e ∷ newest_first (take at front) =
-    newest_next front at e within
-    ∙ ap (λ x. x ∷ newest_first (take at front)) same in
-    ap (λ later. first_answer (violation_at r [] (states_along r [] front))
-    (places_after (newest_first (take at front)) later))
-    (drop-cons front at e within ∙ ap (λ x. x ∷ drop (suc at) front) same
-    ∙ ap (λ n. e ∷ drop n front) more)
-    ∙ ap (λ p. option_or
-    (option_map (Violation (line_of [] (length (newest_first (take at front))))) p)
-    (first_answer (violation_at r [] (states_along r [] front))
-    (places_after (e ∷ newest_first (take at front)) (drop (at + 1) front)))) fault
-    ∙ ap (λ es. option_or
-    (option_map (Violation (line_of [] (length (newest_first (take at front))))) o)
-    (first_answer (violation_at r [] (states_along r [] front))
-    (places_after es (drop (at + 1) front)))) (sym next)
+    cc (newest_next front at e within) in
+    cc (drop-cons front at e within)
 
 -- a place that isn't a fault leads on to those after it
 pub fault_goes : (r : Rules) (front : List Entry) (at : ℕ) (e : Entry) → slice_get front at ≡ Some e
@@ -248,12 +231,9 @@ fault_ends r front at e here fault short =
     let within = slice_get_within front at e here in
     let same : get_or front at e ≡ e = get_or_from_slice_get front at e e here in
     let next : e ∷ newest_first (take at front) ≡ newest_first (take (at + 1) front) =
-    sym (newest_next front at e within
-    ∙ ap (λ x. x ∷ newest_first (take at front)) same) in
-    fault_goes r front at e here fault
-    ∙ no_fault_beyond r [] (states_along r [] front) (newest_first (take (at + 1) front))
-    (drop (at + 1) front)
-    (subst (λ es. length (states_along r [] front) ≤ commit_count es) next short)
+    sym (cc (newest_next front at e within)) in
+    fault_goes r front at e here fault ∙ no_fault_beyond r [] (states_along r [] front)
+    (newest_first (take (at + 1) front)) (drop (at + 1) front) (rw (← next) short)
 
 -- past the last place there is none
 pub fault_past : (r : Rules) (front : List Entry) (at : ℕ) → length front ≤ at
@@ -266,13 +246,7 @@ pub tracks_first : (r : Rules) (front : List Entry) (state : State)
     → executions ≡ replicate r.header.callers None → Tracks r (states_along r [] front)
     [] front state executions
 unfolding commits
-tracks_first r front state executions begins empty =
-    let at_start : Tracks r (states_along r [] front) [] front state
-    (replicate r.header.callers None) = record {
-      going = ap (λ o. states_of r o front) begins;
-      open_calls = λ c within. (None, none_there r.header.callers c within, refl);
-    } in
-    subst (Tracks r (states_along r [] front) [] front state) (sym empty) at_start
+tracks_first r front state executions begins empty = search (none_there, arith)
 
 -- an entry at each place
 pub some_at : (front : List Entry) (at : ℕ) → at < length front → (e : Entry)

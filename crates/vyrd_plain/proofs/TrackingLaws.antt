@@ -42,16 +42,15 @@ pub tracks_inside : (r : Rules) (states : List State) (c : ℕ) (kind : Kind)
     → Tracks r states earlier (entry c kind ∷ later) state executions
     → Tracks r states (entry c kind ∷ earlier) later state executions
 tracks_inside r states c kind earlier later state executions inside unreturned uncalled quiet
-    uncommitted s = record {
-      going = going-quiet r states (entry c kind) earlier later state quiet s.going;
+    uncommitted s =
+    record {
+      going = going-quiet r states (entry c _) earlier later state quiet s.going;
       open_calls = λ d within. let o = s.open_calls d within in (
         o.0,
         o.1,
-        execution_stays r states d (entry c kind) earlier later o.0
-            (open_call-quiet d c kind earlier inside) (next_reply-quiet d c kind later unreturned)
-            (committed-quiet d c kind earlier uncommitted)
-            (window-quiet states d (entry c kind) earlier quiet
-            (before_call-quiet d c kind earlier uncalled)) o.2,
+        execution_stays r _ d _ _ _ _ (open_call-quiet d c _ _ inside)
+            (next_reply-quiet d c _ _ unreturned) (committed-quiet d c _ _ uncommitted)
+            (window-quiet _ d _ _ quiet (before_call-quiet d c _ _ uncalled)) o.2,
       );
     }
 
@@ -60,12 +59,9 @@ beside : (r : Rules) (states : List State) (c d : ℕ) (kind : Kind) (earlier la
     (o : Option Execution)
     → (c == d) ≡ false → is_commit kind ≡ false → IsOpen r states d earlier (entry c kind ∷ later) o
     → IsOpen r states d (entry c kind ∷ earlier) later o
-beside r states c d kind earlier later o other quiet is =
-    execution_stays r states d (entry c kind) earlier later o
-    (open_call-other d c kind earlier other) (next_reply-other d c kind later other)
-    (committed-other d c kind earlier other)
-    (window-quiet states d (entry c kind) earlier quiet (before_call-other d c kind earlier other))
-    is
+beside r states c d kind earlier later o other quiet is = execution_stays r _ d _ _ _ o
+    (open_call-other d c _ _ other) (next_reply-other d c _ _ other) (committed-other d c _ _ other)
+    (window-quiet _ d _ _ quiet (before_call-other d c _ _ other)) is
 
 -- the caller's execution alone is another one after its call or return
 tracks_changed : (r : Rules) (states : List State) (c : ℕ) (kind : Kind)
@@ -75,19 +71,18 @@ tracks_changed : (r : Rules) (states : List State) (c : ℕ) (kind : Kind)
     → Tracks r states earlier (entry c kind ∷ later) state executions
     → Tracks r states (entry c kind ∷ earlier) later state (set executions c o)
 tracks_changed r states c kind earlier later state executions o quiet own s = record {
-  going = going-quiet r states (entry c kind) earlier later state quiet s.going;
+  going = going-quiet r states (entry c _) earlier later state quiet s.going;
   open_calls = λ d within. let old = s.open_calls d within in by_same c d
-      (λ same. subst (λ k. (n : Option Execution) × (slice_get (set executions c o) k ≡ Some n)
-      × IsOpen r states k (entry c kind ∷ earlier) later n) same (
+      (λ same. rw (← same) (
         o,
         slice_get-set_same executions c o
-            (slice_get_within executions c old.0 (ap (slice_get executions) same ∙ old.1)),
+            (slice_get_within _ c old.0 (ap (slice_get _) same ∙ old.1)),
         own,
       ))
       (λ other. (
         old.0,
-        slice_get-set_other executions c d o (apart_of c d other) ∙ old.1,
-        beside r states c d kind earlier later old.0 other quiet old.2,
+        slice_get-set_other _ c d o (apart_of c d other) ∙ old.1,
+        beside r _ c d _ _ _ _ other quiet old.2,
       ));
 }
 
@@ -109,8 +104,7 @@ tracks_call r states c method args earlier later state executions x has_its_meth
 
     window : states_since_call states c (e ∷ earlier) ≡ state ∷ []
     window = window-call states c e earlier state
-        (drop 1 (states_from r state (commits_after earlier (e ∷ later)))) refl
-        (ap (λ b. cond (b && true) earlier (entries_before_call c earlier)) (same_number c))
+        (drop 1 (states_from r state (commits_after earlier (e ∷ later)))) refl (cc (same_number c))
         (s.going ∙ first_of (commits_after earlier (e ∷ later)))
       where
         first_of : (xs : List Committed) → states_from r state xs ≡ state
@@ -120,19 +114,13 @@ tracks_call r states c method args earlier later state executions x has_its_meth
 
     own : IsExecution r states c (e ∷ earlier) later x
     own = record {
-      called = ap option_flatten_of (own_answer c call_or_return (Call method args) earlier)
-          ∙ ap (λ m. Some (record { method = m; args = args })) (sym has_its_method)
-          ∙ ap (λ a. Some (record { method = x.method; args = a })) (sym has_its_args);
-      allowed = ap (λ m. has_method r.header m x.args) has_its_method
-          ∙ ap (has_method r.header method) has_its_args ∙ allowed;
+      called = cc (own_answer c call_or_return (Call method args) earlier);
+      allowed = cc;
       reply = reply;
       committed = uncommitted ∙ sym (committed-own c (Call method args) earlier false refl);
       answered = answered ∙ sym (or-false (answers r x state)) ∙ ap (list_any (answers r x))
           (sym window);
     }
-      where
-        option_flatten_of : Option (Option Called) → Option Called
-        option_flatten_of o = option_flatten o
 
 -- a return ends one
 pub tracks_return : (r : Rules) (states : List State) (c reply : ℕ) (earlier later : List Entry)
@@ -140,9 +128,8 @@ pub tracks_return : (r : Rules) (states : List State) (c reply : ℕ) (earlier l
     (executions : List (Option Execution))
     → Tracks r states earlier (entry c (Return reply) ∷ later) state executions
     → Tracks r states (entry c (Return reply) ∷ earlier) later state (set executions c None)
-tracks_return r states c reply earlier later state executions s =
-    tracks_changed r states c (Return reply) earlier later state executions None refl
-    (ap option_flatten_of (own_answer c call_or_return (Return reply) earlier)) s
+tracks_return r states c reply earlier later state executions s = tracks_changed r _ c _ _ _ _ _ _
+    refl (ap option_flatten_of (own_answer c call_or_return (Return reply) earlier)) s
   where
     option_flatten_of : Option (Option Called) → Option Called
     option_flatten_of o = option_flatten o
@@ -161,42 +148,32 @@ pub tracks_commit : (r : Rules) (states : List State) (c : ℕ) (kind : Kind)
     (map (seeing r next) (set executions c (Some (with_commit x))))
 tracks_commit r states c kind earlier later state next executions x inside unreturned uncalled
     commits committed after is s =
-    let going = going-commit r states (entry c kind) earlier later state next commits after
-    s.going in
-    let here : slice_get states (commit_count earlier + 1) ≡ Some next =
-    ap (slice_get states) (sym (count-commit (entry c kind) earlier commits))
-    ∙ state_here r states (entry c kind ∷ earlier) next
-    (commits_after (entry c kind ∷ earlier) later) going in
+    let going = going-commit r states (entry c _) earlier later state next commits after s.going in
+    let here : slice_get states (commit_count earlier + 1) ≡ Some next = ap (slice_get states)
+    (sym (count-commit (entry c _) earlier commits)) ∙ state_here r states (entry c _ ∷ earlier) _
+    (commits_after (entry c _ ∷ earlier) later) going in
     record {
       going = going;
       open_calls = λ d within. let o = s.open_calls d within in by_same c d
           (λ same. subst
           (λ k. (n : Option Execution) × (slice_get (map (seeing r next) marked) k ≡ Some n)
           × IsOpen r states k (entry c kind ∷ earlier) later n) same (
-            seeing r next (Some (with_commit x)),
-            slice_get-map (seeing r next) marked c
-                ∙ ap (option_map (seeing r next))
-                (slice_get-set_same executions c (Some (with_commit x))
-                (slice_get_within executions c o.0 (ap (slice_get executions) same ∙ o.1))),
-            execution_commits r states c (entry c kind) earlier later next x
-                (open_call-quiet c c kind earlier inside)
-                (next_reply-quiet c c kind later unreturned)
-                (committed-own c kind earlier true committed)
-                (window-commit states c (entry c kind) earlier next commits
-                (before_call-quiet c c kind earlier uncalled) here) is,
-          ))
-          (λ other. (
-            seeing r next o.0,
-            slice_get-map (seeing r next) marked d
-                ∙ ap (option_map (seeing r next))
-                (slice_get-set_other executions c d (Some (with_commit x)) (apart_of c d other)
-                ∙ o.1),
-            execution_sees r states d (entry c kind) earlier later next o.0
-                (open_call-quiet d c kind earlier inside)
-                (next_reply-quiet d c kind later unreturned)
-                (committed-other d c kind earlier other)
-                (window-commit states d (entry c kind) earlier next commits
-                (before_call-quiet d c kind earlier uncalled) here) o.2,
+            seeing r next (Some _),
+            slice_get-map (seeing r _) marked c
+                ∙ ap (option_map (seeing r _))
+                (slice_get-set_same executions c (Some _)
+                (slice_get_within _ c o.0 (ap (slice_get _) same ∙ o.1))),
+            execution_commits r states c (entry c _) earlier later next x
+                (open_call-quiet c c _ _ inside) (next_reply-quiet c c _ _ unreturned)
+                (committed-own c _ _ _ committed)
+                (window-commit _ c _ _ _ commits (before_call-quiet c c _ _ uncalled) here) is,
+          )) (λ other. (
+            seeing r _ _,
+            slice_get-map _ _ d
+                ∙ ap (option_map _) (slice_get-set_other _ c d _ (apart_of c d other) ∙ o.1),
+            execution_sees r _ d _ _ _ _ _ (open_call-quiet d c _ _ inside)
+                (next_reply-quiet d c _ _ unreturned) (committed-other d c _ _ other)
+                (window-commit _ d _ _ _ commits (before_call-quiet d c _ _ uncalled) here) o.2,
           ));
     }
   where

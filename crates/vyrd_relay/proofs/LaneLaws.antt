@@ -44,9 +44,7 @@ none_from n [] none k d l = absurd (omega arith)
 none_from n (x ∷ xs) none zero d l = dite (dec_le n x.caller)
     (λ le. let e = part_both x.caller (x ∷ []) xs in let m = first_mine x.caller x refl in let z =
     none x.caller le in
-    let p : (x ∷ []) ++ part x.caller xs
-    ≡ [] = sym (e ∙ ap (λ (l : List Stamped). l ++ part x.caller xs) m) ∙ z in absurd (cc))
-    (λ no. omega arith)
+    let p : (x ∷ []) ++ part x.caller xs ≡ [] = sym (cc) ∙ z in absurd (cc)) (λ no. omega arith)
 none_from n (x ∷ xs) none (suc k) d l = none_from n xs
     (λ c le. (nothing_before (part c (x ∷ [])) (part c xs)
     (sym (part_both c (x ∷ []) xs) ∙ none c le)).1) k d (omega arith)

@@ -33,8 +33,7 @@ each_set : (g : Ghost) (passes : List Known) (pass : ℕ) (w : Known) → Knows 
 each_set g passes pass w mine others j u e = ⊎_elim
     (λ (x : (j ≡ pass) × (w ≡ u)). subst (λ (y : ℕ × Known). Knows g y.0 y.1)
     (λ i. (sym x.0 i, x.1 i)) mine)
-    (λ (x : (j ≢ pass) × (get_elem? passes j ≡ some u)). others j u x.0 x.1)
-    (at_set passes pass j w u e)
+    (λ (x : (j ≢ pass) × (get_elem? passes j ≡ some u)). others j u x.0 x.1) (at_set _ _ j w u e)
 
 -- the first pass of an empty queue
 pub begins : Relayed [] (Receives (new_received 0 0) ∷ [])
@@ -48,15 +47,7 @@ begins = record {
     one : (j : ℕ) (v : Known) → get_elem? (Receives (new_received 0 0) ∷ []) j ≡ some v
         → Knows (record { senders = 0; reader = 0; seat = λ _. None; sent = λ _. []; had = [] }) j v
     one zero v e =
-        subst (Knows
-        (record { senders = 0; reader = 0; seat = λ _. None; sent = λ _. []; had = [] }) 0)
-        (some-injective (Receives (new_received 0 0)) v e) record {
-          reader = refl;
-          had = refl;
-          senders = λ l. absurd (omega arith);
-          unmade = λ c le. (refl, refl);
-          settled = λ k d l. absurd (omega arith);
-        }
+        search arith
     one (suc j) v e = absurd (some-ne-none v (sym e))
 
 module _ (g : Ghost) (es : List Stamped) (own : ℕ)
@@ -73,37 +64,11 @@ module _ (g : Ghost) (es : List Stamped) (own : ℕ)
   }
 
   same_sent : (c : ℕ) → own ≢ c → sending.sent c ≡ g.sent c
-  same_sent c apart = ap (λ (l : List Stamped). g.sent c ++ l) (part_other c own es theirs apart)
-      ∙ append-nil (g.sent c)
+  same_sent c apart = cc (part_other c own es theirs apart, append-nil (g.sent c))
 
   kept_sending : (j : ℕ) (u : Known) → (seat : ℕ) → j ≢ seat → g.seat own ≡ Some seat → Knows g j u
       → Knows sending j u
-  kept_sending j (Receives r) seat apart is k = record {
-    reader = k.reader;
-    had = k.had;
-    senders = k.senders;
-    unmade = λ c le. let u = k.unmade c le in (
-      u.0,
-      same_sent c (λ q. let s : g.seat own ≡ g.seat c = ap g.seat q in let z = u.0 in absurd
-          (cc)) ∙ u.1,
-    );
-    settled = λ i d l. let s = k.settled i d l in
-        record {
-          unseated = s.unseated;
-          whole = same_sent _ (λ q. let f = ap g.seat q in let z = s.unseated in absurd (cc))
-              ∙ s.whole;
-          old = s.old;
-        };
-  }
-  kept_sending j (Sends s) seat apart is k = record {
-    seated = k.seated;
-    whole = same_sent s.caller (λ q. let f : g.seat own ≡ g.seat s.caller = ap g.seat q in let z =
-        k.seated in
-        let both : Some j ≡ Some seat = sym z ∙ sym f ∙ is in absurd (apart (cc))) ∙ k.whole;
-    senders = k.senders;
-    in_range = k.in_range;
-  }
-  kept_sending j Spent seat apart is k = tt
+  kept_sending j u seat apart is k = search (same_sent, arith)
 
 -- the events of parcels behind which one more comes
 events_push : (queued : List (List Stamped)) (es : List Stamped) → events_in (queued ++ es ∷ [])
@@ -153,28 +118,21 @@ module _ (g : Ghost) (es : List Stamped) where
   }
 
   kept_having : (j : ℕ) (u : Known) → j ≢ g.reader → Knows g j u → Knows having j u
-  kept_having j (Receives r) apart k = absurd (apart (sym k.reader))
-  kept_having j (Sends s) apart k =
-      record { seated = k.seated; whole = k.whole; senders = k.senders; in_range = k.in_range }
-  kept_having j Spent apart k = tt
+  kept_having j u apart k = search arith
 
 -- of a lane that was taken in, what was had and what is queued
 lane_split : (g : Ghost) (made : ℕ) (had queued : List Stamped) (lane : Lane) → g.had ≡ had
     → ((c : ℕ) → part c (g.had ++ queued) ≡ g.sent c) → IsSettled g made lane
     → IsHadAndQueued had queued lane
-lane_split g made had queued lane same order settled =
-    sym settled.whole ∙ sym (order lane.caller)
-    ∙ ap (λ (l : List Stamped). part lane.caller (l ++ queued)) same
-    ∙ part_both lane.caller had queued
+lane_split g made had queued lane same order settled = search (part_both, arith)
 
 -- events of callers that have sent something are of the senders
 in_range_of : (g : Ghost) (had es queued : List Stamped)
     → ((c : ℕ) → part c (had ++ (es ++ queued)) ≡ g.sent c)
     → ((c : ℕ) → g.senders ≤ c → g.sent c ≡ []) → All (λ (e : Stamped). e.caller < g.senders) es
-in_range_of g had es queued order outside = none_from g.senders es (λ c le.
+in_range_of g had es queued order outside = none_from _ _ (λ c le.
     let none : part c had ++ (part c es ++ part c queued)
-    ≡ [] = ap (λ (l : List Stamped). part c had ++ l) (sym (part_both c es queued))
-    ∙ sym (part_both c had (es ++ queued)) ∙ order c ∙ outside c le in
+    ≡ [] = cc (part_both c es queued, part_both c had (es ++ queued), order c, outside c le) in
     (nothing_before (part c es) (part c queued)
     (nothing_before (part c had) (part c es ++ part c queued) none).1).0)
 
@@ -272,15 +230,7 @@ module _ (g : Ghost) (senders at new : ℕ) where
   kept_seating : (j : ℕ) (u : Known) → j ≢ g.reader → g.seat at ≡ None
       → ((s : Sent) → g.seat s.caller ≡ Some j → g.senders ≡ senders)
       → Knows g j u → Knows seating j u
-  kept_seating j (Receives r) apart free same k = absurd (apart (sym k.reader))
-  kept_seating j (Sends s) apart free same k = record {
-    seated = upd_else g.seat at (Some new) s.caller
-        (λ q. some_none j (sym k.seated ∙ ap g.seat q ∙ free)) ∙ k.seated;
-    whole = k.whole;
-    senders = sym (same s k.seated) ∙ k.senders;
-    in_range = k.in_range;
-  }
-  kept_seating j Spent apart free same k = tt
+  kept_seating j u apart free same k = search (upd_else, some_none, arith)
 
 -- the receiver's pass makes the next sender
 pub deals : (senders pass : ℕ) (v : Received) → v.made < senders
@@ -325,11 +275,7 @@ deals senders pass v room fixed queued passes r at =
     }
 
 none_stays : (f : ℕ → Option ℕ) (at c : ℕ) → f c ≡ None → upd f at None c ≡ None
-none_stays f at c e = split (eqb c at)
-  where
-    split : (b : Bool) → cond b None (f c) ≡ None
-    split true = refl
-    split false = e
+none_stays f at c e = search arith
 
 -- The caller `at` has no pass any more that sends for it. Each other pass knows what it knew.
 module _ (g : Ghost) (at : ℕ) where
@@ -344,16 +290,7 @@ module _ (g : Ghost) (at : ℕ) where
 
   kept_unseating : (j other : ℕ) (u : Known) → j ≢ g.reader → j ≢ other → g.seat at ≡ Some other
       → Knows g j u → Knows unseating j u
-  kept_unseating j other (Receives r) apart differ is k = absurd (apart (sym k.reader))
-  kept_unseating j other (Sends s) apart differ is k = record {
-    seated = upd_else g.seat at None s.caller (λ q. let both : Some j ≡ Some other = sym k.seated
-        ∙ ap g.seat q ∙ is in differ (cc))
-        ∙ k.seated;
-    whole = k.whole;
-    senders = k.senders;
-    in_range = k.in_range;
-  }
-  kept_unseating j other Spent apart differ is k = tt
+  kept_unseating j other u apart differ is k = search (upd_else, arith)
 
 -- the receiver's pass takes in a sender's
 pub takes_in : (pass : ℕ) (v : Received) (other : ℕ) (s : Sent)

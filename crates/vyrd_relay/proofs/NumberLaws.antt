@@ -26,10 +26,7 @@ more_places (x ∷ xs) n (suc i) = more_places xs n i
 pub places_kept : (near after : List (Option Stamped)) (n more : ℕ) → length near ≤ n
     → after ≡ take n near ++ replicate more None
     → (i : ℕ) → slice_index_or after i None ≡ slice_index_or near i None
-places_kept near after n more short is i =
-    ap (λ (xs : List (Option Stamped)). slice_index_or xs i None)
-    (is ∙ ap (λ (xs : List (Option Stamped)). xs ++ replicate more None) (take_all n near short))
-    ∙ more_places near more i
+places_kept near after n more short is i = search (take_all, more_places, arith)
 
 -- one place is filled, and the others are as they were
 pub place_set : (before near : List (Option Stamped)) (place : ℕ) (x : Option Stamped)
@@ -38,68 +35,38 @@ pub place_set : (before near : List (Option Stamped)) (place : ℕ) (x : Option 
     → (i : ℕ) → slice_index_or (slice_set near place x) i None
     ≡ (if i == place then x else slice_index_or before i None)
 place_set before near place x room same i = dite (ℕ_discrete i place)
-    (λ is. ap (λ (j : ℕ). get_or (set near place x) j None) is
-    ∙ get_or-set_same near place x None room
-    ∙ sym (ap (λ (b : Bool). cond b x (get_or before i None)) (eq-eqb i place is)))
-    (λ apart. get_or-set_other near place i x None apart ∙ same i
-    ∙ sym (ap (λ (b : Bool). cond b x (get_or before i None)) (ne_eqb i place apart)))
+    (λ is. cc (get_or-set_same near place x None room, eq-eqb i place is))
+    (λ apart. get_or-set_other near place i x None apart ∙ same i ∙ sym (cc (ne_eqb i place apart)))
 
 -- those before the next number were handed out, and aren't held
 pub none_before : (k : ReorderKept) (n : ℕ) → n < k.next → held k n ≡ None
-none_before k n l = let is : ltb n k.next ≡ true = grind (arith, nat_tests) in
-    ap (λ (b : Bool). cond b None
-    (or_else (slice_index_or k.near (n - k.next) None) (lookup (is_at (nat_cmp n)) k.far))) is
+none_before k n l = grind arith
 
 -- the event from the next number on
 pub found_from : (k : ReorderKept) (n : ℕ) → k.next ≤ n
     → held k n ≡ or_else (slice_index_or k.near (n - k.next) None)
     (lookup (is_at (nat_cmp n)) k.far)
-found_from k n l = let is : ltb n k.next ≡ false = grind (arith, nat_tests) in
-    ap (λ (b : Bool). cond b None
-    (or_else (slice_index_or k.near (n - k.next) None) (lookup (is_at (nat_cmp n)) k.far))) is
+found_from k n l = grind arith
 
 -- the next number has gone by, and the events after it are as they were
 pub held_after : (k after : ReorderKept) → after.next ≡ k.next + 1 → after.near ≡ drop 1 k.near
     → ((n : ℕ) → k.next < n → lookup (is_at (nat_cmp n)) after.far
     ≡ lookup (is_at (nat_cmp n)) k.far)
     → (n : ℕ) → k.next < n → held after n ≡ held k n
-held_after k after next near far n l =
-    let place : 1 + (n - after.next) ≡ n - k.next = omega arith in
-    found_from after n (omega arith)
-    ∙ ap (λ (o : Option Stamped). or_else o (lookup (is_at (nat_cmp n)) after.far))
-    (ap (λ (xs : List (Option Stamped)). slice_index_or xs (n - after.next) None) near
-    ∙ get_or-drop 1 k.near (n - after.next) None
-    ∙ ap (λ (j : ℕ). slice_index_or k.near j None) place)
-    ∙ ap (or_else (slice_index_or k.near (n - k.next) None)) (far n l)
-    ∙ sym (found_from k n (omega arith))
+held_after k after next near far n l = search (found_from, or_else, is_at, arith)
 
 -- and so each event still has its own number
 pub numbered_after : (k after : ReorderKept) → after.next ≡ k.next + 1
     → ((n : ℕ) → k.next < n → held after n ≡ held k n) → AreNumbered k → AreNumbered after
-numbered_after k after next same all n item is = dite (dec_lt k.next n)
-    (λ l. all n item (sym (same n l) ∙ is))
-    (λ gone. absurd (none_some item (sym (none_before after n (omega arith)) ∙ is)))
-  where
-    none_some : (item : Stamped) → None ≢ Some item
-    none_some item e = cc
+numbered_after k after next same all = search (none_before, arith)
 
 -- a number that isn't held and wasn't handed out isn't among the far ones
 pub far_free : (k : ReorderKept) (n : ℕ) → has k n ≡ false → lookup (is_at (nat_cmp n)) k.far ≡ None
-far_free k n free = by_place (ltb n k.next) (slice_index_or k.near (n - k.next) None)
-    (lookup (is_at (nat_cmp n)) k.far) free
-  where
-    by_place : (gone : Bool) (near far : Option Stamped)
-        → (gone || is_some (if gone then None else or_else near far)) ≡ false → far ≡ None
-    by_place true near far e = cc
-    by_place false (Some item) far e = cc
-    by_place false None (Some item) e = cc
-    by_place false None None e = refl
+far_free k n free = search (is_at, is_some, or_else, arith)
 
 -- the next number has gone by, and isn't among the far ones
 pub come_after : (k after : ReorderKept) → after.next ≡ k.next + 1
     → lookup (is_at (nat_cmp k.next)) after.far ≡ None
     → ((n : ℕ) → n < k.next → lookup (is_at (nat_cmp n)) after.far
     ≡ lookup (is_at (nat_cmp n)) k.far) → AreToCome k → AreToCome after
-come_after k after next own same all n low = dite (ℕ_discrete n k.next)
-    (λ is. ap (λ (m : ℕ). lookup (is_at (nat_cmp m)) after.far) is ∙ own)
-    (λ apart. let before : n < k.next = omega arith in same n before ∙ all n before)
+come_after k after next own same all n low = search (is_at, arith)

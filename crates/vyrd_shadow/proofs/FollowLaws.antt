@@ -46,8 +46,7 @@ pub record Own (c : ℕ) (block : Option (List (ℕ × ℕ))) (entries : List En
 own_of : (kept : ShadowKept) (starting : List StartWord) (earlier : List Entry)
     → HasFollowed kept starting earlier → (c : ℕ) → c < kept.header.callers
     → Own c (get_or kept.blocks c None) earlier
-own_of kept starting earlier followed c low =
-    grind (arith, followed.blocks c low, followed.order c low)
+own_of kept starting earlier followed c low = search arith
 
 -- words and blocks make what is kept
 followed_from : (kept : ShadowKept) (starting : List StartWord) (earlier : List Entry)
@@ -78,12 +77,9 @@ own_next : (n : ℕ) (blocks : List (Option (List (ℕ × ℕ)))) (earlier : Lis
     → ((d : ℕ) → d < n → Own d (get_or blocks d None) earlier)
     → (d : ℕ) → d < n → Own d (get_or (set blocks c block) d None) (entry c kind ∷ earlier)
 own_next n blocks earlier c kind block low own all = λ d low_d. by_same c d
-    (λ same. subst (λ x. Own x (get_or (set blocks c block) x None) (entry c kind ∷ earlier)) same
-    (subst (λ b. Own c b (entry c kind ∷ earlier)) (sym (get_or-set_same blocks c block None low))
-    own))
-    (λ other. subst (λ b. Own d b (entry c kind ∷ earlier))
-    (sym (get_or-set_other blocks c d block None (differs c d other)))
-    (own_other d c kind (get_or blocks d None) earlier other (all d low_d)))
+    (λ same. rw (← same) (rw (get_or-set_same blocks c block None low) own))
+    (λ other. rw (get_or-set_other blocks c d block None (differs c d other))
+    (own_other d c kind _ earlier other (all d low_d)))
 
 -- a closed block
 own_closed : (c : ℕ) (block : Option (List (ℕ × ℕ))) (entries : List Entry) → is_some block ≡ false
@@ -107,18 +103,8 @@ pub followed_through : (kept : ShadowKept) (starting : List StartWord) (earlier 
       blocks = kept.blocks;
       changed = changed;
     }) starting (entry c (Write word value) ∷ earlier)
-followed_through kept starting earlier c word value changed low low_w closed followed keeps =
-    let out : has_block c earlier ≡ false = sym (followed.blocks c low) ∙ closed in
-    followed_from _ _ _ (keeps, followed.rules)
-    (ap (λ l. set l word value) followed.words
-    ∙ sym (words_after-write kept.header starting earlier c word value out low_w))
-    (λ d low_d. by_same c d
-    (λ same. subst (λ x. Own x (get_or kept.blocks x None) (entry c (Write word value) ∷ earlier))
-    same
-    (own_closed c (get_or kept.blocks c None) (entry c (Write word value) ∷ earlier) closed
-    (block_write c c word value earlier ∙ out)))
-    (λ other. own_other d c (Write word value) (get_or kept.blocks d None) earlier other
-    (own_of kept starting earlier followed d low_d)))
+followed_through kept starting earlier c word value changed low low_w closed followed keeps = search
+    (followed_from, words_after-write, by_same, own_closed, block_write, own_other, own_of, arith)
 
 -- a write in a block doesn't count yet
 words_held : (h : Header) (starting : List StartWord) (earlier : List Entry) (c word value : ℕ)
@@ -130,15 +116,8 @@ own_kept : (c word value : ℕ) (block : Option (List (ℕ × ℕ))) (earlier : 
     → has_block c earlier ≡ true → Own c block earlier
     → Own c (Some (with_kept (unwrap_or block []) word value))
     (entry c (Write word value) ∷ earlier)
-own_kept c word value block earlier inside own = record {
-  opened = sym (block_write c c word value earlier ∙ inside);
-  order = λ e. words_kept word value (unwrap_or block []) ∙ ap (λ ws. with_word ws word)
-      (own.order inside)
-      ∙ ap first_written (sym (own_writes c (Write word value) earlier));
-  values = λ w e. value_kept w word value (unwrap_or block [])
-      ∙ ap (option_or (given_to w (word, value))) (own.values w inside)
-      ∙ ap (first_answer (given_to w)) (sym (own_writes c (Write word value) earlier));
-}
+own_kept c word value block earlier inside own = search
+    (block_write, words_kept, own_writes, value_kept, arith)
 
 pub followed_kept : (kept : ShadowKept) (starting : List StartWord) (earlier : List Entry)
     (c word value : ℕ) → c < kept.header.callers → c < length kept.blocks → is_open kept c ≡ true
@@ -173,10 +152,7 @@ pub followed_open : (kept : ShadowKept) (starting : List StartWord) (earlier : L
       changed = kept.changed;
     }) starting (entry c BlockOpen ∷ earlier)
 followed_open kept starting earlier c low followed keeps =
-    followed_from _ _ _ (keeps, followed.rules)
-    (followed.words ∙ sym (words_after-quiet kept.header starting earlier c BlockOpen refl refl))
-    (own_next kept.header.callers kept.blocks earlier c BlockOpen (Some []) low (own_open c earlier)
-    (own_of kept starting earlier followed))
+    search (followed_from, words_after-quiet, own_next, own_open, own_of, arith)
 
 -- lists of numbers by their places
 is_map : (words : List ℕ) (f : ℕ → ℕ) (k n : ℕ) → length words ≡ n
@@ -210,19 +186,17 @@ words_close : (h : Header) (starting : List StartWord) (earlier : List Entry) (e
     (block_writes e.caller earlier))
     → with_writes words writes ≡ words_after h starting (e ∷ earlier)
 words_close h starting earlier e words writes ends rules size is once values =
-    is_map (with_writes words writes) (settled_value starting (e ∷ earlier)) 0 (plain_words h)
-    (length-with_writes words writes ∙ size)
-    (λ i low.
+    is_map _ _ 0 _ (length-with_writes _ writes ∙ size) (λ i low.
     let place : 0 + i ≡ i = omega arith in
-    let was : get_or words i 0 ≡ settled_value starting earlier i
-    = ap (λ l. get_or l i 0) (is ∙ words_settled h starting earlier rules.1)
-    ∙ at_map (settled_value starting earlier) 0 (plain_words h) i 0 low
-    ∙ ap (settled_value starting earlier) place in
-    value_with words writes i (omega arith) once
-    ∙ (λ j. unwrap_or (values i j) (was j))
+    let was : get_or words i 0 ≡ settled_value starting earlier i =
+    cc (
+      words_settled h starting earlier rules.1,
+      at_map (settled_value starting earlier) 0
+          (plain_words h) i 0 low,
+    ) in
+    value_with words writes i (omega arith) once ∙ (λ j. unwrap_or (values i j) (was j))
     ∙ sym (settled_append starting earlier e (block_writes e.caller earlier) i ends)
-    ∙ ap (settled_value starting (e ∷ earlier)) (sym place))
-    ∙ sym (words_settled h starting (e ∷ earlier) rules)
+    ∙ ap (settled_value starting (e ∷ earlier)) (sym place)) ∙ sym (words_settled h _ _ rules)
 
 -- a block ends, with a commit or without
 followed_end : (kept : ShadowKept) (starting : List StartWord) (earlier : List Entry) (c : ℕ)
@@ -240,17 +214,12 @@ followed_end : (kept : ShadowKept) (starting : List StartWord) (earlier : List E
 followed_end kept starting earlier c kind changed ends edge low low' size opened followed keeps =
     let inside : has_block c earlier ≡ true = sym (followed.blocks c low) ∙ opened in
     let once : AllOnce (words_of (kept_writes kept c)) = subst AllOnce
-    (sym (followed.order c low inside)) (once_written (block_writes c earlier)) in
-    let out : has_block c (entry c kind ∷ earlier) ≡ false = own_block c kind earlier
-    ∙ ap (λ o. unwrap_or (option_or o (first_answer (by_caller c open_or_close) earlier)) false)
-    edge in
+    (sym (followed.order c low inside)) (once_written (block_writes c _)) in
+    let out : has_block c (entry c kind ∷ earlier) ≡ false = cc (own_block c kind earlier) in
     followed_from _ _ _ (keeps, followed.rules)
-    (words_close kept.header starting earlier (entry c kind) kept.words (kept_writes kept c) ends
-    (keeps, followed.rules) size followed.words once
-    (λ w. followed.values c w low inside))
-    (own_next kept.header.callers kept.blocks earlier c kind None low'
-    (own_closed c None (entry c kind ∷ earlier) refl out)
-    (own_of kept starting earlier followed))
+    (words_close _ _ _ _ kept.words (kept_writes kept c) ends (keeps, followed.rules) size
+    followed.words once (λ w. followed.values c w low inside))
+    (own_next _ _ _ c _ _ low' (own_closed c _ _ refl out) (own_of kept starting _ followed))
 
 pub followed_close : (kept : ShadowKept) (starting : List StartWord) (earlier : List Entry) (c : ℕ)
     (changed : List ℕ)
@@ -264,8 +233,7 @@ pub followed_close : (kept : ShadowKept) (starting : List StartWord) (earlier : 
       blocks = set kept.blocks c None;
       changed = changed;
     }) starting (entry c BlockClose ∷ earlier)
-followed_close kept starting earlier c changed = followed_end kept starting earlier c BlockClose
-    changed refl refl
+followed_close kept starting earlier c changed = search (followed_end, arith)
 
 pub followed_commit : (kept : ShadowKept) (starting : List StartWord) (earlier : List Entry) (c : ℕ)
     (changed : List ℕ)
@@ -279,8 +247,7 @@ pub followed_commit : (kept : ShadowKept) (starting : List StartWord) (earlier :
       blocks = set kept.blocks c None;
       changed = changed;
     }) starting (entry c BlockCommit ∷ earlier)
-followed_commit kept starting earlier c changed = followed_end kept starting earlier c BlockCommit
-    changed refl refl
+followed_commit kept starting earlier c changed = search (followed_end, arith)
 
 -- an entry that isn't a write and touches no block
 followed_quiet : (kept : ShadowKept) (starting : List StartWord) (earlier : List Entry) (c : ℕ)
@@ -291,20 +258,14 @@ followed_quiet : (kept : ShadowKept) (starting : List StartWord) (earlier : List
     → broken_rule kept.header earlier (entry c kind) ≡ None → HasFollowed kept starting
     (entry c kind ∷ earlier)
 followed_quiet kept starting earlier c kind goes_on none edge writes followed keeps =
-    followed_from kept starting (entry c kind ∷ earlier) (keeps, followed.rules)
-    (followed.words ∙ sym (words_after-quiet kept.header starting earlier c kind goes_on none))
-    (λ d low. own_same d (get_or kept.blocks d None) earlier (entry c kind ∷ earlier)
-    (ap (λ o. unwrap_or o false) (no_answer d c open_or_close kind earlier edge))
-    (writes (c == d) (block_writes d earlier))
-    (own_of kept starting earlier followed d low))
+    search (followed_from, words_after-quiet, own_same, no_answer, own_of, arith)
 
 pub followed_call : (kept : ShadowKept) (starting : List StartWord) (earlier : List Entry) (c : ℕ)
     (method : Method) (args : Args)
     → HasFollowed kept starting earlier → broken_rule kept.header earlier
     (entry c (Call method args)) ≡ None
     → HasFollowed kept starting (entry c (Call method args) ∷ earlier)
-followed_call kept starting earlier c method args e6 e7 =
-    grind (arith, kept, starting, followed_quiet)
+followed_call kept starting earlier c method args e6 e7 = search (followed_quiet, arith)
 
 pub followed_return : (kept : ShadowKept) (starting : List StartWord) (earlier : List Entry)
     (c reply : ℕ)
@@ -319,8 +280,7 @@ pub followed_lone_commit : (kept : ShadowKept) (starting : List StartWord) (earl
     (c : ℕ)
     → HasFollowed kept starting earlier → broken_rule kept.header earlier (entry c Commit) ≡ None
     → HasFollowed kept starting (entry c Commit ∷ earlier)
-followed_lone_commit kept starting earlier c e4 e5 =
-    search (kept, starting, followed_quiet, same_here, arith)
+followed_lone_commit kept starting earlier c e4 e5 = search (followed_quiet, same_here, arith)
 
 alike : (n c : ℕ) (block : Option (List (ℕ × ℕ))) → get_or (replicate n block) c block ≡ block
 alike zero c block = refl
@@ -343,9 +303,7 @@ pub followed_start : (h : Header) (starting : List StartWord) (words changed : L
     (record { header = h; words = words; blocks = replicate h.callers None; changed = changed })
     starting []
 unfolding words_after
-followed_start h starting words changed is = followed_from _ _ _ tt is
-    (λ c low. own_closed c (get_or (replicate h.callers None) c None) []
-    (none_open h words changed c) refl)
+followed_start h starting words changed is = search (followed_from, own_closed, none_open, arith)
 
 pub zeros_at_start : (h : Header) → replicate (plain_words h) 0 ≡ words_at_start h []
 zeros_at_start h = search (is_map, length-replicate, zeros, arith)

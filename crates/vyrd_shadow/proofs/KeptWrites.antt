@@ -20,8 +20,7 @@ differs k d e = grind (arith, nat_tests)
 twice : (v u : ℕ) (rest : Option ℕ) (b : Bool)
     → option_or (cond b (Some v) None) rest ≡ option_or (cond b (Some v) None)
     (option_or (cond b (Some u) None) rest)
-twice v u rest true = refl
-twice v u rest false = refl
+twice v u rest b = search arith
 
 same_place : (w k v q u : ℕ) (rest : Option ℕ) → k ≡ q
     → option_or (given_to w (q, v)) rest ≡ option_or (given_to w (k, v))
@@ -115,15 +114,13 @@ no_value : (w : ℕ) (es : List (ℕ × ℕ)) → list_any (λ other. w == other
     → first_answer (given_to w) es ≡ None
 no_value w [] e = refl
 no_value w ((q, u) ∷ es) e =
-    let parts = neither_true (w == q) (list_any (λ other. w == other) (keys_of es)) e in
-    ap (λ b. option_or (cond b (Some u) None) (first_answer (given_to w) es)) (flipped w q parts.0)
-    ∙ no_value w es parts.1
+    let parts = neither_true _ _ e in
+    cc (flipped w q parts.0, no_value w es parts.1)
 
 pub length-with_writes : (words : List ℕ) (es : List (ℕ × ℕ)) → length (with_writes words es)
     ≡ length words
 length-with_writes words [] = refl
-length-with_writes words ((q, u) ∷ es) = length-with_writes (set words q u) es
-    ∙ length-set words q u
+length-with_writes words ((q, u) ∷ es) = length-with_writes (set _ q u) es ∙ length-set _ q u
 
 -- what a word is, once the writes have taken effect
 pub value_with : (words : List ℕ) (es : List (ℕ × ℕ)) (w : ℕ) → w < length words
@@ -143,18 +140,9 @@ value_with words ((q, u) ∷ es) w low once = by_place (q == w) refl
         (get_or words w 0)
     by_place true e rest =
         let place : q ≡ w = same_of q w e in
-        let none : first_answer (given_to w) es
-        ≡ None = no_value w es
-        (subst (λ x. list_any (λ other. x == other) (keys_of es) ≡ false) place once.0) in
-        rest ∙ ap (λ o. unwrap_or o (get_or (set words q u) w 0)) none
-        ∙ subst (λ x. get_or (set words x u) w 0 ≡ u) (sym place) (get_or-set_same words w u 0 low)
-        ∙ ap (λ b. unwrap_or (option_or (cond b (Some u) None) (first_answer (given_to w) es))
-        (get_or words w 0)) (sym e)
-    by_place false e rest =
-        rest ∙ ap (unwrap_or (first_answer (given_to w) es))
-        (get_or-set_other words q w u 0 (differs q w e))
-        ∙ ap (λ b. unwrap_or (option_or (cond b (Some u) None) (first_answer (given_to w) es))
-        (get_or words w 0)) (sym e)
+        let none : first_answer (given_to w) es ≡ None = no_value w es (rw (← place) once.0) in
+        cc (get_or-set_same words w u 0 low)
+    by_place false e rest = cc (get_or-set_other words q w u 0 (differs q w e))
 
 -- values below a bound
 pub below_set : (l : List ℕ) (w x m : ℕ) → ((q : ℕ) → get_or l q 0 < m) → x < m → (q : ℕ)

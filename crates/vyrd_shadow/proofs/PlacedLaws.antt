@@ -54,11 +54,7 @@ placed_set : (blocks : List (Option (List (ℕ × ℕ)))) (holders : List (ℕ �
     → ((i w : ℕ) → is_at i w (unwrap_or b []) ≡ true → get_or holders w (0, 0) ≡ (c, i))
     → ((d i w : ℕ) → is_at i w (kept_by blocks d) ≡ true → get_or holders w (0, 0) ≡ (d, i))
     → ArePlaced (set blocks c b) holders
-placed_set blocks holders c b low own others = λ d i w at. by_same c d
-    (λ same. subst (λ x. is_at i w (kept_by (set blocks c b) x) ≡ true → get_or holders w (0, 0)
-    ≡ (x, i)) same
-    (λ here. own i w (subst (λ ws. is_at i w ws ≡ true) (kept_same blocks c b low) here)) at)
-    (λ other. others d i w (subst (λ ws. is_at i w ws ≡ true) (kept_other blocks c d b other) at))
+placed_set blocks holders c b low own others = search (by_same, is_at, kept_same, kept_other, arith)
 
 -- a write to a new word
 pub placed_pushed : (blocks : List (Option (List (ℕ × ℕ)))) (holders : List (ℕ × ℕ)) (c w v n : ℕ)
@@ -114,8 +110,7 @@ pub new_word : (blocks : List (Option (List (ℕ × ℕ)))) (holders : List (ℕ
     → ArePlaced blocks holders → IsFree blocks c w
     → is_at (get_or holders w (0, 0)).1 w (kept_by blocks c) ≡ false → (d i : ℕ)
     → is_at i w (kept_by blocks d) ≡ false
-new_word blocks holders c w placed free nowhere d i =
-    grind (arith, placed, free, nowhere, is_at, never, not_kept)
+new_word blocks holders c w placed free nowhere d i = search (is_at, never, not_kept, arith)
 
 -- a new word comes last
 pub pushed_is : (ws : List (ℕ × ℕ)) (w v : ℕ) → ((i : ℕ) → is_at i w ws ≡ false) → ws ++ (w, v) ∷ []
@@ -142,15 +137,14 @@ replaced_is [] p w v there one = none_at p w there
 replaced_is ((q, u) ∷ ws) zero w v there one = cc (word_at 0 w ((q, u) ∷ ws) there, same_number w)
 replaced_is ((q, u) ∷ ws) (suc p) w v there one = by_same w q
     (λ same. absurd (omega (arith, one 0 (at_from 0 w ((q, u) ∷ ws) (omega arith) (sym same)))))
-    (λ other. ap (λ t. (q, u) ∷ t) (replaced_is ws p w v
-    (at_from p w ws (omega (arith, low_at (suc p) w ((q, u) ∷ ws) there))
+    (λ other. ap (λ t. (q, u) ∷ t)
+    (replaced_is ws p w v (at_from p w _ (omega (arith, low_at (suc p) w ((q, u) ∷ ws) there))
     (word_at (suc p) w ((q, u) ∷ ws) there))
     (λ i at. omega (
       arith,
       one (suc i) (at_from (suc i) w ((q, u) ∷ ws) (omega (arith, low_at i w ws at))
           (word_at i w ws at)),
-    )))
-    ∙ ap (λ b. cond b ((q, v) ∷ ws) ((q, u) ∷ with_kept ws w v)) (sym other))
+    ))) ∙ ap (λ b. cond b ((q, v) ∷ ws) ((q, u) ∷ with_kept ws w v)) (sym other))
 
 -- the place of a word's holder is the only one in its block
 pub one_place : (blocks : List (Option (List (ℕ × ℕ)))) (holders : List (ℕ × ℕ)) (c w i : ℕ)
@@ -169,8 +163,7 @@ replaced_there : (blocks : List (Option (List (ℕ × ℕ)))) (holders : List (�
     → ArePlaced blocks holders
     → p ≡ (get_or holders w (0, 0)).1 → is_at p w (kept_by blocks c) ≡ true
     → set (kept_by blocks c) p (w, v) ≡ with_kept (kept_by blocks c) w v
-replaced_there blocks holders c w v p placed place there =
-    grind (arith, placed, there, replaced_is, one_place)
+replaced_there blocks holders c w v p placed place there = search (replaced_is, one_place, arith)
 
 pub replaced_in : (blocks : List (Option (List (ℕ × ℕ)))) (holders : List (ℕ × ℕ)) (c w v p : ℕ)
     (read block : Option (List (ℕ × ℕ)))
@@ -194,8 +187,7 @@ pub pushed_in : (blocks : List (Option (List (ℕ × ℕ)))) (holders : List (�
     → ArePlaced blocks holders
     → p ≡ (get_or holders w (0, 0)).1 → is_at p w (kept_by blocks c) ≡ false → kept_by blocks c
     ++ (w, v) ∷ [] ≡ with_kept (kept_by blocks c) w v
-pushed_in blocks holders c w v p placed place nowhere =
-    grind (arith, placed, nowhere, pushed_is, not_kept, is_at)
+pushed_in blocks holders c w v p placed place nowhere = search (pushed_is, not_kept, is_at, arith)
 
 pub pushed_length : (blocks : List (Option (List (ℕ × ℕ)))) (holders : List (ℕ × ℕ)) (c w v p : ℕ)
     → ArePlaced blocks holders

@@ -35,20 +35,18 @@ sound_set : (h : Header) (words : List ℕ) (blocks : List (Option (List (ℕ ×
 sound_set h words blocks changed count capacity sound c block low in_range words' changed' count'
     capacity' counts rest = record {
       all_words = rest.all_words;
-      all_blocks = length-set blocks c block ∙ sound.all_blocks;
+      all_blocks = length-set _ c _ ∙ sound.all_blocks;
       values = rest.values;
       writes = λ d. by_same c d
           (λ same. subst
           (λ x. AreInRange (plain_words h) (unwrap_or (get_or (set blocks c block) x None) [])) same
-          (subst (λ b. AreInRange (plain_words h) (unwrap_or b []))
-          (sym (get_or-set_same blocks c block None (omega (arith, sound.all_blocks)))) in_range))
-          (λ other. subst (λ b. AreInRange (plain_words h) (unwrap_or b []))
-          (sym (get_or-set_other blocks c d block None (differs c d other))) (sound.writes d));
+          (rw (get_or-set_same blocks c block None (omega (arith, sound.all_blocks))) in_range))
+          (λ other. rw (get_or-set_other blocks c d block None (differs c d other))
+          (sound.writes d));
       changed_words = rest.changed_words;
       counted =
           let sums : kept_count (set blocks c block) + length (unwrap_or (get_or blocks c None) [])
-          ≡ kept_count blocks + length (unwrap_or block [])
-          = sum_by-set (λ b. length (unwrap_or b [])) blocks c block None
+          ≡ kept_count blocks + length (unwrap_or block []) = sum_by-set _ _ c _ _
           (omega (arith, sound.all_blocks)) in
           omega (arith, sums, sound.counted);
       room = rest.room;
@@ -59,8 +57,7 @@ kept_at_most : (blocks : List (Option (List (ℕ × ℕ)))) (c : ℕ) → c < le
     → length (unwrap_or (get_or blocks c None) []) ≤ kept_count blocks
 kept_at_most blocks c low =
     let sums : kept_count (set blocks c None) + length (unwrap_or (get_or blocks c None) [])
-    ≡ kept_count blocks + 0
-    = sum_by-set (λ b. length (unwrap_or b [])) blocks c None None low in
+    ≡ kept_count blocks + 0 = sum_by-set _ _ c _ _ low in
     omega (arith, sums)
 
 -- one more write is kept back
@@ -76,15 +73,12 @@ pub sound_kept : (h : Header) (words : List ℕ) (blocks : List (Option (List (�
     → IsSound h words (set blocks c block) changed' count' capacity'
 sound_kept h words blocks changed count capacity sound c word value read block low low_w small is
     new changed' more count' capacity' same longer counts room =
-    let size : length (unwrap_or read []) ≡ length (unwrap_or (get_or blocks c None) []) =
-    ap (λ b. length (unwrap_or b [])) is in
-    let in_range : AreInRange (plain_words h) (unwrap_or read []) =
-    subst (λ b. AreInRange (plain_words h) (unwrap_or b [])) (sym is) (sound.writes c) in
+    let size : length (unwrap_or read []) ≡ length (unwrap_or (get_or blocks c None) []) = cc in
+    let in_range : AreInRange (plain_words h) (unwrap_or read []) = rw is (sound.writes c) in
     let more_in_range = in_range_kept (plain_words h) word value (unwrap_or read []) low_w small
     in_range in
-    sound_set h words blocks changed count capacity sound c block low
-    (subst (λ b. AreInRange (plain_words h) (unwrap_or b [])) (sym new) more_in_range)
-    words changed' count' capacity' (omega arith)
+    sound_set h words _ changed count capacity sound c _ low (rw new more_in_range) _ _ _ _
+    (omega arith)
     (record {
       all_words = sound.all_words;
       values = sound.values;

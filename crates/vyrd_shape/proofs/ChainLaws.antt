@@ -42,29 +42,25 @@ pub chain_other : (h : ℕ) (by_word links : List ℕ) (first : ℕ) (ws : List 
     → get_or by_word w 0 ≢ h → x ≢ h → IsChain h by_word links first ws
     → IsChain h (set by_word w x) (set links w y) first ws
 chain_other h by_word links first [] w x y free other chain =
-    (chain.0, λ q. absent_set by_word w x q h other (chain.1 q))
+    (chain.0, λ q. absent_set _ w x q h other (chain.1 q))
 chain_other h by_word links first (v ∷ ws) w x y free other chain =
-    let apart : v ≢ w = λ e. free (ap (λ k. get_or by_word k 0) (sym e) ∙ chain.1) in
+    let apart : v ≢ w = λ e. free (cc chain.1) in
     let apart' : w ≢ v = λ e. apart (sym e) in
     let free' : get_or (set by_word v 0) w 0
-    ≢ h = λ e. free (sym (get_or-set_other by_word v w 0 0 apart') ∙ e) in
-    let rest = chain_other h (set by_word v 0) links (get_or links v 0) ws w x y free' other
-    chain.2 in (
+    ≢ h = λ e. free (sym (get_or-set_other _ v w 0 0 apart') ∙ e) in
+    let rest = chain_other h (set _ v 0) links (get_or _ v 0) ws w x y free' other chain.2 in (
       chain.0,
-      get_or-set_other by_word w v x 0 apart ∙ chain.1,
-      subst (λ n. IsChain h (set (set by_word w x) v 0) (set links w y) n ws)
-          (sym (get_or-set_other links w v y 0 apart))
-          (subst (λ b. IsChain h b (set links w y) (get_or links v 0) ws)
-          (sym (set-set_other by_word v w x 0 apart)) rest),
+      get_or-set_other _ w v x 0 apart ∙ chain.1,
+      rw (get_or-set_other links w v y 0 apart)
+          (rw (set-set_other by_word v w x 0 apart) rest),
     )
 
 -- the links of words that aren't the holder's don't count
 chain_link : (h : ℕ) (by_word links : List ℕ) (first : ℕ) (ws : List ℕ) (w y : ℕ)
     → get_or by_word w 0 ≢ h → IsChain h by_word links first ws
     → IsChain h by_word (set links w y) first ws
-chain_link h by_word links first ws w y free chain =
-    subst (λ b. IsChain h b (set links w y) first ws) (set-get_or by_word w 0)
-    (chain_other h by_word links first ws w (get_or by_word w 0) y free free chain)
+chain_link h by_word links first ws w y free chain = rw (← set-get_or by_word w 0)
+    (chain_other h by_word links first ws w (get_or _ w 0) y free free chain)
 
 -- a free word is put before the holder's words
 pub chain_more : (h : ℕ) (by_word links : List ℕ) (first : ℕ) (ws : List ℕ) (w : ℕ)
@@ -72,20 +68,14 @@ pub chain_more : (h : ℕ) (by_word links : List ℕ) (first : ℕ) (ws : List �
     → IsChain h by_word links first ws
     → IsChain h (set by_word w h) (set links w first) (w + 1) (w ∷ ws)
 chain_more h by_word links first ws w low low' free some chain =
-    let back : set (set by_word w h) w 0 ≡ by_word = set-set_same by_word w h 0
-    ∙ ap (set by_word w) (sym free) ∙ set-get_or by_word w 0 in
+    let back : set (set by_word w h) w 0 ≡ by_word = set-set_same _ w h 0 ∙ ap (set _ w) (sym free)
+    ∙ set-get_or _ w 0 in
     let free' : get_or by_word w 0 ≢ h = λ e. some (sym free ∙ e) in
-    let rest = chain_link h by_word links first ws w first free' chain in (
-      refl,
-      get_or-set_same by_word w h 0 low,
-      subst (λ n. IsChain h (set (set by_word w h) w 0) (set links w first) n ws)
-          (sym (get_or-set_same links w first 0 low'))
-          (subst (λ b. IsChain h b (set links w first) first ws) (sym back) rest),
-    )
+    let rest = chain_link h by_word links first ws w first free' chain in
+    (refl, get_or-set_same _ w h 0 low, rw (get_or-set_same links w first 0 low') (rw back rest))
 
 either_way : (b : Bool) (x : ℕ) → cond b x x ≡ x
-either_way true x = refl
-either_way false x = refl
+either_way b x = search arith
 
 released_zero : (g : ℕ) → released g 0 ≡ 0
 released_zero g = either_way (0 == g) 0
@@ -122,15 +112,7 @@ chain_released g h by_word links first (w ∷ ws) some other chain =
 -- after it has let go, a holder has no word
 pub chain_none : (g : ℕ) (by_word links : List ℕ) → 0 ≢ g
     → IsChain g (map (released g) by_word) links 0 []
-chain_none g by_word links some = search (gone, released_at, arith)
-  where
-    gone : (n : ℕ) → released g n ≢ g
-    gone n e = by_test (n == g) refl
-      where
-        by_test : (b : Bool) → (n == g) ≡ b → ⊥
-        by_test true same = some (sym (ap (λ b. cond b 0 n) same) ∙ e)
-        by_test false other = let here : n ≢ g = grind (arith, nat_tests) in
-            here (sym (ap (λ b. cond b 0 n) other) ∙ e)
+chain_none g by_word links some = search (released_at, released, arith)
 
 -- a list without the holder is as it was
 released_absent : (g : ℕ) (l : List ℕ) → ((w : ℕ) → get_or l w 0 ≢ g) → map (released g) l ≡ l
@@ -193,8 +175,7 @@ pub holder_falls : (by_word : List ℕ) (w h : ℕ) → get_or by_word w 0 ≡ h
     → w < length by_word
     → sum_by (λ x. x) (set by_word w 0) < sum_by (λ x. x) by_word
 holder_falls by_word w h held some low = let e : sum_by (λ x. x) (set by_word w 0)
-    + get_or by_word w 0
-    ≡ sum_by (λ x. x) by_word + 0 = sum_by-set (λ x. x) by_word w 0 0 low in omega arith
+    + get_or by_word w 0 ≡ sum_by (λ x. x) by_word + 0 = sum_by-set _ _ w 0 0 low in omega arith
 
 pub linked_new : (n m : ℕ) → n < 2 ^ 32 → m < 2 ^ 32 → AreLinked (replicate n 0) (replicate n 0)
     (replicate m 0)
@@ -251,10 +232,8 @@ linked_hold by_word links firsts c w low low_c free linked = record {
         (w ∷ was.words)
         = chain_more (c + 1) by_word links (get_or firsts c 0) was.words w low
         (omega (arith, linked.lengths)) free (some_one c) was.chain in
-        subst (λ x. IsLinked (x + 1) (set by_word w (c + 1)) (set links w (get_or firsts c 0))
-        (get_or (set firsts c (w + 1)) x 0)) (sym same)
-        (subst (λ f. IsLinked (c + 1) (set by_word w (c + 1)) (set links w (get_or firsts c 0)) f)
-        (sym (get_or-set_same firsts c (w + 1) 0 low_c))
+        rw same
+        (rw (get_or-set_same firsts c (w + 1) 0 low_c)
         (record { words = w ∷ was.words; chain = now }))
 
     others : (d : ℕ) → d < length firsts → (d == c) ≡ false
@@ -300,8 +279,7 @@ linked_release by_word links firsts c low_c linked = record {
 pub any_number : (p : ℕ → Bool) (k n d : ℕ) → p d ≡ true → k ≤ d → d < k + n
     → list_any p (numbers_from k n) ≡ true
 any_number p k zero d here low high = absurd (omega arith)
-any_number p k (suc n) d here low high = by_same k d
-    (λ same. ap (λ b. b || list_any p (numbers_from (k + 1) n)) (ap p same ∙ here))
+any_number p k (suc n) d here low high = by_same k d (λ same. cc)
     (λ other. or_right (p k) (any_number p (k + 1) n d here (next other) (omega arith)))
   where
     or_right : (b : Bool) {c : Bool} → c ≡ true → (b || c) ≡ true
@@ -321,35 +299,22 @@ no_number p k (suc n) none = ap (λ b. b || list_any p (numbers_from (k + 1) n))
 -- nobody holds the word
 pub another_none : (holding : Holding) (c w : ℕ) → get_or holding.by_word w 0 ≡ 0
     → is_held_by_another holding c w ≡ false
-another_none holding c w free = no_number
-    (λ d. not (d == c) && (get_or holding.by_word w 0 == d + 1)) 0 holding.callers
-    (λ d low. let apart : (get_or holding.by_word w 0 == d + 1)
-    ≡ false = grind (arith, nat_tests) in
-    ap (λ b. not (d == c) && b) apart ∙ and_false (not (d == c)))
-  where
-    and_false : (b : Bool) → (b && false) ≡ false
-    and_false true = refl
-    and_false false = refl
+another_none holding c w free = search (no_number, arith)
 
 -- a caller holds the word, perhaps this one
 pub another_is : (holding : Holding) (c w e : ℕ) → get_or holding.by_word w 0 ≡ e + 1
     → e < holding.callers
     → is_held_by_another holding c w ≡ not (e == c)
 another_is holding c w e held low = by_same e c
-    (λ same. no_number (λ d. not (d == c) && (get_or holding.by_word w 0 == d + 1)) 0
-    holding.callers (λ d low. by_same d c
-    (λ is. let here : (d == c) ≡ true = grind (arith, nat_tests) in
-    ap (λ b. not b && (get_or holding.by_word w 0 == d + 1)) here)
-    (λ other. let elsewhere : (get_or holding.by_word w 0 == d + 1)
+    (λ same. no_number (λ d. not _ && (get_or _ w 0 == d + 1)) 0 holding.callers
+    (λ d low. by_same d c (λ is. let here : (d == c) ≡ true = grind (arith, nat_tests) in
+    cc) (λ other. let elsewhere : (get_or holding.by_word w 0 == d + 1)
     ≡ false = not_here d same other in
-    ap (λ b. not (d == c) && b) elsewhere ∙ and_false (not (d == c))))
+    cc (and_false (not (d == c)))))
     ∙ (let here : (e == c) ≡ true = grind (arith, nat_tests) in ap not (sym here)))
-    (λ other. any_number (λ d. not (d == c) && (get_or holding.by_word w 0 == d + 1)) 0
-    holding.callers e
+    (λ other. any_number (λ d. not _ && (get_or _ w 0 == d + 1)) 0 holding.callers e
     (let there : (get_or holding.by_word w 0 == e + 1) ≡ true = grind (arith, nat_tests) in
-    (λ i. not (other i) && there i))
-    (omega arith) (omega arith)
-    ∙ ap not (sym other))
+    (λ i. not (other i) && there i)) (omega arith) (omega arith) ∙ ap not (sym other))
   where
     and_false : (b : Bool) → (b && false) ≡ false
     and_false true = refl

@@ -32,17 +32,15 @@ pub last_effect_low : (w : ℕ) (earlier later : List Entry)
 last_effect_low w [] later = omega arith
 last_effect_low w (e ∷ earlier) later =
     let before = last_effect_low w earlier (e ∷ later) in
-    elim (has_write w (effects_at earlier e.caller e.kind later))
-    as (λ b. cond b (length earlier + 1) (last_effect w earlier (e ∷ later)) ≤ length (e ∷ earlier))
-    [ true ↦ omega arith | false ↦ omega arith ]
+    elim (has_write w _) as (λ b. cond b (length earlier + 1) (last_effect w earlier (e ∷ later))
+    ≤ length (e ∷ earlier)) [ true ↦ omega arith | false ↦ omega arith ]
 
 pub last_commit_low : (c : ℕ) (earlier : List Entry) → last_commit c earlier ≤ length earlier
 last_commit_low c [] = omega arith
 last_commit_low c (e ∷ earlier) =
     let before = last_commit_low c earlier in
-    elim ((e.caller == c) && is_lone_commit e.kind)
-    as (λ b. cond b (length earlier + 1) (last_commit c earlier) ≤ length (e ∷ earlier))
-    [ true ↦ omega arith | false ↦ omega arith ]
+    elim ((e.caller == c) && is_lone_commit _) as (λ b. cond b (length earlier + 1)
+    (last_commit c earlier) ≤ length (e ∷ earlier)) [ true ↦ omega arith | false ↦ omega arith ]
 
 -- the same effects, the same stamps
 pub same_stamp : (w : ℕ) (earlier later later' : List Entry) → SameEffects earlier later later'
@@ -68,8 +66,7 @@ commit_here c e earlier same alone = grind (arith, alone, is_same, last_commit)
 
 -- raising a stamp does nothing if it is greater already
 kept_high : (b : Bool) (stamp old : ℕ) → stamp ≤ old → old ≡ raised_if b stamp old
-kept_high true stamp old high = omega arith
-kept_high false stamp old high = refl
+kept_high b stamp old high = search arith
 
 -- If the writes take effect at the caller's last lone commit too, the stamps of their words are
 -- raised to its stamp.
@@ -97,17 +94,13 @@ more_stamp w c writes (e ∷ earlier) later later' =
         → MoreAtCommit c writes (e ∷ earlier) later later'
         → RaisedAtCommit w c writes (e ∷ earlier) later later'
     by_entry before (at_commit same alone none all same_before) =
-        let low = last_effect_low w earlier (e ∷ later) in
-        let high : next ≡ max old next = omega arith in
-        let before' = sym (same_stamp w earlier (e ∷ later) (e ∷ later') same_before) in
-        let here = commit_here c e earlier same (ap is_lone_commit alone) in
-        (λ i. cond (has_write w (all i)) next (before' i)) ∙ ap (λ n. cond raises n old) high
-        ∙ (λ i. raised_if raises (sym here i) (cond (has_write w (sym none i)) next old))
+        search (last_effect_low, same_stamp, commit_here, arith)
     by_entry before (own same alone none none' more) = grind arith
     by_entry before (other apart same more) =
         grind (
           arith,
-          by_write (has_write w (effects_at earlier e.caller e.kind later)),
+          by_write
+              (has_write w (effects_at earlier e.caller e.kind later)),
           commit_other c e earlier apart,
         )
       where
@@ -187,8 +180,7 @@ raises_end h holders w c kind earlier wf ends takes effect inner is =
     by_inner : (b : Bool) → has_inner_commit c earlier ≡ b
         → cond (has_write w (cond b [] writes)) next behind
         ≡ raised_if (has_write w writes) (effect_place_by b c earlier) old
-    by_inner true is' = more_stamp w c writes earlier [] (entry c kind ∷ [])
-        (more_after h earlier (entry c kind) wf (λ i. ends i && is' i))
+    by_inner true is' = more_stamp w c _ earlier [] _ (more_after h _ _ wf (λ i. ends i && is' i))
     by_inner false is' = search (at_end, same_stamp, same_after, ends, arith)
 
 -- any entry that keeps the rules
@@ -196,32 +188,27 @@ pub stamp_next : (h : Header) (holders : List ℕ) (w c : ℕ) (kind : Kind) (ea
     → WellFormed h earlier → broken_rule h earlier (entry c kind) ≡ None
     → holds_word c w earlier ≡ takes_effect holders true c BlockClose w
     → Raises holders w c kind earlier
-stamp_next h holders w c (Call method args) earlier wf kept held =
-    raises_now h holders w c (Call method args) earlier wf refl false refl refl (λ e. never refl e)
-stamp_next h holders w c (Return reply) earlier wf kept held =
-    raises_now h holders w c (Return reply) earlier wf refl false refl refl (λ e. never refl e)
-stamp_next h holders w c Commit earlier wf kept held =
-    raises_now h holders w c Commit earlier wf refl false refl
-    (ap (has_write w) (no_effect_yet earlier c)) (λ e. never refl e)
-stamp_next h holders w c BlockOpen earlier wf kept held =
-    raises_now h holders w c BlockOpen earlier wf refl false refl refl (λ e. never refl e)
-stamp_next h holders w c BlockClose earlier wf kept held =
-    raises_end h holders w c BlockClose earlier wf refl
-    (sym held ∙ held_is c w earlier (close_kept h c earlier kept)) refl
-    (has_inner_commit c earlier) refl
-stamp_next h holders w c BlockCommit earlier wf kept held =
-    raises_end h holders w c BlockCommit earlier wf refl
-    (sym held ∙ held_is c w earlier (block_commit_kept h c earlier kept)) refl
-    (has_inner_commit c earlier) refl
-stamp_next h holders w c (Write word value) earlier wf kept held =
-    raises_now h holders w c (Write word value) earlier wf refl
-    (not (has_block c earlier) && (word == w)) refl (written_once earlier c word value w)
-    (λ e. ap (λ b. b && committed_since_open c earlier)
-    (not_true (has_block c earlier) (first_true (not (has_block c earlier)) (word == w) e)))
+stamp_next h holders w c (Call method args) earlier wf kept held = raises_now h holders w c
+    (Call _ _) earlier wf refl false refl refl (λ e. never refl e)
+stamp_next h holders w c (Return reply) earlier wf kept held = raises_now h holders w c
+    (Return _) earlier wf refl false refl refl (λ e. never refl e)
+stamp_next h holders w c Commit earlier wf kept held = raises_now h holders w c Commit earlier wf
+    refl false refl (ap (has_write w) (no_effect_yet _ c)) (λ e. never refl e)
+stamp_next h holders w c BlockOpen earlier wf kept held = raises_now h holders w c BlockOpen earlier
+    wf refl false refl refl (λ e. never refl e)
+stamp_next h holders w c BlockClose earlier wf kept held = raises_end h holders w c BlockClose
+    earlier wf refl (sym held ∙ held_is c w _ (close_kept h c _ kept)) refl (has_inner_commit c _)
+    refl
+stamp_next h holders w c BlockCommit earlier wf kept held = raises_end h holders w c BlockCommit
+    earlier wf refl (sym held ∙ held_is c w _ (block_commit_kept h c _ kept)) refl
+    (has_inner_commit c _) refl
+stamp_next h holders w c (Write word value) earlier wf kept held = raises_now h holders w c
+    (Write _ _) earlier wf refl (not _ && (word == w)) refl (written_once _ c _ _ w)
+    (λ e. cc (not_true (has_block c earlier)
+    (first_true (not (has_block c earlier)) (word == w) e)))
   where
     not_true : (b : Bool) → not b ≡ true → b ≡ false
-    not_true true e = cc
-    not_true false e = refl
+    not_true b e = search arith
 
 -- A word is passed for a caller with a lone commit in its open block where a write to it took
 -- effect
@@ -239,24 +226,16 @@ PassedIs c w earlier =
 passed_quiet : (c w : ℕ) (kind : Kind) (earlier later : List Entry) → is_lone_commit kind ≡ false
     → effects_at earlier c kind later ≡ [] → has_inner_commit c earlier ≡ true
     → PassedIs c w earlier → PassedAt c w (entry c kind ∷ earlier) later
-passed_quiet c w kind earlier later alone none inner so =
-    grind (arith, alone, same_number, commit_none)
+passed_quiet c w kind earlier later alone none inner so = search (same_number, commit_none, arith)
 
 passed_own : (c w : ℕ) (kind : Kind) (earlier : List Entry) → PassedIs c w earlier
     → PassedIs c w (entry c kind ∷ earlier)
 passed_own c w (Call method args) earlier so later inner = search (own_inner, passed_quiet, arith)
 passed_own c w (Return reply) earlier so later inner = search (own_inner, passed_quiet, arith)
 passed_own c w (Write word value) earlier so later inner =
-    search (own_inner, first_true, passed_quiet, arith)
+    grind (arith, own_inner, first_true, passed_quiet)
 passed_own c w Commit earlier so later inner =
-    let e = entry c Commit in
-    let others = effects_of_others c earlier (e ∷ later) in
-    let owned : (c == c) ≡ true = same_number c in
-    let low = last_effect_low w (e ∷ earlier) later in
-    let here = commit_here c e earlier refl refl in
-    (λ i. has_write w (cond (owned i) [] (effects_at earlier c Commit later ++ others)))
-    ∙ sym (isnt_below (last_commit c (e ∷ earlier)) (last_effect w (e ∷ earlier) later)
-    (omega arith))
+    search (same_number, last_effect_low, commit_here, isnt_below, last_commit, arith)
 passed_own c w BlockOpen earlier so later inner = never (own_inner c BlockOpen earlier) inner
 passed_own c w BlockClose earlier so later inner = never (own_inner c BlockClose earlier) inner
 passed_own c w BlockCommit earlier so later inner = never (own_inner c BlockCommit earlier) inner
@@ -265,10 +244,9 @@ passed_other : (c w : ℕ) (e : Entry) (earlier : List Entry) → (e.caller == c
     → PassedIs c w earlier → PassedIs c w (e ∷ earlier)
 passed_other c w e earlier apart so later inner =
     ap (λ b. has_write w (cond b (cond (is_lone_commit e.kind) [] others) (here ++ others))) apart
-    ∙ list_any-append (λ (write : ℕ × ℕ). write.0 == w) here others
-    ∙ by_write (has_write w here)
-    (so (e ∷ later) (sym (other_inner c e.caller e.kind earlier apart) ∙ inner))
-    ∙ ap (λ n. nat_lt n (last_effect w (e ∷ earlier) later)) (sym (commit_other c e earlier apart))
+    ∙ list_any-append (λ (write : ℕ × ℕ). write.0 == w) here others ∙ by_write (has_write w here)
+    (so _ (sym (other_inner c _ _ _ apart) ∙ inner))
+    ∙ ap (λ n. nat_lt n (last_effect w (e ∷ earlier) later)) (sym (commit_other c e _ apart))
   where
     here : List (ℕ × ℕ)
     here = effects_at earlier e.caller e.kind later
@@ -287,7 +265,5 @@ passed_by_stamp c w [] = λ later inner. never refl inner
 passed_by_stamp c w (e ∷ earlier) = step (passed_by_stamp c w earlier)
   where
     step : PassedIs c w earlier → PassedIs c w (e ∷ earlier)
-    step so = by_same e.caller c
-        (λ same. subst (λ d. PassedIs c w (entry d e.kind ∷ earlier)) (sym same)
-        (passed_own c w e.kind earlier so))
-        (λ other. passed_other c w e earlier other so)
+    step so = by_same _ c (λ same. rw same (passed_own c w e.kind earlier so))
+        (λ other. passed_other c w e _ other so)

@@ -38,8 +38,7 @@ raised_alike : (b : Bool) (k k' s s' e e' : ℕ) → nat_lt k s ≡ nat_lt k' s'
 raised_alike b k k' s s' e e' word now = grind (arith, lt_max)
 
 raised_low : (b : Bool) (s e n : ℕ) → s ≤ n → e ≤ n → raised_if b e s ≤ n
-raised_low true s e n low low' = omega arith
-raised_low false s e n low low' = low
+raised_low b s e n low low' = search arith
 
 -- An entry that is no lone commit inside a block gives nobody a commit in the open block.
 record Still (d : ℕ) (e : Entry) (earlier : List Entry) : Type 0 where
@@ -74,8 +73,7 @@ before_effect h commits words earlier d c low_d low_c inner ordered =
 effect_low : (commits : CommitStamps) (inner : Bool) (c : ℕ)
     → AreGiven commits.by_caller commits.next
     → effect_stamp commits inner c ≤ commits.next
-effect_low commits true c given = let low = given c in omega arith
-effect_low commits false c given = omega arith
+effect_low commits inner c given = search arith
 
 -- the caller holds the words that its block has written
 abbrev pub AreHeld : Header → List ℕ → ℕ → List Entry → Type 0
@@ -130,25 +128,19 @@ ordered_added : (h : Header) (old new : CommitStamps) (words words' words'' hold
     → IsAdded c old words' new words'' → AreOrdered h old words earlier
     → AreOrdered h new words'' (entry c Commit ∷ earlier)
 ordered_added h old new words words' words'' holders c stamp earlier low all wf kept held raised
-    added
-    ordered = subst (λ k. AreOrdered h k words'' (entry c Commit ∷ earlier)) (sym added.is)
-    (record {
+    added ordered = rw added.is (record {
       commits = λ d f low_d low_f inner_d inner_f. by_same c d
-          (λ same_d. by_same c f
-          (λ same_f. both d f same_d same_f)
+          (λ same_d. by_same c f (λ same_f. both d f same_d same_f)
           (λ other_f. first d f (omega (arith, all)) same_d other_f))
-          (λ other_d. by_same c f
-          (λ same_f. second d f (omega (arith, all)) other_d same_f)
+          (λ other_d. by_same c f (λ same_f. second d f (omega (arith, all)) other_d same_f)
           (λ other_f. neither d f low_d low_f other_d other_f inner_d inner_f));
-      words = λ d w low_d low_w plain inner. by_same c d
-          (λ same. own_word d w low_w plain same)
+      words = λ d w low_d low_w plain inner. by_same c d (λ same. own_word d w low_w plain same)
           (λ other. other_word d w low_d low_w plain other inner);
-      given = λ d. by_same c d
-          (λ same. subst (λ x. stamps x < before.next + 1) same
-          (subst (λ n. n < before.next + 1) (sym own) (omega arith)))
+      given = λ d. by_same c d (λ same. rw (← same) (rw own (omega arith)))
           (λ other. let was = added.same.given d in
-          subst (λ n. n < before.next + 1) (sym (others d other)) (omega arith));
-      past = λ w low_w. let low_w' = past w low_w in omega arith;
+          rw (others d other) (omega arith));
+      past = λ w low_w. let low_w' = past w low_w in
+          omega arith;
     })
   where
     e : Entry
@@ -186,8 +178,7 @@ ordered_added h old new words words' words'' holders c stamp earlier low all wf 
     first d f low_f same other =
         let given = added.same.given f in
         let low_place = last_commit_low f earlier in
-        ap (λ x. nat_lt (stamps x) (stamps f)) (sym same)
-        ∙ (λ i. nat_lt (own i) (others f other i))
+        ap (λ x. nat_lt (stamps x) (stamps f)) (sym same) ∙ (λ i. nat_lt (own i) (others f other i))
         ∙ isnt_below before.next (get_or before.by_caller f 0) (omega arith)
         ∙ sym (isnt_below (length earlier + 1) (last_commit f earlier) (omega arith))
         ∙ (λ i. nat_lt (sym here i) (sym (there f other) i))
@@ -199,8 +190,7 @@ ordered_added h old new words words' words'' holders c stamp earlier low all wf 
     second d f low_d other same =
         let given = added.same.given d in
         let low_place = last_commit_low d earlier in
-        ap (λ x. nat_lt (stamps d) (stamps x)) (sym same)
-        ∙ (λ i. nat_lt (others d other i) (own i))
+        ap (λ x. nat_lt (stamps d) (stamps x)) (sym same) ∙ (λ i. nat_lt (others d other i) (own i))
         ∙ is_below (get_or before.by_caller d 0) before.next given
         ∙ sym (is_below (last_commit d earlier) (length earlier + 1) (omega arith))
         ∙ (λ i. nat_lt (sym (there d other) i) (sym here i))
@@ -243,9 +233,8 @@ ordered_added h old new words words' words'' holders c stamp earlier low all wf 
         let low_w' : w < length words' = omega (arith, added.same.lengths) in
         let low_w'' : w < length words = omega (arith, raised.lengths) in
         ap (λ n. nat_lt n (get_or words'' w 0)) (others d other)
-        ∙ added.same.words d w (omega (arith, all)) low_w'
-        ∙ ap (nat_lt (get_or old.by_caller d 0)) (raised.stamps w low_w'')
-        ∙ ordered.words d w low_d low_w'' plain
+        ∙ added.same.words d w (omega (arith, all)) low_w' ∙ ap (nat_lt (get_or old.by_caller d 0))
+        (raised.stamps w low_w'') ∙ ordered.words d w low_d low_w'' plain
         (sym (other_inner d c Commit earlier other) ∙ inner)
         ∙ (λ i. nat_lt (sym (there d other) i) (sym (unmoved w plain) i))
 
@@ -276,25 +265,14 @@ added_inside h old new words words' words'' holders c stamp BlockCommit earlier 
 -- nothing has been followed
 pub ordered_none : (h : Header) (n m : ℕ)
     → AreOrdered h (record { by_caller = replicate n 0; next = 1 }) (replicate m 0) []
-ordered_none h n m = record {
-  commits = λ d f low_d low_f inner_d inner_f. never refl inner_d;
-  words = λ d w low_d low_w plain inner. never refl inner;
-  given = λ c. omega (arith, zeros n c);
-  past = λ w low. omega (arith, zeros m w);
-}
+ordered_none h n m = search (never, zeros, arith)
 
 -- how ranks go with what they stand for
 abbrev counted : Bool → ℕ
 counted b = cond b 1 0
 
 one_more : (m a b : ℕ) → a ≤ b → counted (nat_lt m a) ≤ counted (nat_lt m b)
-one_more m a b low = by_first (nat_lt m a) refl
-  where
-    by_first : (x : Bool) → nat_lt m a ≡ x → counted x ≤ counted (nat_lt m b)
-    by_first true e =
-        let below = below_of m a e in
-        subst (λ y. 1 ≤ counted y) (sym (is_below m b (omega arith))) (omega arith)
-    by_first false e = omega arith
+one_more m a b low = search (below_of, is_below, arith)
 
 rank_cons : (m : ℕ) (ms : List ℕ) (x : ℕ) → rank (m ∷ ms) x ≡ counted (nat_lt m x) + rank ms x
 rank_cons m ms x = sum_by-cons (λ commit. cond (nat_lt commit x) 1 0) m ms
@@ -345,14 +323,11 @@ past_end (x ∷ xs) (suc i) past = past_end xs i (omega arith)
 
 -- all ranks are given once the next stamp is the number of commits and 1
 ranks_given : (at at' : List ℕ) → AreRanked at at at' → AreGiven at' (length at + 1)
-ranks_given at at' ranked c = by_length (nat_lt c (length at)) refl
+ranks_given at at' ranked c = by_length (nat_lt c _) refl
   where
     by_length : (b : Bool) → nat_lt c (length at) ≡ b → get_or at' c 0 < length at + 1
     by_length true e = search (rank_low, below_of, arith)
-    by_length false e =
-        let past = not_below_of c (length at) e in
-        let is = past_end at' c (omega (arith, ranked.lengths)) in
-        omega (arith, is)
+    by_length false e = search (not_below_of, past_end, arith)
 
 pub ranked_order : (old new : CommitStamps) (stamps stamps' : List ℕ)
     → AreRanked old.by_caller old.by_caller new.by_caller → new.next ≡ length old.by_caller + 1

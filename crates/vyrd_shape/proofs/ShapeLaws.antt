@@ -95,18 +95,14 @@ no_block_no_word c w earlier e = cc
 held_open : (by_word : List ℕ) (c d w : ℕ) (earlier : List Entry) → has_block c earlier ≡ false
     → Held by_word d w earlier
     → Held by_word d w (entry c BlockOpen ∷ earlier)
-held_open by_word c d w earlier free was =
-    grind (arith, free, by_same, own_holds, no_block_no_word, holds_other)
+held_open by_word c d w earlier free was = grind arith
 
 never_one : (g n : ℕ) → g ≢ 0 → (released g n == g) ≡ false
 never_one g n some = search (by_same, released, released_own, released_other, differs, arith)
 
 still_one : (g n h : ℕ) → h ≢ g → h ≢ 0 → (released g n == h) ≡ (n == h)
-still_one g n h other some = by_same n g
-    (λ same. ap (λ x. released g x == h) same ∙ ap (λ x. x == h) (released_own g)
-    ∙ (let a : (0 == h) ≡ false = grind (arith, nat_tests) in let b : (n == h)
-    ≡ false = grind (arith, nat_tests) in a ∙ sym b))
-    (λ apart. ap (λ x. x == h) (released_other g n (differs g n apart)))
+still_one g n h other some = search
+    (by_same, released, released_own, released_other, differs, arith)
 
 next_apart : (c d : ℕ) → (c == d) ≡ false → d + 1 ≢ c + 1
 next_apart c d other e = search arith
@@ -114,20 +110,17 @@ next_apart c d other e = search arith
 held_end : (by_word : List ℕ) (c d w : ℕ) (kind : Kind) (earlier : List Entry) → open_or_close kind
     ≡ Some false
     → Held by_word d w earlier → Held (map (released (c + 1)) by_word) d w (entry c kind ∷ earlier)
-held_end by_word c d w kind earlier edge was =
-    by_same c d
-    (λ same. subst (λ x. Held (map (released (c + 1)) by_word) x w (entry c kind ∷ earlier)) same
-    (own_holds c w kind earlier
-    ∙ ap (λ o. unwrap_or (option_or o (first_answer (by_caller c open_or_close) earlier)) false
-    && unwrap_or
-    (option_or (write_or_open w kind) (first_answer (by_caller c (write_or_open w)) earlier)) false)
-    edge
-    ∙ sym (never_one (c + 1) (get_or by_word w 0) (λ e. absurd (omega arith)))
-    ∙ ap (λ x. x == c + 1) (sym (released_at (c + 1) by_word w))))
-    (λ other. holds_other d c w kind earlier other ∙ was
-    ∙ sym (still_one (c + 1) (get_or by_word w 0) (d + 1) (next_apart c d other)
-    (λ e. absurd (omega arith)))
-    ∙ ap (λ x. x == d + 1) (sym (released_at (c + 1) by_word w)))
+held_end by_word c d w kind earlier edge was = search (
+  by_same,
+  released,
+  own_holds,
+  never_one,
+  released_at,
+  holds_other,
+  still_one,
+  next_apart,
+  arith,
+)
 
 -- the list after a write, by whether it is in a block and nobody held the word
 written : Bool → List ℕ → ℕ → ℕ → List ℕ
@@ -138,23 +131,20 @@ held_write_other : (by_word : List ℕ) (held : Bool) (c d w word value : ℕ) (
     → Held by_word d w earlier → Held (written held by_word word c) d w
     (entry c (Write word value) ∷ earlier)
 unfolding written
-held_write_other by_word held c d w word value earlier other was =
-    holds_quiet d c w (Write word value) earlier refl (ap (λ b. cond b (Some true) None) other)
-    ∙ was
-    ∙ ap (λ x. x == d + 1) (by_held held)
+held_write_other by_word held c d w word value earlier other was = holds_quiet d c w
+    (Write word value) _ refl (cc) ∙ was ∙ ap (λ x. x == d + 1) (by_held held)
   where
     by_held : (b : Bool) → get_or by_word w 0 ≡ get_or (cond b (set by_word word (c + 1)) by_word) w
         0
     by_held true =
-        sym (get_or-set_other by_word word w (c + 1) 0 (differs word w (flipped word w other)))
+        cc (get_or-set_other by_word word w (c + 1) 0 (differs word w (flipped word w other)))
     by_held false = refl
 
 -- the word itself, of a caller that isn't in a block
 held_write_out : (by_word : List ℕ) (c d w value : ℕ) (earlier : List Entry) → has_block c earlier
     ≡ false
     → Held by_word d w earlier → Held by_word d w (entry c (Write w value) ∷ earlier)
-held_write_out by_word c d w value earlier out was =
-    grind (arith, by_same, own_holds, no_block_no_word, holds_other)
+held_write_out by_word c d w value earlier out was = grind arith
 
 now_holds : (c w value : ℕ) (earlier : List Entry) → has_block c earlier ≡ true
     → holds_word c w (entry c (Write w value) ∷ earlier) ≡ true
@@ -170,23 +160,19 @@ held_write_free by_word c d w value earlier inside low free was = by_same c d
     (λ same. subst (λ x. Held (set by_word w (c + 1)) x w (entry c (Write w value) ∷ earlier)) same
     (now_holds c w value earlier inside
     ∙ (let here : (c + 1 == c + 1) ≡ true = grind (arith, nat_tests) in sym here)
-    ∙ ap (λ x. x == c + 1) (sym (get_or-set_same by_word w (c + 1) 0 low))))
-    (λ other. holds_other d c w (Write w value) earlier other ∙ was
-    ∙ ap (λ x. x == d + 1) free
+    ∙ ap (λ x. x == c + 1) (sym (get_or-set_same by_word w _ 0 low))))
+    (λ other. holds_other d c w (Write w value) _ other ∙ was ∙ ap (λ x. x == d + 1) free
     ∙ (let apart : d ≢ c = differs c d (flipped c d other) in let a : (0 == d + 1)
     ≡ false = grind (arith, nat_tests) in
     let b : (c + 1 == d + 1) ≡ false = grind (arith, nat_tests) in a ∙ sym b)
-    ∙ ap (λ x. x == d + 1) (sym (get_or-set_same by_word w (c + 1) 0 low)))
+    ∙ ap (λ x. x == d + 1) (sym (get_or-set_same _ w _ 0 low)))
 
 -- the word itself, of a caller in a block that holds it already
 held_write_again : (by_word : List ℕ) (c d w value : ℕ) (earlier : List Entry) → has_block c earlier
     ≡ true → get_or by_word w 0 ≡ c + 1
     → Held by_word d w earlier → Held by_word d w (entry c (Write w value) ∷ earlier)
-held_write_again by_word c d w value earlier inside held was = by_same c d
-    (λ same. subst (λ x. Held by_word x w (entry c (Write w value) ∷ earlier)) same
-    (now_holds c w value earlier inside
-    ∙ (let here : (get_or by_word w 0 == c + 1) ≡ true = grind (arith, nat_tests) in sym here)))
-    (λ other. holds_other d c w (Write w value) earlier other ∙ was)
+held_write_again by_word c d w value earlier inside held was = search
+    (by_same, now_holds, holds_other, arith)
 
 -- nobody held the word, or its writer did
 whose : (callers : ℕ) (by_word : List ℕ) (c w : ℕ) (earlier : List Entry) → get_or by_word w 0
@@ -218,53 +204,42 @@ held_written : (h : Header) (by_word : List ℕ) (c d w value : ℕ) (earlier : 
     → (get_or by_word w 0 == 0) ≡ free
     → Held (cond (inside && free) (set by_word w (c + 1)) by_word) d w
     (entry c (Write w value) ∷ earlier)
-held_written h by_word c d w value earlier before low_d low false free e f =
-    held_write_out by_word c d w value earlier e (before.was d w low_d low)
+held_written h by_word c d w value earlier before low_d low false free e f = search
+    (held_write_out, arith)
 held_written h by_word c d w value earlier before low_d low true true e f =
-    held_write_free by_word c d w value earlier e (omega (arith, before.words))
-    (same_of (get_or by_word w 0) 0 f) (before.was d w low_d low)
-held_written h by_word c d w value earlier before low_d low true false e f =
-    held_write_again by_word c d w value earlier e
-    (whose h.callers by_word c w earlier (before.high w) (λ x low_x. before.was x w low_x low)
-    (not_held h c w value earlier before.rules) f)
+    held_write_free _ c d w value _ e (omega (arith, before.words)) (same_of _ 0 f)
     (before.was d w low_d low)
+held_written h by_word c d w value earlier before low_d low true false e f =
+    held_write_again _ c d w value _ e
+    (whose h.callers _ c w earlier (before.high w) (λ x low_x. before.was x w low_x low)
+    (not_held h c w value _ before.rules) f) (before.was d w low_d low)
 
 held_next : (h : Header) (by_word : List ℕ) (c : ℕ) (kind : Kind) (earlier : List Entry)
     → Before h by_word c kind earlier
     → (d w : ℕ) → d < h.callers → w < plain_words h
     → Held (holders_after by_word (has_block c earlier) c kind) d w (entry c kind ∷ earlier)
 unfolding written
-held_next h by_word c (Call method args) earlier before d w low_d low = holds_quiet d c w
-    (Call method args) earlier refl refl
-    ∙ before.was d w low_d low
-held_next h by_word c (Return reply) earlier before d w low_d low = holds_quiet d c w
-    (Return reply) earlier refl refl ∙ before.was d w low_d low
-held_next h by_word c Commit earlier before d w low_d low = holds_quiet d c w Commit earlier refl
-    refl ∙ before.was d w low_d low
-held_next h by_word c BlockOpen earlier before d w low_d low =
-    held_open by_word c d w earlier (open_kept h c earlier before.rules) (before.was d w low_d low)
+held_next h by_word c (Call method args) earlier before d w low_d low = search (holds_quiet, arith)
+held_next h by_word c (Return reply) earlier before d w low_d low = search (holds_quiet, arith)
+held_next h by_word c Commit earlier before d w low_d low = search (holds_quiet, arith)
+held_next h by_word c BlockOpen earlier before d w low_d low = search (held_open, open_kept, arith)
 held_next h by_word c BlockClose earlier before d w low_d low = held_end by_word c d w BlockClose
     earlier refl (before.was d w low_d low)
 held_next h by_word c BlockCommit earlier before d w low_d low = held_end by_word c d w BlockCommit
     earlier refl (before.was d w low_d low)
 held_next h by_word c (Write word value) earlier before d w low_d low = by_same word w
-    (λ same. at_word d w low_d low same)
-    (λ other. elsewhere other)
+    (λ same. at_word d w low_d low same) (λ other. elsewhere other)
   where
     at_word : (d w : ℕ) → d < h.callers → w < plain_words h → word ≡ w
         → Held (holders_after by_word (has_block c earlier) c (Write word value)) d w
         (entry c (Write word value) ∷ earlier)
-    at_word d w low_d low same =
-        subst (λ x. Held (holders_after by_word (has_block c earlier) c (Write word value)) d x
-        (entry c (Write word value) ∷ earlier)) same
-        (held_written h by_word c d word value earlier before low_d (omega arith)
-        (has_block c earlier) (get_or by_word word 0 == 0) refl refl)
+    at_word d w low_d low same = search (held_written, arith)
 
     elsewhere : (word == w) ≡ false
         → Held (holders_after by_word (has_block c earlier) c (Write word value)) d w
         (entry c (Write word value) ∷ earlier)
-    elsewhere other = held_write_other by_word (has_block c earlier
-        && (get_or by_word word 0 == 0)) c d w word value earlier other (before.was d w low_d low)
+    elsewhere other = held_write_other by_word (has_block c earlier && (get_or by_word word 0 == 0))
+        c d w word value earlier other (before.was d w low_d low)
 
 high_next : (by_word : List ℕ) (inside : Bool) (c n : ℕ) (kind : Kind) → c < n
     → ((w : ℕ) → get_or by_word w 0 ≤ n) → (w : ℕ)
@@ -289,19 +264,14 @@ pub followed_by : (kept : ShapeKept) (earlier : List Entry) (c : ℕ) (kind : Ki
     }) (entry c kind ∷ earlier)
 followed_by kept earlier c kind next commits stamps low phases words is ordered more rules
     followed =
-    let before : Before kept.header kept.holders c kind earlier = record {
-      rules = rules;
-      words = words;
-      high = followed.callers;
-      was = followed.holders;
-    } in
+    let before : Before kept.header kept.holders c kind earlier =
+    record { rules = rules; words = words; high = followed.callers; was = followed.holders } in
     record {
       rules = (rules, followed.rules);
-      phases = phases_next kept.header.callers kept.phases earlier c kind next
+      phases = phases_next _ _ _ c _ _
           (omega arith) is followed.phases;
-      holders = held_next kept.header kept.holders c kind earlier before;
-      callers = high_next kept.holders (has_block c earlier) c kept.header.callers kind low
-          followed.callers;
+      holders = held_next kept.header _ c _ _ before;
+      callers = high_next kept.holders (has_block c _) c _ kind low followed.callers;
       order = ordered;
       numbered = omega (arith, more, followed.numbered);
     }
@@ -401,5 +371,4 @@ clear_rule o raced rule f is = grind arith
 
 pub first_rule : (o : Option Rule) (raced : Bool) (rule : Option Rule) → is_none o ≡ false
     → option_or o (then_some raced BlockRaced) ≡ rule → o ≡ rule
-first_rule None raced rule e is = cc
-first_rule (Some other) raced rule e is = is
+first_rule o raced rule e is = search arith

@@ -13,11 +13,9 @@ amount_given s k a = cc (amount_of-with_amount s k a k, same_number k)
 -- an amount that is given back
 pub given_back : (s : Amounts) (k a : ℕ) → IsAmounts s → with_amount (with_amount s k a) k
     (amount_of s k) ≡ s
-given_back s k a is =
-    same_amounts (with_amount (with_amount s k a) k (amount_of s k)) s
-    (IsAmounts-with_amount (with_amount s k a) k (amount_of s k) (IsAmounts-with_amount s k a is))
-    is
-    (λ q. amount_of-with_amount (with_amount s k a) k (amount_of s k) q ∙ by_key q (q == k) refl)
+given_back s k a is = same_amounts _ s
+    (IsAmounts-with_amount (with_amount s k a) k _ (IsAmounts-with_amount s k a is)) is
+    (λ q. amount_of-with_amount _ k _ q ∙ by_key q (q == k) refl)
   where
     by_key : (q : ℕ) (b : Bool) → (q == k) ≡ b
         → cond b (amount_of s k) (amount_of (with_amount s k a) q) ≡ amount_of s q

@@ -28,10 +28,7 @@ use Rattle.vyrd_spec.proofs.StepLaws.{lone_formed, AllAmounts-with_amount}
 by_append : (Q : Amounts → Type 0) (reply b more : ℕ) (s t : Amounts) → Q s
     → (has_room (amount_of s b) more ≡ true → Q (with_amount s b (joined (amount_of s b) more)))
     → after_append reply s b more ≡ Some t → Q t
-by_append Q reply b more s t kept appended =
-    let room : Bool = has_room (amount_of s b) more in
-    by_replies Q reply _ _ _ t (where_allowed Q (not room) s kept)
-    (where_true Q room (with_amount s b (joined (amount_of s b) more)) appended) tt
+by_append Q reply b more s t kept appended = grind arith
 
 -- a cut to 7 characters or more leaves all
 long_cut : (n text : ℕ) → nat_lt n 7 ≡ false → cut_to n text ≡ text
@@ -44,18 +41,12 @@ cut_stays s k n q none = grind (arith, other_key, or_false, long_cut, same_amoun
 -- a step leaves amounts
 formed : (method : BuffersMethod) (args : Args) (reply : ℕ) (s t : Amounts) → IsAmounts s
     → buffers.next method args reply s ≡ Some t → IsAmounts t
-formed Append args reply s t is =
-    let text : ℕ = amount_of s args.a in
-    by_append IsAmounts reply args.a (args.b + 1) s t is
-    (λ room. IsAmounts-with_amount s args.a (joined text (args.b + 1)) is)
-formed AppendFrom args reply s t is =
-    let text : ℕ = amount_of s args.a in
-    let more : ℕ = amount_of s args.b in
-    by_append IsAmounts reply args.a more s t is
-    (λ room. IsAmounts-with_amount s args.a (joined text more) is)
-formed Cut args reply s t is =
-    by_replies IsAmounts reply _ _ _ t tt
-    (IsAmounts-with_amount s args.a (cut_to args.b (amount_of s args.a)) is) tt
+formed Append args reply s t is = by_append IsAmounts _ _ _ s t is
+    (λ room. IsAmounts-with_amount s _ _ is)
+formed AppendFrom args reply s t is = by_append IsAmounts _ _ _ s t is
+    (λ room. IsAmounts-with_amount s _ _ is)
+formed Cut args reply s t is = by_replies IsAmounts reply _ _ _ t tt
+    (IsAmounts-with_amount s _ _ is) tt
 formed Length args reply s t is = λ e. cc
 formed Read args reply s t is = λ e. cc
 
@@ -63,16 +54,8 @@ formed Read args reply s t is = λ e. cc
 untouched : (method : BuffersMethod) (args : Args) (reply key : ℕ) (s t : Amounts)
     → buffers.next method args reply s ≡ Some t → is_touched (touches method args) key ≡ false
     → amount_of t key ≡ amount_of s key
-untouched Append args reply q s t e none =
-    by_append (Stays s q) reply args.a (args.b + 1) s t refl
-    (λ room. other_key s args.a (joined (amount_of s args.a) (args.b + 1)) q (or_false _ none)) e
-untouched AppendFrom args reply q s t e none =
-    by_append (Stays s q) reply args.a (amount_of s args.b) s t refl
-    (λ room. other_key s args.a (joined (amount_of s args.a) (amount_of s args.b)) q
-    (or_false _ none)) e
-untouched Cut args reply q s t e none = search (by_replies, cut_stays, arith)
-untouched Length args reply q s t e none = cc
-untouched Read args reply q s t e none = cc
+untouched method args reply key s t e none = search
+    (by_append, other_key, joined, or_false, by_replies, cut_stays, arith)
 
 -- an answer is by the amount of its key
 answers : (s t : Amounts) (method : BuffersMethod) (args : Args) → amount_of t args.a
@@ -83,8 +66,7 @@ answers s t method args same = grind arith
 -- an empty buffer has room for each text
 room_in_empty : (more : ℕ) → has_room 0 more ≡ true
 unfolding text_length
-room_in_empty more = is_at_most (text_length 0 + text_length more) 7
-    (omega (arith, length_at_most more))
+room_in_empty more = search (is_at_most, length_at_most, arith)
 
 joined_to_empty : (more : ℕ) → joined 0 more ≡ more
 unfolding text_length
@@ -122,12 +104,10 @@ long_text = 256 ^ 6
 cut_shorter : (n : ℕ) → n < 7 → cut_to n long_text ≢ long_text
 unfolding text_length
 cut_shorter n low = λ same.
-    let smaller : long_text % 256 ^ n < 256 ^ n = mod-lt long_text
-    (one-le-pow n 256 (omega arith)) in
+    let smaller : long_text % 256 ^ n < 256 ^ n = mod-lt _ (one-le-pow n _ (omega arith)) in
     let most : n ≤ 6 = omega arith in
     let power : 256 ^ n ≤ 256 ^ 6 = pow-le-pow_right {n = 256} (omega arith) most in
-    let is_cut : cut_to n long_text ≡ long_text % 256 ^ n =
-    ap (λ b. cond b (long_text % 256 ^ n) long_text) (is_below n 7 low) in
+    let is_cut : cut_to n long_text ≡ long_text % 256 ^ n = cc (is_below n 7 low) in
     absurd (omega (arith, smaller, power, is_cut, same))
 
 cut_changes : (k n q : ℕ) → is_touched (cond (nat_lt n 7) (k ∷ []) []) q ≡ true
@@ -206,18 +186,11 @@ with_text s b text low all small = search (small, AllAmounts-with_amount, arith)
 pub texts_after : (method : BuffersMethod) (args : Args) (reply : ℕ) (s t : Amounts)
     → args.a < 2 ^ 32 → args.b < 2 ^ 32 → AreTexts s → buffers.next method args reply s ≡ Some t
     → AreTexts t
-texts_after Append args reply s t low low_b all =
-    let text : ℕ = amount_of s args.a in
-    by_append AreTexts reply args.a (args.b + 1) s t all
-    (λ room. with_text s args.a (joined text (args.b + 1)) low all
-    (joined_below text (args.b + 1) (is_text s args.a all) (omega arith) room))
-texts_after AppendFrom args reply s t low low_b all =
-    let text : ℕ = amount_of s args.a in
-    let more : ℕ = amount_of s args.b in
-    by_append AreTexts reply args.a more s t all
-    (λ room. with_text s args.a (joined text more) low all
-    (joined_below text more (is_text s args.a all) (is_text s args.b all) room))
-texts_after Cut args reply s t low low_b all =
-    search (by_replies, with_text, cut_below, is_text, arith)
+texts_after Append args reply s t low low_b all = search
+    (by_append, with_text, joined, joined_below, is_text, arith)
+texts_after AppendFrom args reply s t low low_b all = by_append AreTexts _ _ _ s t all
+    (λ room. with_text s _ _ low all (joined_below _ _ (is_text s _ all) (is_text s _ all) room))
+texts_after Cut args reply s t low low_b all = search
+    (by_replies, with_text, cut_below, is_text, arith)
 texts_after Length args reply s t low low_b all = λ e. cc
 texts_after Read args reply s t low low_b all = λ e. cc

@@ -67,10 +67,8 @@ ArePairs s = AllAmounts (λ chunk pair. (chunk < 2 ^ 32) × (pair < 2 ^ 64)) s
 pub pairs_after : (method : CacheMethod) (args : Args) (reply : ℕ) (s t : Amounts)
     → args.a < 2 ^ 32 → args.b < 2 ^ 32 → args.c < 2 ^ 32 → ArePairs s
     → cache.next method args reply s ≡ Some t → ArePairs t
-pairs_after Write args reply s t low low_b low_c all =
-    by_replies ArePairs reply _ _ _ t tt
-    (AllAmounts-with_amount (λ chunk pair. (chunk < 2 ^ 32) × (pair < 2 ^ 64)) s args.a
-    (args.c * 2 ^ 32 + args.b) all
+pairs_after Write args reply s t low low_b low_c all = by_replies ArePairs reply _ _ _ t tt
+    (AllAmounts-with_amount (λ chunk pair. (chunk < 2 ^ 32) × (pair < 2 ^ 64)) s _ _ all
     (λ some. (low, omega arith))) tt
 pairs_after Flush args reply s t low low_b low_c all = by_replies ArePairs reply _ _ _ t tt all tt
 pairs_after Evict args reply s t low low_b low_c all = by_replies ArePairs reply _ _ _ t tt all tt

@@ -18,17 +18,7 @@ pair_shown words h = shown_pair (chunk_at words h)
 -- sound chunks give their pairs, and nothing else
 pub given_pair : (size : ℕ) (words : List ℕ) (h : ℕ) → is_sound_at words h ≡ true
     → chunk_parts size h (chunk_at words h) ≡ (h, pair_shown words h) ∷ []
-given_pair size words h sound =
-    let c : Chunk = chunk_at words h in
-    let whole = first_true (is_chunk c) (not (c.state == 1) || cached_pair c == stored_pair c)
-    sound in
-    let fits = second_true (is_chunk c) (not (c.state == 1) || cached_pair c == stored_pair c)
-    sound in
-    cc (nothing_amiss (c.state == 1) (cached_pair c == stored_pair c) fits)
-  where
-    nothing_amiss : (clean equal : Bool) → (not clean || equal) ≡ true → (clean && not equal)
-        ≡ false
-    nothing_amiss clean equal e = search arith
+given_pair size words h sound = search (first_true, second_true, arith)
 
 -- a sound chunk shows a pair below 2^64
 pub small_pair : (words : List ℕ) (h : ℕ) → is_sound_at words h ≡ true → pair_shown words h < 2 ^ 64

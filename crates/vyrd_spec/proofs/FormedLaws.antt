@@ -53,17 +53,15 @@ formed_then f (Some x) t each e = each x e
 own_formed : (w : Written) (i : ℕ) (args : List ℕ) (reply : ℕ) (s t : State) → IsAmounts s.shown
     → own_next w i args reply s ≡ Some t → IsAmounts t.shown
 unfolding next_of
-own_formed w i args reply s t is = formed_then (λ m. next_of w m args reply s) (own_method w i) t
-    (λ m e. formed_map (with_effects s) (effects_of w m s args reply) t
-    (λ es _. formed_after s es is) e)
+own_formed w i args reply s t is = formed_then (λ m. next_of w m _ _ s) (own_method w i) t
+    (λ m e. formed_map _ _ t (λ es _. formed_after s es is) e)
 
 -- a step leaves amounts
 pub formed_next : (c : Charter) (method : Method) (args : Args) (reply : ℕ) (s t : State)
     → IsAmounts s.shown → (rules_by c).next method args reply s ≡ Some t → IsAmounts t.shown
-formed_next (built_in h) method args reply s t is =
-    formed_map showing (next_state method args reply s.shown) t
-    (λ amounts e. next_state-formed method args reply s.shown amounts is e)
-formed_next (own h lines) method args reply s t is =
-    formed_then (λ i. own_next (written_in lines) i (given (written_in lines) i args) reply s)
+formed_next (built_in h) method args reply s t is = formed_map _ _ t
+    (λ amounts e. next_state-formed method args reply s.shown _ is e)
+formed_next (own h lines) method args reply s t is = formed_then
+    (λ i. own_next (written_in lines) i (given (written_in lines) i args) reply s)
     (own_number method) t
     (λ i. own_formed (written_in lines) i (given (written_in lines) i args) reply s t is)

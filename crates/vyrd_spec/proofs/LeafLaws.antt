@@ -37,9 +37,8 @@ read_at words n j = grind arith
 pub entry_sound : (words : List ℕ) (n j : ℕ) → list_all is_leaf_entry (entries_of words n) ≡ true
     → j < min (count_of words n) 4
     → is_leaf_entry (slice_index words (12 * n + 4 + j), slice_index words (12 * n + 8 + j)) ≡ true
-entry_sound words n j all low =
-    ap is_leaf_entry (sym (read_at words n j))
-    ∙ each_passes (λ i. is_leaf_entry (entry_at words n i)) (min (count_of words n) 4) j
+entry_sound words n j all low = ap is_leaf_entry (sym (read_at words n j))
+    ∙ each_passes (λ i. is_leaf_entry (entry_at words n i)) (min _ 4) j
     (sym (all_entries is_leaf_entry words n) ∙ all) low
 
 -- keys of 32 bits, each with 2^32 at least
@@ -51,14 +50,13 @@ entries_small : (entries : List (ℕ × ℕ)) (s : Amounts) → list_all is_leaf
     → AreLeafAmounts (added s (flat_map entry_parts entries))
 entries_small [] s all small = small
 entries_small (entry ∷ entries) s all small =
-    let sound = first_true (is_leaf_entry entry) (list_all is_leaf_entry entries) all in
-    let numbers = low_numbers entry.0 entry.1 sound in
+    let sound = first_true _ (list_all is_leaf_entry entries) all in
+    let numbers = low_numbers _ entry.1 sound in
     rw (entry_is entry.0 entry.1 sound)
     (entries_small entries (plus_amount s entry.0 (2 ^ 32 + entry.1))
     (second_true (is_leaf_entry entry) (list_all is_leaf_entry entries) all)
     (AllAmounts-with_amount (λ key amount. (key < 2 ^ 32) × (2 ^ 32 ≤ amount)) s entry.0
-    (amount_of s entry.0 + (2 ^ 32 + entry.1)) small
-    (λ some. (numbers.0, omega arith))))
+    (amount_of s entry.0 + (2 ^ 32 + entry.1)) small (λ some. (numbers.0, omega arith))))
 
 pub node_small : (words : List ℕ) (n : ℕ) (s t : Amounts) → t ≡ added s (node_parts words n)
     → list_all is_leaf_entry (entries_of words n) ≡ true → AreLeafAmounts s → AreLeafAmounts t
@@ -84,8 +82,7 @@ pub record LeafWalk (size : ℕ) (words : List ℕ) (values : Amounts) (left nod
 pub walk_begins : (size : ℕ) (words : List ℕ) (values : Amounts) (left : ℕ) → IsTreeOf size words
     → values ≡ [] → left ≡ size
     → LeafWalk size words values left 0
-walk_begins size words values left tree none all =
-    grind (arith, values, left, added, added-collected)
+walk_begins size words values left tree none all = search (added, added-collected, arith)
 
 -- whether the link of a node goes past the nodes or back
 abbrev goes_back : ℕ → List ℕ → List ℕ → ℕ → Bool
@@ -99,17 +96,15 @@ onward : (size : ℕ) (words : List ℕ) (values t : Amounts) (left n : ℕ)
     → goes_back size words walk.seen n ≡ back
     → added t (parts_after size words left walk.seen n ends back)
     ≡ collected (chain_parts size words)
-onward size words values t left n walk ends back more is_end is_back =
-    grind (arith, values, left, ends, back, more, added-append)
+onward size words values t left n walk ends back more is_end is_back = search (added-append, arith)
 
 -- at the node where the chain ends
 pub walk_ends : (size : ℕ) (words : List ℕ) (values t : Amounts) (left n : ℕ)
     → LeafWalk size words values (suc left) n
     → t ≡ added values (node_parts words n) → right_of words n ≡ 0
     → t ≡ collected (chain_parts size words)
-walk_ends size words values t left n walk more ends =
-    onward size words values t left n walk true (goes_back size words walk.seen n) more
-    (is_same (right_of words n) 0 ends) refl
+walk_ends size words values t left n walk more ends = onward size words values t left n walk true
+    (goes_back _ _ _ n) more (is_same _ 0 ends) refl
 
 -- no node that was seen is this one
 unseen : (last : ℕ) (words : List ℕ) (from right : ℕ) (seen : List ℕ)

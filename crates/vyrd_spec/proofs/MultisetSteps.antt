@@ -27,7 +27,7 @@ use Rattle.vyrd_spec.proofs.StepLaws.{AllAmounts-with_amount}
 formed : (method : MultisetMethod) (args : Args) (reply : ℕ) (s t : Amounts) → IsAmounts s
     → multiset.next method args reply s ≡ Some t → IsAmounts t
 formed Insert args reply s t is = by_replies IsAmounts reply _ _ _ t is
-    (IsAmounts-with_amount s args.a (amount_of s args.a + 1) is) tt
+    (IsAmounts-with_amount s _ _ is) tt
 formed InsertPair args reply s t is =
     let one = IsAmounts-with_amount s args.a (amount_of s args.a + 1) is in
     let first : Amounts = plus_amount s args.a 1 in
@@ -35,25 +35,16 @@ formed InsertPair args reply s t is =
     (IsAmounts-with_amount first args.b (amount_of first args.b + 1) one) tt
 formed Delete args reply s t is =
     let less : Amounts = with_amount s args.a (amount_of s args.a - 1) in
-    by_replies IsAmounts reply _ _ _ t (where_allowed IsAmounts (not (is_present s args.a)) s is)
-    (where_allowed IsAmounts (is_present s args.a) less
-    (IsAmounts-with_amount s args.a (amount_of s args.a - 1) is)) tt
+    by_replies IsAmounts reply _ _ _ t (where_allowed IsAmounts (not _) s is)
+    (where_allowed IsAmounts (is_present s _) less (IsAmounts-with_amount s _ _ is)) tt
 formed Lookup args reply s t is = λ e. cc
 
 -- and the keys that it doesn't touch
 untouched : (method : MultisetMethod) (args : Args) (reply key : ℕ) (s t : Amounts)
     → multiset.next method args reply s ≡ Some t → is_touched (touches method args) key ≡ false
     → amount_of t key ≡ amount_of s key
-untouched Insert args reply q s t e none = search (by_replies, other_key, or_false, arith)
-untouched InsertPair args reply q s t e none =
-    let both = neither_true (args.a == q) (args.b == q || false) none in
-    let one : Amounts = plus_amount s args.a 1 in
-    by_replies (Stays s q) reply _ _ _ t refl
-    (other_key one args.b (amount_of one args.b + 1) q (or_false _ both.1)
-    ∙ other_key s args.a (amount_of s args.a + 1) q both.0) tt e
-untouched Delete args reply q s t e none =
-    search (by_replies, where_allowed, other_key, or_false, arith)
-untouched Lookup args reply q s t e none = cc
+untouched method args reply key s t e none = search
+    (by_replies, other_key, or_false, neither_true, where_allowed, arith)
 
 -- an answer is by the amount of its key
 answers : (s t : Amounts) (method : MultisetMethod) (args : Args) → amount_of t args.a
@@ -122,17 +113,14 @@ one_more : (most : ℕ) (s : Amounts) (k : ℕ) → k < 2 ^ 32 → AreCounts mos
     → AreCounts (most + 1) (plus_amount s k 1)
 one_more most s k low all =
     let at = count_at_most most s k all in
-    AllAmounts-with_amount (λ value count. (value < 2 ^ 63) × (count ≤ most + 1)) s k
-    (amount_of s k + 1)
-    (weaker_counts most (most + 1) s (omega arith) all)
-    (λ some. (omega (arith, low), omega (arith, at)))
+    AllAmounts-with_amount (λ value count. (value < 2 ^ 63) × (count ≤ most + 1)) s k _
+    (weaker_counts most _ s (omega arith) all) (λ some. (omega (arith, low), omega (arith, at)))
 
 one_less : (most : ℕ) (s : Amounts) (k : ℕ) → AreCounts most s
     → AreCounts most (with_amount s k (amount_of s k - 1))
 one_less most s k all =
     let at = count_at_most most s k all in
-    AllAmounts-with_amount (λ value count. (value < 2 ^ 63) × (count ≤ most)) s k
-    (amount_of s k - 1) all
+    AllAmounts-with_amount (λ value count. (value < 2 ^ 63) × (count ≤ most)) s k _ all
     (λ some. let there : amount_of s k ≢ 0 = omega (arith, some) in
     ((all k there).0, omega (arith, at)))
 
@@ -142,20 +130,18 @@ pub counts_after : (most : ℕ) (method : MultisetMethod) (args : Args) (reply :
     ≡ Some t → AreCounts (most + 2) t
 counts_after most Insert args reply s t low low_b all =
     let kept = weaker_counts most (most + 2) s (omega arith) all in
-    let more = weaker_counts (most + 1) (most + 2) (plus_amount s args.a 1) (omega arith)
-    (one_more most s args.a low all) in
-    by_replies (AreCounts (most + 2)) reply _ _ _ t kept more tt
+    let more = weaker_counts (most + 1) (most + 2) (plus_amount s _ 1) (omega arith)
+    (one_more _ s _ low all) in
+    by_replies (AreCounts _) reply _ _ _ t kept more tt
 counts_after most InsertPair args reply s t low low_b all =
     let kept = weaker_counts most (most + 2) s (omega arith) all in
-    let more = one_more (most + 1) (plus_amount s args.a 1) args.b low_b
-    (one_more most s args.a low all) in
-    let both = weaker_counts (most + 1 + 1) (most + 2)
-    (plus_amount (plus_amount s args.a 1) args.b 1) (omega arith) more in
-    by_replies (AreCounts (most + 2)) reply _ _ _ t kept both tt
+    let more = one_more (most + 1) (plus_amount s args.a 1) args.b low_b (one_more _ s _ low all) in
+    let both = weaker_counts (most + 1 + 1) (most + 2) (plus_amount (plus_amount s _ 1) args.b 1)
+    (omega arith) more in
+    by_replies (AreCounts _) reply _ _ _ t kept both tt
 counts_after most Delete args reply s t low low_b all =
-    let Q : Amounts → Type 0 = AreCounts (most + 2) in
+    let Q : Amounts → Type 0 = AreCounts _ in
     let kept = weaker_counts most (most + 2) s (omega arith) all in
     let less = one_less (most + 2) s args.a kept in
-    by_replies Q reply _ _ _ t (where_allowed Q (not (is_present s args.a)) s kept)
-    (where_allowed Q (is_present s args.a) _ less) tt
+    by_replies Q reply _ _ _ t (where_allowed Q _ s kept) (where_allowed Q _ _ less) tt
 counts_after most Lookup args reply s t low low_b all = λ e. cc

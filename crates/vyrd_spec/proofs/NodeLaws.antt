@@ -137,8 +137,7 @@ pub entries_fail : (p : ℕ × ℕ → Bool) (words : List ℕ) (n j : ℕ) → 
     → p (entry_at words n j) ≡ false
     → false ≡ list_all p (entries_of words n)
 entries_fail p words n j low fails =
-    sym (all_entries p words n ∙ one_fails (λ i. p (entry_at words n i)) (min (count_of words n) 4)
-    j low fails)
+    sym (all_entries p _ n ∙ one_fails (λ i. p _) (min _ 4) j low fails)
 
 pub entries_pass : (p : ℕ × ℕ → Bool) (words : List ℕ) (n m : ℕ) → m ≡ min (count_of words n) 4
     → list_all (λ j. p (entry_at words n j)) (numbers_below m) ≡ true

@@ -33,37 +33,29 @@ one_more : (f : ℕ → ℕ) (q n : ℕ) → cond (nat_lt q n) (f q) 0 + part_gi
 one_more f q n = grind (arith, below_of, same_of, is_below, isnt_below, not_below_of, apart_of)
 
 given_numbered : (f : ℕ → ℕ) (q n : ℕ) → given q (numbered f n) ≡ cond (nat_lt q n) (f q) 0
-given_numbered f q zero = ap (λ t. cond {A = ℕ} t (f q) 0) (sym (isnt_below q 0 (omega arith)))
+given_numbered f q zero = cc (isnt_below q 0 (omega arith))
 given_numbered f q (suc n) =
     let one : suc n ≡ n + 1 = omega arith in
     ap (λ k. given q (numbered f k)) one ∙ ap (λ ks. given q (map (pair_by f) ks))
-    (numbers_below-push n)
-    ∙ ap (given q) (map_push f (numbers_below n) n) ∙ given-append q (numbered f n) ((n, f n) ∷ [])
+    (numbers_below-push n) ∙ ap (given q) (map_push f _ n) ∙ given-append q _ _
     ∙ (let z : given q (numbered f n) + (part_given q (n, f n) + 0) ≡ given q (numbered f n)
-    + part_given q (n, f n) = omega arith in z)
-    ∙ ap (λ m. m + part_given q (n, f n)) (given_numbered f q n) ∙ one_more f q n
+    + part_given q (n, f n) = omega arith in z) ∙ ap (λ m. m + part_given q (n, f n))
+    (given_numbered f q n) ∙ one_more f q n
 
 -- the amount of a key is its element
 pub row_amount : (row : List ℕ) (q : ℕ) → amount_of (row_amounts row) q ≡ get_or row q 0
 unfolding row_amounts
-row_amount row q =
-    amount_of-collected (numbered (λ h. get_or row h 0) (length row)) q
-    ∙ given_numbered (λ h. get_or row h 0) q (length row)
-    ∙ by_place (nat_lt q (length row)) refl
+row_amount row q = amount_of-collected _ q ∙ given_numbered _ q _ ∙ by_place (nat_lt q _) refl
   where
     by_place : (b : Bool) → nat_lt q (length row) ≡ b → cond b (get_or row q 0) 0 ≡ get_or row q 0
     by_place true e = refl
-    by_place false e = sym (get_or_past row q 0 (not_below_of q (length row) e))
+    by_place false e = sym (get_or_past _ q 0 (not_below_of q _ e))
 
 -- a key has a new amount
 pub row_set : (row : List ℕ) (h a : ℕ) → h < length row → row_amounts (set row h a)
     ≡ with_amount (row_amounts row) h a
-row_set row h a low =
-    same_amounts (row_amounts (set row h a)) (with_amount (row_amounts row) h a)
-    (row_formed (set row h a))
-    (IsAmounts-with_amount (row_amounts row) h a (row_formed row))
-    (λ q. row_amount (set row h a) q ∙ by_key q (q == h) refl
-    ∙ sym (amount_of-with_amount (row_amounts row) h a q))
+row_set row h a low = same_amounts _ _ (row_formed _) (IsAmounts-with_amount _ h a (row_formed _))
+    (λ q. row_amount _ q ∙ by_key q (q == h) refl ∙ sym (amount_of-with_amount _ h a q))
   where
     by_key : (q : ℕ) (b : Bool) → (q == h) ≡ b → get_or (set row h a) q 0 ≡ cond (q == h) a
         (amount_of (row_amounts row) q)
@@ -77,9 +69,7 @@ nothing_there (suc n) zero = refl
 nothing_there (suc n) (suc q) = nothing_there n q
 
 pub nothing_in_row : (n : ℕ) → row_amounts (replicate n 0) ≡ []
-nothing_in_row n = same_amounts (row_amounts (replicate n 0)) [] (row_formed (replicate n 0))
-    (record { rising = tt; some = tt })
-    (λ q. row_amount (replicate n 0) q ∙ nothing_there n q)
+nothing_in_row n = search (same_amounts, row_formed, row_amount, nothing_there, arith)
 
 -- a view has the amounts of the keys below n
 pub record HasBelow (row : List ℕ) (n : ℕ) (view : Amounts) : Type 0 where

@@ -157,24 +157,17 @@ only_found p (suc m) n one low here =
     ≤ 1 = omega (arith, one, ap (λ k. count_by p (numbers_below k)) e) in
     cc (
       find-push p m,
-      by_place (m == n) refl grown (λ lower fewer. only_found p m n fewer lower
-          here),
+      by_place (m == n) refl grown
+          (λ lower fewer. only_found p m n fewer lower here),
     )
   where
-    kept : (o : Option ℕ) → o ≡ Some n → (x : Option ℕ) → option_or o x ≡ Some n
-    kept o f x = search arith
-
     by_place : (b : Bool) → (m == n) ≡ b → count_by p (numbers_below (m + 1)) ≤ 1
         → (n < m → count_by p (numbers_below m) ≤ 1 → find p (numbers_below m) ≡ Some n)
         → option_or (find p (numbers_below m)) (cond (p m) (Some m) None) ≡ Some n
-    by_place true f few later = by_found (find p (numbers_below m)) refl (same_of m n f) few
+    by_place true f few later = by_found (find p _) refl (same_of m n f) few
       where
         by_found : (o : Option ℕ) → find p (numbers_below m) ≡ o → m ≡ n
             → count_by p (numbers_below (m + 1)) ≤ 1
             → option_or (find p (numbers_below m)) (cond (p m) (Some m) None) ≡ Some n
         by_found o g same few' = search (count-push, some_found, is_some, arith)
-    by_place false f few later =
-        kept (find p (numbers_below m))
-        (later (let apart = apart_of m n f in omega (arith, low, apart))
-        (let grows = count_grows p m (m + 1) (omega arith) in omega (arith, grows, few)))
-        (cond (p m) (Some m) None)
+    by_place false f few later = search (apart_of, count_grows, arith)

@@ -53,14 +53,11 @@ pub record AreFormed (r : Rules) : Type 0 where
   pub view : (words : List ℕ) → IsAmounts (r.view words)
 
 unless_formed : (b : Bool) (s : Amounts) → IsAmounts s → IsAmounts (cond b [] s)
-unless_formed true s is = no_amounts
-unless_formed false s is = is
+unless_formed b s is = search (no_amounts, arith)
 
 own_view_formed : (w : Written) (words : List ℕ) → IsAmounts (own_view w words)
 unfolding view_of
-own_view_formed w words =
-    unless_formed (w.words == 0) (view_of w words) (IsAmounts-collected (flat_map
-    (λ i. part_gives w i (part_words w words i)) (numbers_below (length words / w.words))))
+own_view_formed w words = search (unless_formed, IsAmounts-collected, arith)
 
 view_formed : (c : Charter) (words : List ℕ) → IsAmounts ((rules_by c).view words)
 unfolding view_of_words
@@ -80,8 +77,7 @@ pub record StartsFew (r : Rules) (words : List ℕ) (state : State) : Type 0 whe
   pub formed : IsAmounts state.shown
 
 unless_few : (b : Bool) (s t : Amounts) → s ≡ t → length (cond b [] s) ≤ length t
-unless_few true s t same = omega arith
-unless_few false s t same = let long = ap length same in omega (arith, long)
+unless_few b s t same = search arith
 
 built_starts : (h : Header) (words : List ℕ) (state : State) (b : Bool)
     → option_map showing (then_some b (view_of_words h words)) ≡ Some state
@@ -106,9 +102,8 @@ own_starts h lines words state false begins = cc
 pub starts_few : (c : Charter) (words : List ℕ) (state : State)
     → length words ≡ plain_words (rules_by c).header → (rules_by c).start words ≡ Some state
     → StartsFew (rules_by c) words state
-starts_few (built_in h) words state many begins =
-    built_starts h words state (is_sound h.subject h.size words)
-    (ap (option_map showing) (sym (with_free_locks h words many)) ∙ begins)
+starts_few (built_in h) words state many begins = built_starts h _ _
+    (is_sound h.subject h.size words) (ap (option_map _) (sym (with_free_locks h _ many)) ∙ begins)
 starts_few (own h lines) words state many begins = search (own_starts, begins, arith)
 
 -- each part shows one key at most
@@ -133,13 +128,12 @@ few_with s k a is = by_zero (a == 0)
 
 few_collected : (parts : List (ℕ × ℕ)) → length (collected parts) ≤ length parts
 few_collected [] = omega arith
-few_collected (part ∷ parts) =
-    omega (
-      arith,
-      few_collected parts,
-      few_with (collected parts) part.0
-          (amount_of (collected parts) part.0 + part.1) (IsAmounts-collected parts),
-    )
+few_collected (part ∷ parts) = grind (
+  arith,
+  few_collected parts,
+  few_with (collected parts) part.0
+      (amount_of (collected parts) part.0 + part.1) (IsAmounts-collected parts),
+)
 
 -- lists of so many elements at most, one after the other
 few_flat : {A : Type 0} (f : ℕ → List A) (most : ℕ) → ((i : ℕ) → length (f i) ≤ most)
@@ -222,13 +216,7 @@ length-map f (x ∷ xs) = ap suc (length-map f xs)
 few_given : (w : Written) (i : ℕ) (words : List ℕ)
     → length (part_gives w i words) ≤ length w.shows
 unfolding part_gives
-few_given w i words = by_test (list_all (λ word. word == 0) words)
-  where
-    by_test : (b : Bool) → length (cond b [] (map (given_by (w.constants ++ i ∷ words)) w.shows))
-        ≤ length w.shows
-    by_test true = omega arith
-    by_test false =
-        let all = length-map (given_by (w.constants ++ i ∷ words)) w.shows in omega (arith, all)
+few_given w i words = search (length-map, arith)
 
 few_own : (w : Written) (words : List ℕ) → length (own_view w words) ≤ length words * length w.shows
 unfolding view_of
@@ -252,8 +240,4 @@ few_own w words = by_parts (w.words == 0)
 pub few_view : (c : Charter) (words : List ℕ) → length words ≡ plain_words (rules_by c).header
     → length ((rules_by c).view words) ≤ most_shown c
 unfolding view_of_words
-few_view (built_in h) words many =
-    omega (arith, few_collected (parts_of h.subject h.size words), few_parts h.subject h.size words)
-few_view (own h lines) words many =
-    let most = ap (λ n. n * length (written_in lines).shows) many in
-    omega (arith, few_own (written_in lines) words, most)
+few_view c words many = search (few_collected, parts_of, few_parts, own, few_own, arith)

@@ -31,7 +31,6 @@ pub small_value : (words : List ℕ) (n q : ℕ) → All (λ word. word < 2 ^ 63
 small_value words n q small some =
     grind (
       arith,
-      small,
       small_word,
       not_below_of,
       below_of,

@@ -69,8 +69,7 @@ unfolding row_amounts
 row_shows p f parts alone n row some =
     ap (λ m. collected (map (λ i. (i, get_or row i 0)) (numbers_below m))) (many_in p f n row some)
     ∙ ap collected (map_alike (λ i. (i, get_or row i 0)) (λ i. (i, f i)) n
-    (λ i low. ap (λ value. (i, value)) (ap (λ xs. get_or xs i 0) (sym (values p f n row some))
-    ∙ element_below f n i 0 low)))
+    (λ i low. cc (values p f n row some, element_below f n i 0 low)))
     ∙ ap collected (sym (parts_from p f parts alone 0 n (sound_where p f n row some)))
 
 -- the amounts of sound parts are below what the value of each is

@@ -53,18 +53,17 @@ where_true Q false s h = tt
 pub AllAmounts-with_amount : (passes : ℕ → ℕ → Type 0) (s : Amounts) (k a : ℕ) → AllAmounts passes s
     → (a ≢ 0 → passes k a)
     → AllAmounts passes (with_amount s k a)
-AllAmounts-with_amount passes s k a all new =
-    λ q. by_key q (amount_of (with_amount s k a) q) (amount_of-with_amount s k a q) (q == k) refl
+AllAmounts-with_amount passes s k a all new = λ q. by_key q (amount_of _ q)
+    (amount_of-with_amount s k a q) (q == k) refl
   where
     by_key : (q n : ℕ) → n ≡ cond (q == k) a (amount_of s q) → (b : Bool) → (q == k) ≡ b → n ≢ 0
         → passes q n
     by_key q n is true e some =
-        let given : n ≡ a = is ∙ ap (λ b. cond b a (amount_of s q)) e in
-        subst (λ m. passes q m) (sym given)
-        (subst (λ x. passes x a) (sym (same_of q k e)) (new (λ z. some (given ∙ z))))
+        let given : n ≡ a = cc in
+        rw given (rw (same_of q k e) (new (λ z. some (given ∙ z))))
     by_key q n is false e some =
-        let kept : n ≡ amount_of s q = is ∙ ap (λ b. cond b a (amount_of s q)) e in
-        subst (λ m. passes q m) (sym kept) (all q (λ z. some (kept ∙ z)))
+        let kept : n ≡ amount_of s q = cc in
+        rw kept (all q (λ z. some (kept ∙ z)))
 
 -- a key other than the one that gets an amount
 pub other_key : (s : Amounts) (k a q : ℕ) → (k == q) ≡ false → amount_of (with_amount s k a) q

@@ -64,9 +64,7 @@ touched_changes (OwnOnce i) = λ args key e. cc
 -- the amounts with those of some keys in other amounts
 pub with_formed : (ks : List ℕ) (t s : Amounts) → IsAmounts s → IsAmounts (with_touched ks t s)
 with_formed [] t s is = is
-with_formed (k ∷ ks) t s is =
-    with_formed ks t (with_amount s k (amount_of t k))
-    (IsAmounts-with_amount s k (amount_of t k) is)
+with_formed (k ∷ ks) t s is = with_formed ks t (with_amount s k _) (IsAmounts-with_amount s k _ is)
 
 -- one key with its amount in other amounts, which another key hasn't changed
 key_amount : (k : ℕ) (t s : Amounts) (q : ℕ)
@@ -97,10 +95,8 @@ with_amounts (k ∷ ks) t s q =
 pub touched_makes : (method : Method) (args : Args) (reply : ℕ) (s t : Amounts) → IsAmounts s
     → next_state method args reply s ≡ Some t
     → with_touched (touched_by method args) t s ≡ t
-touched_makes method args reply s t is e =
-    same_amounts (with_touched keys t s) t (with_formed keys t s is)
-    (next_state-formed method args reply s t is e)
-    (λ q. with_amounts keys t s q ∙ by_test q (is_touched keys q) refl)
+touched_makes method args reply s t is e = same_amounts _ t (with_formed keys t s is)
+    (next_state-formed _ _ _ s t is e) (λ q. with_amounts _ t s q ∙ by_test q (is_touched _ q) refl)
   where
     keys : List ℕ
     keys = touched_by method args
@@ -108,7 +104,7 @@ touched_makes method args reply s t is e =
     by_test : (q : ℕ) (b : Bool) → is_touched keys q ≡ b
         → cond b (amount_of t q) (amount_of s q) ≡ amount_of t q
     by_test q true touched = refl
-    by_test q false none = sym (untouched method args reply q s t e none)
+    by_test q false none = sym (untouched _ _ _ q s t e none)
 
 -- after a step that doesn't touch its key an observer answers as before
 pub same_answer : (method : Method) (args : Args) (reply : ℕ) (s t : Amounts)

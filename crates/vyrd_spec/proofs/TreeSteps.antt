@@ -21,15 +21,13 @@ use Rattle.vyrd_spec.proofs.StepLaws.{AllAmounts-with_amount}
 formed : (method : TreeMethod) (args : Args) (reply : ℕ) (s t : Amounts) → IsAmounts s
     → tree.next method args reply s ≡ Some t → IsAmounts t
 formed Insert args reply s t is =
-    let set : IsAmounts (with_amount s args.a (2 ^ 32 + args.b)) = IsAmounts-with_amount s args.a
-    (2 ^ 32 + args.b) is in
-    by_replies IsAmounts reply _ _ _ t is
-    (where_allowed IsAmounts (not (is_present s args.a)) _ set)
-    (where_allowed IsAmounts (is_present s args.a) _ set)
-formed Delete args reply s t is =
-    by_replies IsAmounts reply _ _ _ t (where_allowed IsAmounts (not (is_present s args.a)) s is)
-    (where_allowed IsAmounts (is_present s args.a) (with_amount s args.a 0)
-    (IsAmounts-with_amount s args.a 0 is)) tt
+    let set : IsAmounts (with_amount s args.a (2 ^ 32 + args.b)) = IsAmounts-with_amount s _ _ is in
+    by_replies IsAmounts reply _ _ _ t is (where_allowed IsAmounts (not _) _ set)
+    (where_allowed IsAmounts (is_present s _) _ set)
+formed Delete args reply s t is = by_replies IsAmounts reply _ _ _ t
+    (where_allowed IsAmounts (not _) s is)
+    (where_allowed IsAmounts (is_present s _) (with_amount s _ 0) (IsAmounts-with_amount s _ 0 is))
+    tt
 formed Lookup args reply s t is = λ e. cc
 
 -- and the keys that it doesn't touch
@@ -37,12 +35,11 @@ untouched : (method : TreeMethod) (args : Args) (reply key : ℕ) (s t : Amounts
     → tree.next method args reply s ≡ Some t → is_touched (touches method args) key ≡ false
     → amount_of t key ≡ amount_of s key
 untouched Insert args reply q s t e none =
-    search (other_key, or_false, by_replies, where_allowed, arith)
-untouched Delete args reply q s t e none =
-    by_replies (Stays s q) reply _ _ _ t
-    (where_allowed (Stays s q) (not (is_present s args.a)) s refl)
-    (where_allowed (Stays s q) (is_present s args.a) (with_amount s args.a 0)
-    (other_key s args.a 0 q (or_false _ none))) tt e
+    grind (arith, other_key, or_false, by_replies, where_allowed)
+untouched Delete args reply q s t e none = by_replies (Stays s q) reply _ _ _ t
+    (where_allowed (Stays s q) (not _) s refl)
+    (where_allowed (Stays s q) (is_present s _) (with_amount s _ 0)
+    (other_key s _ 0 q (or_false _ none))) tt e
 untouched Lookup args reply q s t e none = cc
 
 -- an answer is by the amount of its key
@@ -93,17 +90,15 @@ pub values_after : (method : TreeMethod) (args : Args) (reply : ℕ) (s t : Amou
     → args.a < 2 ^ 32 → args.b < 2 ^ 32 → AreValues s → tree.next method args reply s ≡ Some t
     → AreValues t
 values_after Insert args reply s t low low_b all =
-    let set : AreValues (with_amount s args.a (2 ^ 32 + args.b)) =
-    AllAmounts-with_amount (λ key amount. (key < 2 ^ 32) × (2 ^ 32 ≤ amount) × (amount < 2 ^ 64)) s
-    args.a (2 ^ 32 + args.b) all
+    let set : AreValues (with_amount s args.a (2 ^ 32 + args.b)) = AllAmounts-with_amount
+    (λ key amount. (key < 2 ^ 32) × (2 ^ 32 ≤ amount) × (amount < 2 ^ 64)) s _ _ all
     (λ some. (low, omega arith, omega arith)) in
-    by_replies AreValues reply _ _ _ t all
-    (where_allowed AreValues (not (is_present s args.a)) _ set)
-    (where_allowed AreValues (is_present s args.a) _ set)
+    by_replies AreValues reply _ _ _ t all (where_allowed AreValues (not _) _ set)
+    (where_allowed AreValues (is_present s _) _ set)
 values_after Delete args reply s t low low_b all =
-    let gone : AreValues (with_amount s args.a 0) =
-    AllAmounts-with_amount (λ key amount. (key < 2 ^ 32) × (2 ^ 32 ≤ amount) × (amount < 2 ^ 64)) s
-    args.a 0 all (λ some. absurd (some refl)) in
-    by_replies AreValues reply _ _ _ t (where_allowed AreValues (not (is_present s args.a)) s all)
-    (where_allowed AreValues (is_present s args.a) _ gone) tt
+    let gone : AreValues (with_amount s args.a 0) = AllAmounts-with_amount
+    (λ key amount. (key < 2 ^ 32) × (2 ^ 32 ≤ amount) × (amount < 2 ^ 64)) s _ 0 all
+    (λ some. absurd (some refl)) in
+    by_replies AreValues reply _ _ _ t (where_allowed AreValues (not _) s all)
+    (where_allowed AreValues (is_present s _) _ gone) tt
 values_after Lookup args reply s t low low_b all = λ e. cc

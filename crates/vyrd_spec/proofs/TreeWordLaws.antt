@@ -45,9 +45,8 @@ tree_is size words low within = grind (arith, within, is_below, is_at_most, last
 each_sound : (last : ℕ) (words : List ℕ) (highest n : ℕ)
     → list_all (is_sound_below last words highest) (nodes last) ≡ true → n ≤ last
     → IsSoundNode last words n
-each_sound last words highest n all low =
-    sound_node last words n
-    (second_true (nat_le (level_of words n) highest) (is_sound_node last words n)
+each_sound last words highest n all low = sound_node _ _ n
+    (second_true (nat_le (level_of words n) highest) _
     (each_passes (is_sound_below last words highest) (last + 1) n all (omega (arith, low))))
 
 one_link : (last : ℕ) (words : List ℕ) (n : ℕ) → IsSoundNode last words n
@@ -69,9 +68,8 @@ two_links size words low within twice = sym (tree_is size words low within ∙ b
     by_all : (b : Bool) → all ≡ b
         → (level_of words 0 == 0 && is_first last words (root_of size words) && all) ≡ false
     by_all true e =
-        let one : have_one_left last words ≡ true =
-        all_pass (λ q. nat_le (count_by (leads_to words q) (nodes last)) 1) (last + 1)
-        (λ q below. one_link last words q
+        let one : have_one_left last words ≡ true = all_pass _ (last + 1)
+        (λ q below. one_link last _ q
         (each_sound last words (level_of words (root_of size words)) q e (omega (arith, below)))) in
         let no : false ≡ true = sym twice ∙ one in cc
     by_all false e = search arith
@@ -108,8 +106,7 @@ pub record LeadsOn (last : ℕ) (words : List ℕ) (n : ℕ) : Type 0 where
   pub above : low_of last words n < bound_of words n
 
 or_second : (a b : Bool) → (a || b) ≡ true → a ≡ false → b ≡ true
-or_second true b e f = let no : true ≡ false = f in cc
-or_second false b e f = e
+or_second a b e f = search arith
 
 pub leads_on : (size : ℕ) (words : List ℕ) (n : ℕ) → IsTreeOf size words → n ≤ last_of size words
     → right_of words n ≢ 0

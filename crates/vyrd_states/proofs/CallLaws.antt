@@ -104,11 +104,8 @@ execution_is front at c x is = by_call (open_call c (newest_first (take at front
         × (x ≡ execution_of_call front at c (called_by x))
     by_call None none = let nothing = execution_none front at c none in cc
     by_call (Some called) some =
-        let same : execution_of_call front at c called ≡ x =
-        same_Some _ _ (sym (execution_some front at c called some) ∙ is) in (
-          some ∙ ap (λ y. Some (called_by y)) same,
-          sym same ∙ ap (λ y. execution_of_call front at c (called_by y)) same,
-        )
+        let same : execution_of_call front at c called ≡ x = same_Some _ _
+        (sym (execution_some front at c called some) ∙ is) in (cc, cc)
 
 -- and it is none if there is no call
 pub no_execution : (front : List Entry) (at c : ℕ) → execution_in front at c ≡ None
@@ -152,9 +149,8 @@ execution_mutates h front at e x here commits kept is =
 next_return-reply : (c at : ℕ) (later : List Entry)
     → option_map (λ back. back.reply) (next_return c at later) ≡ next_reply c later
 next_return-reply c at [] = refl
-next_return-reply c at (e ∷ later) =
-    by_entry (e.caller == c) (returned e.kind) (next_return c (at + 1) later) (next_reply c later)
-    (next_return-reply c (at + 1) later)
+next_return-reply c at (e ∷ later) = by_entry (e.caller == c) (returned _) (next_return c _ _)
+    (next_reply c _) (next_return-reply c (at + 1) later)
   where
     by_entry : (b : Bool) (o : Option ℕ) (p : Option Returned) (q : Option ℕ)
         → option_map (λ back. back.reply) p ≡ q

@@ -31,10 +31,8 @@ GoesOn r states earlier later (Some s) =
 state_there : (r : Rules) (states : List State) (earlier later : List Entry) (o : Option State)
     → GoesOn r states earlier later o → slice_get states (commit_count earlier) ≡ o
 unfolding GoesOn
-state_there r states earlier later None past =
-    slice_get_past states (commit_count earlier) past
-state_there r states earlier later (Some s) going =
-    state_here r states earlier s (commits_after earlier later) going
+state_there r states earlier later None past = slice_get_past states (commit_count earlier) past
+state_there r states earlier later (Some s) going = search (state_here, arith)
 
 -- the state after one more entry
 abbrev beyond : Rules → Entry → List Entry → List Entry → State → Option State
@@ -44,8 +42,7 @@ beyond r e earlier later s =
 goes_on_first : (r : Rules) (front : List Entry) (o : Option State)
     → GoesOn r (states_of r o front) [] front o
 unfolding GoesOn commits
-goes_on_first r front None = omega arith
-goes_on_first r front (Some s) = refl
+goes_on_first r front o = search arith
 
 ended_next : (r : Rules) (states : List State) (e : Entry) (earlier later : List Entry)
     → GoesOn r states earlier (e ∷ later) None → GoesOn r states (e ∷ earlier) later None
@@ -61,17 +58,15 @@ commit_next : (r : Rules) (states : List State) (e : Entry) (earlier later : Lis
     → state_after r s (committed_at (place_of e earlier later)) ≡ o
     → GoesOn r states earlier (e ∷ later) (Some s) → GoesOn r states (e ∷ earlier) later o
 unfolding GoesOn
-commit_next r states e earlier later s None commits after going =
-    ending-commit r states e earlier later s commits after going
-commit_next r states e earlier later s (Some next) commits after going =
-    going-commit r states e earlier later s next commits after going
+commit_next r states e earlier later s None commits after going = search (ending-commit, arith)
+commit_next r states e earlier later s (Some next) commits after going = search
+    (going-commit, arith)
 
 quiet_next : (r : Rules) (states : List State) (e : Entry) (earlier later : List Entry) (s : State)
     → is_commit e.kind ≡ false
     → GoesOn r states earlier (e ∷ later) (Some s) → GoesOn r states (e ∷ earlier) later (Some s)
 unfolding GoesOn
-quiet_next r states e earlier later s quiet going =
-    going-quiet r states e earlier later s quiet going
+quiet_next r states e earlier later s quiet going = search (going-quiet, arith)
 
 some_next : (r : Rules) (states : List State) (e : Entry) (earlier later : List Entry) (s : State)
     → GoesOn r states earlier (e ∷ later) (Some s)
@@ -89,9 +84,7 @@ pub later_is : (front : List Entry) (n : ℕ) (e : Entry) → slice_get front n 
 later_is front n e here =
     let within = slice_get_within front n e here in
     let more : suc n ≡ n + 1 = omega arith in
-    drop-cons front n e within
-    ∙ ap (λ x. x ∷ drop (suc n) front) (get_or_from_slice_get front n e e here)
-    ∙ ap (λ k. e ∷ drop k front) more
+    cc (drop-cons front n e within, get_or_from_slice_get front n e e here)
 
 pub earlier_is : (front : List Entry) (n : ℕ) (e : Entry) → slice_get front n ≡ Some e
     → newest_first (take (n + 1) front) ≡ e ∷ newest_first (take n front)
@@ -104,8 +97,7 @@ goes_on_past : (r : Rules) (states : List State) (front : List Entry) (n : ℕ) 
     → GoesOn r states (newest_first (take n front)) (drop n front) o
     → GoesOn r states (newest_first (take (n + 1) front)) (drop (n + 1) front)
     (option_and_then (beyond r e (newest_first (take n front)) (drop (n + 1) front)) o)
-goes_on_past r states front n e o here goes =
-    grind (arith, here, earlier_is, goes_on_next, later_is)
+goes_on_past r states front n e o here goes = search (earlier_is, goes_on_next, later_is, arith)
 
 -- an entry at each place
 pub some_at : (front : List Entry) (n : ℕ) → n < length front
@@ -118,27 +110,20 @@ some_at (x ∷ xs) (suc n) within = some_at xs n (omega (arith, within))
 goes_on_at : (r : Rules) (starting : List StartWord) (front : List Entry) (n : ℕ)
     → n ≤ length front → (o : Option State)
     × GoesOn r (states_along r starting front) (newest_first (take n front)) (drop n front) o
-goes_on_at r starting front zero within =
-    (state_at_start r starting, goes_on_first r front (state_at_start r starting))
+goes_on_at r starting front zero within = (state_at_start r _, goes_on_first r _ _)
 goes_on_at r starting front (suc n) within =
     let more : n + 1 ≡ suc n = omega arith in
     let e = some_at front n (omega (arith, within)) in
     let before = goes_on_at r starting front n (omega (arith, within)) in
     let earlier = newest_first (take n front) in
     let o = option_and_then (beyond r e.0 earlier (drop (n + 1) front)) before.0 in
-    let P : ℕ → Type 0 = λ k. GoesOn r (states_along r starting front)
-    (newest_first (take k front)) (drop k front) o in (
-      o,
-      subst P more
-          (goes_on_past r (states_along r starting front) front n e.0 before.0 e.1 before.1),
-    )
+    let P : ℕ → Type 0 = λ k. GoesOn r (states_along r starting front) (newest_first (take k front))
+    (drop k front) o in (o, subst P more (goes_on_past r _ front n e.0 before.0 e.1 before.1))
 
 -- the state before the first entry
 pub state_then-first : (r : Rules) (starting : List StartWord) (front : List Entry)
     → state_then r starting front 0 ≡ state_at_start r starting
-state_then-first r starting front =
-    state_there r (states_along r starting front) [] front (state_at_start r starting)
-    (goes_on_first r front (state_at_start r starting))
+state_then-first r starting front = state_there r _ [] front _ (goes_on_first r _ _)
 
 -- the state after one entry more
 next_by_entry : (r : Rules) (starting : List StartWord) (front : List Entry) (n : ℕ) (e : Entry)
@@ -148,22 +133,19 @@ next_by_entry r starting front n e here =
     let low = slice_get_within front n e here in
     let goes = goes_on_at r starting front n (omega (arith, low)) in
     let states = states_along r starting front in
-    let earlier = newest_first (take n front) in
+    let earlier = newest_first (take n _) in
     let later = drop (n + 1) front in
-    let there : state_then r starting front n ≡ goes.0 =
-    state_there r states earlier (drop n front) goes.0 goes.1 in
-    state_there r states (newest_first (take (n + 1) front)) later
-    (option_and_then (beyond r e earlier later) goes.0)
-    (goes_on_past r states front n e goes.0 here goes.1)
-    ∙ ap (option_and_then (beyond r e earlier later)) (sym there)
+    let there : state_then r starting front n ≡ goes.0 = state_there r states earlier
+    (drop n _) _ goes.1 in
+    state_there r states (newest_first (take (n + 1) front)) later _
+    (goes_on_past r _ front n e goes.0 here goes.1) ∙ ap (option_and_then _) (sym there)
 
 pub state_then-next : (r : Rules) (starting : List StartWord) (front : List Entry) (n : ℕ)
     → n < length front → state_then r starting front (n + 1)
     ≡ option_and_then (state_past r front n) (state_then r starting front n)
 state_then-next r starting front n within =
-    let e = some_at front n within in
-    next_by_entry r starting front n e.0 e.1
-    ∙ by_entry e.0 (state_then r starting front n) (slice_get front n) e.1
+    let e = some_at _ n within in
+    next_by_entry r _ _ n _ e.1 ∙ by_entry e.0 (state_then r _ _ n) (slice_get _ n) e.1
   where
     by_entry : (e : Entry) (o : Option State) (p : Option Entry) → p ≡ Some e
         → option_and_then (λ s. state_beyond r front n s e) o

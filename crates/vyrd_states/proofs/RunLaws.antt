@@ -14,30 +14,21 @@ use Rattle.vyrd_states.proofs.KnownLaws.{state_then-first, state_then-next, unkn
 pub known_first : (c : Charter) (starting : List StartWord) (front : List Entry) (run : Run)
     → Some run.state ≡ state_at_start (rules_by c) starting → run.charter ≡ c → run.made ≡ 0
     → IsKnown c starting front 0 (Some run)
-known_first c starting front run begins charter made =
-    grind (arith, starting, begins, made, state_then-first)
+known_first c starting front run begins charter made = search (state_then-first, arith)
 
 -- one entry more
 pub known_next : (c : Charter) (starting : List StartWord) (front : List Entry) (at : ℕ)
     (run next : Run) → at < length front → IsKnown c starting front at (Some run)
     → LeadsTo run (state_past (rules_by run.charter) front at run.state) (Some next)
     → IsKnown c starting front (at + 1) (Some next)
-known_next c starting front at run next within is leads = record {
-  state_is = leads.state_is
-      ∙ ap (λ d. state_past (rules_by d) front at run.state) is.charter
-      ∙ ap (option_and_then (state_past (rules_by c) front at)) is.state_is
-      ∙ sym (state_then-next (rules_by c) starting front at within);
-  charter = leads.charter ∙ is.charter;
-  made = omega (arith, leads.made, is.made);
-}
+known_next c starting front at run next within is leads = search (state_then-next, arith)
 
 -- a state that isn't known after an entry, and at no later place
 pub none_next : (c : Charter) (starting : List StartWord) (front : List Entry) (at : ℕ) (run : Run)
     → at < length front → IsKnown c starting front at (Some run)
     → LeadsTo run (state_past (rules_by run.charter) front at run.state) None
     → state_then (rules_by c) starting front (at + 1) ≡ None
-none_next c starting front at run within is leads =
-    grind (arith, starting, within, leads, state_then-next)
+none_next c starting front at run within is leads = search (state_then-next, arith)
 
 pub known_none : (c : Charter) (starting : List StartWord) (front : List Entry) (at n : ℕ)
     → at ≤ n → n ≤ length front → state_then (rules_by c) starting front at ≡ None
@@ -49,5 +40,4 @@ known_none c starting front at n low within none =
 pub never_known : (c : Charter) (starting : List StartWord) (front : List Entry) (n : ℕ)
     → n ≤ length front → None ≡ state_at_start (rules_by c) starting
     → IsKnown c starting front n None
-never_known c starting front n within begins =
-    grind (arith, starting, within, begins, known_none, state_then-first)
+never_known c starting front n within begins = search (known_none, state_then-first, arith)

@@ -20,11 +20,8 @@ value_small : (h : Header) (last : Option StartWord) (starting : List StartWord)
     → do_follow h last starting ≡ true → value_at_start starting w < 2 ^ 63
 value_small h last [] w e = omega arith
 value_small h last (s ∷ starting) w e =
-    by_word (s.word == w) (value_small h (Some s) starting w (second_true keeps _ e))
+    by_word (s.word == w) (value_small h (Some s) starting w (second_true _ _ e))
   where
-    keeps : Bool
-    keeps = not (is_out_of_range h s || is_out_of_order last s)
-
     in_range : is_out_of_range h s ≡ false
     in_range = search (neither_true, first_true, starting, arith)
 
@@ -42,10 +39,9 @@ start_small h starting w may = grind (arith, starting, value_small, second_true)
 
 all_small : (f : ℕ → ℕ) (k n : ℕ) → ((w : ℕ) → f w < 2 ^ 63)
     → All (λ value. value < 2 ^ 63) (map f (numbers_from k n))
-all_small f k zero small = All-nil (λ value. value < 2 ^ 63)
+all_small f k zero small = All-nil _
 all_small f k (suc n) small =
-    All-cons (λ value. value < 2 ^ 63) (f k) (map f (numbers_from (k + 1) n)) (small k)
-    (all_small f (k + 1) n small)
+    All-cons (λ value. value < 2 ^ 63) (f k) _ (small k) (all_small f (k + 1) n small)
 
 pub words_small : (h : Header) (starting : List StartWord) → may_start h starting ≡ true
     → All (λ value. value < 2 ^ 63) (words_at_start h starting)

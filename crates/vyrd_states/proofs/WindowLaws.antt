@@ -30,12 +30,8 @@ pub answers_more : (m : Method) (f : ℕ → Option ℕ) (last : Option ℕ) (po
 answers_more m f last position at reply items after all low answers next so =
     let left : at - position ≡ suc (at - (position + 1)) = omega (arith, low) in
     let later = numbers_from (position + 1) (at - (position + 1)) in
-    ap (λ xs. xs ++ answers_along m f (Some reply) later) next
-    ∙ append_assoc items (answer_items m position last (Some reply))
-    (answers_along m f (Some reply) later)
-    ∙ ap (λ o. items ++ (answer_items m position last o ++ answers_along m f o later)) (sym answers)
-    ∙ ap (λ n. items ++ answers_along m f last (numbers_from position n)) (sym left)
-    ∙ so
+    cc (append_assoc items (answer_items m position last (Some reply))
+    (answers_along m f (Some reply) later))
 
 -- no answer more
 no_answers : (m : Method) (f : ℕ → Option ℕ) (k n : ℕ) (before : Option ℕ)
@@ -78,8 +74,7 @@ answers_end r starting front called last n position at items all low within none
 before_call : (c : ℕ) (earlier : List Entry) → length (entries_before_call c earlier)
     ≤ length earlier
 before_call c [] = omega arith
-before_call c (e ∷ earlier) =
-    by_call ((e.caller == c) && is_call e.kind) (before_call c earlier)
+before_call c (e ∷ earlier) = by_call ((e.caller == c) && is_call _) (before_call c earlier)
   where
     by_call : (b : Bool) → length (entries_before_call c earlier) ≤ length earlier
         → length (cond b earlier (entries_before_call c earlier)) ≤ length (e ∷ earlier)

@@ -26,14 +26,12 @@ above_isnt : (k q : ℕ) → T (is_lt (nat_cmp k q)) → (q == k) ≡ false
 above_isnt k q h = grind (arith, nat_tests)
 
 flip : (k q : ℕ) (b : Bool) → (k == q) ≡ b → (q == k) ≡ b
-flip k q true e = grind (arith, nat_tests)
-flip k q false e = grind (arith, nat_tests)
+flip k q b e = search arith
 
 module _ {V : Type 0} where
   -- what `get` of an ordered map finds
   pub lookup-find : (q : ℕ) (es : List (ℕ × V)) → lookup (is_at (nat_cmp q)) es ≡ find nat_cmp q es
-  lookup-find q [] = refl
-  lookup-find q (e ∷ es) = ap (λ o. cond (eq_by_cmp nat_cmp q e.0) (Some e.1) o) (lookup-find q es)
+  lookup-find q es = search arith
 
   -- what `insert` leaves
   pub insert_entry-put : (k : ℕ) (v : V) (es : List (ℕ × V)) → insert_entry nat_cmp es k v
@@ -73,16 +71,9 @@ module _ {V : Type 0} where
           → cond (eq_by_cmp nat_cmp k e.0) es (e ∷ remove_entry (is_at (nat_cmp k)) es)
           ≡ cond (not (e.0 == k)) (e ∷ kept) kept
       by_test rest true is =
-          let same : k ≡ e.0 = grind (arith, nat_tests) in
-          ap (λ b. cond b es (e ∷ remove_entry (is_at (nat_cmp k)) es)) (unsigned_tied k e.0 ∙ is)
-          ∙ sym (kept_above k es
-          (subst (λ x. T (below_all nat_cmp x es)) (sym same) (first_of_and _ _ rising)))
-          ∙ sym (ap (λ b. cond (not b) (e ∷ kept) kept) (flip k e.0 true is))
+          search (is_at, kept_above, below_all, first_of_and, flip, arith)
       by_test rest false isnt_it =
-          ap (λ b. cond b es (e ∷ remove_entry (is_at (nat_cmp k)) es)) (unsigned_tied k e.0
-          ∙ isnt_it)
-          ∙ ap (λ xs. e ∷ xs) rest
-          ∙ sym (ap (λ b. cond (not b) (e ∷ kept) kept) (flip k e.0 false isnt_it))
+          cc (unsigned_tied k e.0, flip k e.0 false isnt_it)
 
   pub kept_filter : (P : ℕ × V → Type 0) (p : ℕ × V → Bool) (s : List (ℕ × V)) → AllByRecursion P s
       → AllByRecursion P (filter p s)
@@ -99,8 +90,7 @@ module _ {V : Type 0} (is_nothing : V → Bool) where
   given_value v = cond (is_nothing v) None (Some v)
 
   found_in : (b : Bool) (o : Option V) → cond (not b) o None ≡ cond b None o
-  found_in true o = refl
-  found_in false o = refl
+  found_in b o = search arith
 
   -- the key has the new value, and every other key its old one
   pub find-with_value : (s : List (ℕ × V)) (k : ℕ) (v : V) (q : ℕ)
@@ -113,8 +103,7 @@ module _ {V : Type 0} (is_nothing : V → Bool) where
           ≡ cond (q == k) (cond b None (Some v)) (find nat_cmp q s)
       by_nothing true e = find-where_key nat_cmp (isnt k) q (alike k q) s
           ∙ found_in (q == k) (find nat_cmp q s)
-      by_nothing false e = find-put nat_cmp nat_cmp_total q k v s
-          ∙ ap (λ b. cond b (Some v) (find nat_cmp q s)) (unsigned_tied q k)
+      by_nothing false e = cc (find-put nat_cmp nat_cmp_total q k v s, unsigned_tied q k)
 
   -- no value is nothing
   abbrev pub AllSome : List (ℕ × V) → Type 0
@@ -168,21 +157,18 @@ module _ {V : Type 0} (is_nothing : V → Bool) where
       → IsEntries is_nothing t
       → ((r : ℕ) → find nat_cmp r t ≡ cond (r == q) (given_value v) (find nat_cmp r s)) → t
       ≡ with_value is_nothing s q v
-  entries_are s t q v is it each =
-      same_by_key t (with_value is_nothing s q v) it (IsEntries-with_value s q v is)
-      (λ r. each r ∙ sym (find-with_value s q v r))
+  entries_are s t q v is it each = search
+      (same_by_key, IsEntries-with_value, find-with_value, arith)
 
   -- an ordered map's `insert` of a value that isn't nothing, and its `remove`
   pub insert-with_value : (es : List (ℕ × V)) (k : ℕ) (v : V) → is_nothing v ≡ false
       → insert_entry nat_cmp es k v ≡ with_value is_nothing es k v
-  insert-with_value es k v some = insert_entry-put k v es
-      ∙ ap (λ b. cond b (filter (λ entry. not (entry.0 == k)) es) (put nat_cmp k v es)) (sym some)
+  insert-with_value es k v some = cc (insert_entry-put k v es)
 
   pub remove-with_value : (es : List (ℕ × V)) (k : ℕ) (v : V) → is_nothing v ≡ true
       → T (is_sorted nat_cmp es)
       → remove_entry (is_at (nat_cmp k)) es ≡ with_value is_nothing es k v
-  remove-with_value es k v none rising = remove_entry-filter k es rising
-      ∙ ap (λ b. cond b (filter (λ entry. not (entry.0 == k)) es) (put nat_cmp k v es)) (sym none)
+  remove-with_value es k v none rising = cc (remove_entry-filter k es rising)
 
   -- what is found isn't nothing
   found_some : (s : List (ℕ × V)) (q : ℕ) (v : V) → AllSome s → find nat_cmp q s ≡ Some v
@@ -198,21 +184,12 @@ module _ {V : Type 0} (is_nothing : V → Bool) where
   -- so a key whose value is nothing isn't found
   pub not_found : (nothing : V) (s : List (ℕ × V)) (q : ℕ) → IsEntries is_nothing s
       → is_nothing (value_of nothing s q) ≡ true → find nat_cmp q s ≡ None
-  not_found nothing s q is none = by_found (find nat_cmp q s) refl
-    where
-      by_found : (o : Option V) → find nat_cmp q s ≡ o → o ≡ None
-      by_found None e = refl
-      by_found (Some v) e =
-          let some : is_nothing v ≡ false = found_some s q v is.some e in
-          let no : is_nothing v ≡ true = ap (λ o. is_nothing (unwrap_or o nothing)) (sym e)
-          ∙ none in
-          absurd cc
+  not_found nothing s q is none = search (found_some, arith)
 
   -- how many keys there are once a key has come
   pub length-put_new : (s : List (ℕ × V)) (k : ℕ) (v : V) → IsEntries is_nothing s
       → find nat_cmp k s ≡ None → length (put nat_cmp k v s) ≡ length s + 1
-  length-put_new s k v is none = length-put nat_cmp nat_cmp_total k v s is.rising
-      ∙ ap (λ (o : Option V). cond (is_some o) (length s) (length s + 1)) none
+  length-put_new s k v is none = cc (length-put nat_cmp nat_cmp_total k v s is.rising)
 
   -- and no fewer, whether the key is new or not
   pub put_more : (s : List (ℕ × V)) (k : ℕ) (v : V) → IsEntries is_nothing s → length s
@@ -240,40 +217,10 @@ module _ {V : Type 0} (is_nothing : V → Bool) where
   pub value_of-with_value : (nothing : V) → ((v : V) → is_nothing v ≡ true → v ≡ nothing)
       → (s : List (ℕ × V)) (k : ℕ) (v : V) (q : ℕ)
       → value_of nothing (with_value is_nothing s k v) q ≡ cond (q == k) v (value_of nothing s q)
-  value_of-with_value nothing only s k v q = ap (λ o. unwrap_or o nothing) (find-with_value s k v q)
-      ∙ by_key (q == k) (is_nothing v) refl
-    where
-      by_key : (same b : Bool) → is_nothing v ≡ b
-          → unwrap_or (cond same (cond b None (Some v)) (find nat_cmp q s)) nothing
-          ≡ cond same v (unwrap_or (find nat_cmp q s) nothing)
-      by_key true true e = sym (only v e)
-      by_key true false e = refl
-      by_key false b e = refl
+  value_of-with_value nothing only s k v q = search (find-with_value, arith)
 
   -- entries in which each key has the same value are the same
   pub same_values : (nothing : V) → is_nothing nothing ≡ true → (s t : List (ℕ × V))
       → IsEntries is_nothing s → IsEntries is_nothing t
       → ((q : ℕ) → value_of nothing s q ≡ value_of nothing t q) → s ≡ t
-  same_values nothing passes s t is it same =
-      same_by_key s t is it
-      (λ q. by_found q (find nat_cmp q s) (find nat_cmp q t) refl refl (same q))
-    where
-      some : (q : ℕ) (u : List (ℕ × V)) (v : V) → IsEntries is_nothing u → find nat_cmp q u ≡ Some v
-          → nothing ≡ v → ⊥
-      some q u v formed e none =
-          let yes : is_nothing v ≡ true = ap is_nothing (sym none) ∙ passes in
-          let no : is_nothing v ≡ false = found_some u q v formed.some e in cc
-
-      by_found : (q : ℕ) (x y : Option V) → find nat_cmp q s ≡ x → find nat_cmp q t ≡ y
-          → unwrap_or (find nat_cmp q s) nothing ≡ unwrap_or (find nat_cmp q t) nothing
-          → find nat_cmp q s ≡ find nat_cmp q t
-      by_found q None None e f value = e ∙ sym f
-      by_found q (Some v) (Some w) e f value =
-          e ∙ ap Some (sym (ap (λ o. unwrap_or o nothing) e) ∙ value
-          ∙ ap (λ o. unwrap_or o nothing) f) ∙ sym f
-      by_found q None (Some w) e f value =
-          absurd (some q t w it f (sym (ap (λ o. unwrap_or o nothing) e) ∙ value
-          ∙ ap (λ o. unwrap_or o nothing) f))
-      by_found q (Some v) None e f value =
-          absurd (some q s v is e (sym (ap (λ o. unwrap_or o nothing) f) ∙ sym value
-          ∙ ap (λ o. unwrap_or o nothing) e))
+  same_values nothing passes s t is it same = search (same_by_key, found_some, arith)

@@ -35,32 +35,19 @@ module _ {V : Type 0} (nothing : V) (test : V → Bool) (plain : test nothing �
 
   value_cons : (e : ℕ × V) (s : List (ℕ × V)) (q : ℕ) → value_of nothing (e ∷ s) q
       ≡ cond (q == e.0) e.1 (value_of nothing s q)
-  value_cons e s q = ap (λ b. unwrap_or (cond b (Some e.1) (find nat_cmp q s)) nothing)
-      (unsigned_tied q e.0) ∙ by_key (q == e.0)
-    where
-      by_key : (b : Bool) → unwrap_or (cond b (Some e.1) (find nat_cmp q s)) nothing
-          ≡ cond b e.1 (unwrap_or (find nat_cmp q s) nothing)
-      by_key true = refl
-      by_key false = refl
+  value_cons e s q = search arith
 
   pub first_is : (s : List (ℕ × V)) → T (is_sorted nat_cmp s)
       → IsFirst nothing test s (first_in test s)
   first_is [] rising = λ q. plain
-  first_is (e ∷ s) rising =
-      by_test (first_is s (second_of_and (below_all nat_cmp e.0 s) _ rising)) (test e.1) refl
+  first_is (e ∷ s) rising = by_test (first_is s (second_of_and (below_all nat_cmp e.0 s) _ rising))
+      (test e.1) refl
     where
       here : value_of nothing (e ∷ s) e.0 ≡ e.1
-      here = value_cons e s e.0
-          ∙ ap (λ b. cond b e.1 (value_of nothing s e.0)) (is_same e.0 e.0 refl)
+      here = cc (value_cons e s e.0, is_same e.0 e.0 refl)
 
       low : (q : ℕ) → q < e.0 → test (value_of nothing (e ∷ s) q) ≡ true → ⊥
-      low q under passes =
-          let apart : q ≢ e.0 = omega (arith, under) in
-          let none : value_of nothing (e ∷ s) q ≡ nothing = value_cons e s q
-          ∙ ap (λ b. cond b e.1 (value_of nothing s q)) (isnt_same q e.0 apart)
-          ∙ ap (λ o. unwrap_or o nothing)
-          (find_low e.0 q s (first_of_and _ _ rising) (omega (arith, under))) in
-          let no : test (value_of nothing (e ∷ s) q) ≡ false = ap test none ∙ plain in cc
+      low q under passes = search (value_of, value_cons, isnt_same, find_low, first_of_and, arith)
 
       other : (q : ℕ) → test e.1 ≡ false → test (value_of nothing (e ∷ s) q)
           ≡ test (value_of nothing s q)
@@ -68,19 +55,12 @@ module _ {V : Type 0} (nothing : V) (test : V → Bool) (plain : test nothing �
         where
           by_key : (b : Bool) → (q == e.0) ≡ b → test (value_of nothing (e ∷ s) q)
               ≡ test (value_of nothing s q)
-          by_key true is =
-              ap test (value_cons e s q ∙ ap (λ b. cond b e.1 (value_of nothing s q)) is) ∙ fails
-              ∙ sym (ap test (ap (λ o. unwrap_or o nothing)
-              (find_low e.0 q s (first_of_and _ _ rising)
-              (let same = same_of q e.0 is in omega (arith, same)))) ∙ plain)
-          by_key false is =
-              ap test (value_cons e s q ∙ ap (λ b. cond b e.1 (value_of nothing s q)) is)
+          by_key b is = search (value_cons, value_of, find_low, first_of_and, same_of, arith)
 
       by_rest : (o : Option ℕ) → IsFirst nothing test s o → test e.1 ≡ false
           → IsFirst nothing test (e ∷ s) o
       by_rest None first fails = λ q. other q fails ∙ first q
-      by_rest (Some k) first fails =
-          (other k fails ∙ first.0, λ q passes. first.1 q (sym (other q fails) ∙ passes))
+      by_rest (Some k) first fails = grind (arith, other k fails, first.0)
 
       by_test : IsFirst nothing test s (first_in test s) → (b : Bool) → test e.1 ≡ b
           → IsFirst nothing test (e ∷ s) (cond b (Some e.0) (first_in test s))
@@ -212,10 +192,7 @@ module _ {V : Type 0} (nothing : V) (test : V → Bool) (plain : test nothing �
     where
       by_nothing : (b : Bool) → is_nothing v ≡ b
           → IsFirst nothing test (cond b s (with_value is_nothing s k v)) result
-      by_nothing true none =
-          let fails : test v ≡ false = ap test (only v none) ∙ plain in
-          subst (IsFirst nothing test s)
-          (sym (is ∙ ap (λ b. cond b (Some (lesser found k)) found) fails)) first
+      by_nothing true none = grind arith
       by_nothing false some =
           subst (λ b. IsFirst nothing test (cond b s (with_value is_nothing s k v)) result) some
           (first_more is_nothing only s k v (unseen some) found result first is)

@@ -41,8 +41,7 @@ module _ (b most keys : ℕ) (half : keys ≤ 2 ^ b / 2) (least : 3 ≤ b) (larg
   few_keys = omega (arith, half, pow_mono {i = b} {j = 19} (omega (arith, larger, limit)))
 
   pub grown_room : HasRoom (min (b + 2) most) keys most (first_room (min (b + 2) most) most)
-  grown_room = first_has_room (min (b + 2) most) most keys (omega (arith, least, larger)) limit
-      (omega (arith, half, twice))
+  grown_room = search (first_has_room, twice, arith)
 
   pub grown_cost : moving_price keys (2 ^ b + 3) (2 ^ min (b + 2) most + 3)
       ≤ growing_share * (2 ^ b / 4)
@@ -59,8 +58,7 @@ module _ (b most keys : ℕ) (half : keys ≤ 2 ^ b / 2) (least : 3 ≤ b) (larg
 -- with fewer names there is as much room
 pub fewer_names : (bits names fewer most room : ℕ) → fewer ≤ names → HasRoom bits names most room
     → HasRoom bits fewer most room
-fewer_names bits names fewer most room less has =
-    grind (arith, has.quarter, has.larger, has.least, has.limit)
+fewer_names bits names fewer most room less has = search arith
 
 -- places that keep their number and have no more names make a table again
 pub table_kept : {V : Type 0} (nothing : V) (is_nothing : V → Bool) (old new : Places V)
@@ -68,5 +66,4 @@ pub table_kept : {V : Type 0} (nothing : V) (is_nothing : V → Bool) (old new :
     → IsTable nothing is_nothing old room most → ArePlaced nothing is_nothing new → new.shift
     ≡ old.shift → names_of new ≤ names_of old
     → IsTable nothing is_nothing new room most
-table_kept nothing is_nothing old new room most table placed same less =
-    search (placed, room, fewer_names, arith)
+table_kept nothing is_nothing old new room most table placed same less = grind (arith, fewer_names)

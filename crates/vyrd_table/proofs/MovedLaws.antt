@@ -23,8 +23,7 @@ is_greater : (k q : ℕ) → T (is_lt (nat_cmp k q)) → k < q
 is_greater k q low = grind (arith, nat_tests)
 
 or_none : {A : Type 0} (o : Option A) → option_or o None ≡ o
-or_none None = refl
-or_none (Some x) = refl
+or_none o = search arith
 
 module _ {V : Type 0} (nothing : V) (is_nothing : V → Bool) where
   -- what one place has of a key
@@ -38,11 +37,8 @@ module _ {V : Type 0} (nothing : V) (is_nothing : V → Bool) where
   held_more [] n q low = absurd (omega arith)
   held_more (p ∷ pairs) zero q low = refl
   held_more (p ∷ pairs) (suc n) q low =
-      by_place (is_nothing p.1) (q == p.0) (held_more pairs n q (omega (arith, low)))
+      by_place (is_nothing _) (q == p.0) (held_more pairs n q (omega (arith, low)))
     where
-      below : Option V
-      below = held nothing is_nothing (take (suc n) pairs) q
-
       by_place : (b same : Bool)
           → held nothing is_nothing (take (suc n) pairs) q
           ≡ option_or (held nothing is_nothing (take n pairs) q)
@@ -145,8 +141,7 @@ module _ {V : Type 0} (nothing : V) (is_nothing : V → Bool) where
   -- none of the pairs
   pub none_come : (pairs base : List (ℕ × V)) → base ≡ entries_in is_nothing (take 0 pairs) base
   unfolding entries_in
-  none_come [] base = refl
-  none_come (p ∷ pairs) base = refl
+  none_come pairs base = search arith
 
   -- all of them
   pub all_come : (pairs base : List (ℕ × V)) (n : ℕ) → length pairs ≤ n
@@ -292,44 +287,37 @@ module _ {V : Type 0} (nothing : V) (is_nothing : V → Bool) where
   above_at : (k : ℕ) (s : List (ℕ × V)) (i : ℕ) → is_nothing nothing ≡ true
       → T (below_all nat_cmp k s)
       → is_taken is_nothing (place_at nothing s i) ≡ true → k < (place_at nothing s i).0
-  above_at k [] i passes below taken =
-      let free : is_taken is_nothing (place_at nothing [] i) ≡ false = ap not passes in absurd cc
+  above_at k [] i passes below taken = grind arith
   above_at k (e ∷ s) zero passes below taken = is_greater k e.0 (first_of_and _ _ below)
-  above_at k (e ∷ s) (suc i) passes below taken =
-      above_at k s i passes (second_of_and (is_lt (nat_cmp k e.0)) _ below) taken
+  above_at k (e ∷ s) (suc i) passes below taken = above_at k s i passes
+      (second_of_and (is_lt (nat_cmp k e.0)) _ below) taken
 
   rising_single : (s : List (ℕ × V)) → is_nothing nothing ≡ true → T (is_sorted nat_cmp s)
       → (i j : ℕ)
       → is_taken is_nothing (place_at nothing s i) ≡ true
       → is_taken is_nothing (place_at nothing s j) ≡ true
       → (place_at nothing s i).0 ≡ (place_at nothing s j).0 → i ≡ j
-  rising_single [] passes rising i j taken_i taken_j same =
-      let free : is_taken is_nothing (place_at nothing [] i) ≡ false = ap not passes in absurd cc
+  rising_single [] passes rising i j taken_i taken_j same = grind arith
   rising_single (e ∷ s) passes rising zero zero taken_i taken_j same = refl
   rising_single (e ∷ s) passes rising zero (suc j) taken_i taken_j same =
-      absurd (omega (arith, same, above_at e.0 s j passes (first_of_and _ _ rising) taken_j))
+      grind (arith, above_at e.0 s j passes (first_of_and _ _ rising) taken_j)
   rising_single (e ∷ s) passes rising (suc i) zero taken_i taken_j same =
-      absurd (omega (arith, same, above_at e.0 s i passes (first_of_and _ _ rising) taken_i))
+      grind (arith, above_at e.0 s i passes (first_of_and _ _ rising) taken_i)
   rising_single (e ∷ s) passes rising (suc i) (suc j) taken_i taken_j same =
-      ap suc (rising_single s passes (second_of_and (below_all nat_cmp e.0 s) _ rising) i j taken_i
+      cc (rising_single s passes (second_of_and (below_all nat_cmp e.0 s) _ rising) i j taken_i
       taken_j same)
 
   pub entries_new : (s : List (ℕ × V)) → is_nothing nothing ≡ true → IsEntries is_nothing s
       → AreNew nothing is_nothing [] s
-  entries_new s passes is =
-      record { single = rising_single s passes is.rising; absent = λ i taken. refl }
+  entries_new s passes is = search (rising_single, arith)
 
   held_entries : (s : List (ℕ × V)) → IsEntries is_nothing s → (q : ℕ) → held nothing is_nothing s q
       ≡ find nat_cmp q s
   held_entries [] is q = refl
   held_entries (e ∷ s) is q =
       let rest : IsEntries is_nothing s =
-      record { rising = second_of_and (below_all nat_cmp e.0 s) _ is.rising; some = is.some.1 }
-      in
-      ap (λ b. cond b (held nothing is_nothing s q)
-      (cond (q == e.0) (Some e.1) (held nothing is_nothing s q))) is.some.0
-      ∙ ap (λ o. cond (q == e.0) (Some e.1) o) (held_entries s rest q)
-      ∙ ap (λ b. cond b (Some e.1) (find nat_cmp q s)) (sym (unsigned_tied q e.0))
+      record { rising = second_of_and (below_all nat_cmp e.0 s) _ is.rising; some = is.some.1 } in
+      cc (is.some.0, held_entries s rest q, unsigned_tied q e.0)
 
   pub entries_again : (s : List (ℕ × V)) → IsEntries is_nothing s → entries_in is_nothing s [] ≡ s
   entries_again s is = same_by_key is_nothing (entries_in is_nothing s []) s
@@ -341,10 +329,7 @@ module _ {V : Type 0} (nothing : V) (is_nothing : V → Bool) where
   pub places_new : (passes : is_nothing nothing ≡ true) (only : (v : V) → is_nothing v ≡ true → v
       ≡ nothing) (shift : ℕ) (places rest : List (ℕ × V))
       → ArePlaces nothing is_nothing shift places rest → AreNew nothing is_nothing rest places
-  places_new passes only shift places rest table = record {
-    single = single nothing is_nothing passes only shift places rest table;
-    absent = λ i taken. table.away i (table.within i taken);
-  }
+  places_new passes only shift places rest table = search arith
 
 pub names_few : {V : Type 0} (pairs : List (ℕ × V)) (n : ℕ) → count_by is_named (take n pairs)
     ≤ count_by is_named pairs

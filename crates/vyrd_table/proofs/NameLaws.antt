@@ -18,16 +18,11 @@ is_greater k q low = grind (arith, nat_tests)
 
 module _ {V : Type 0} where
   named_by : (p : ℕ × V) → cond (is_named p) 1 0 ≡ one_name p.0
-  named_by p = by_test (p.0 == 0)
-    where
-      by_test : (b : Bool) → cond {A = ℕ} (not b) 1 0 ≡ cond b 0 1
-      by_test true = refl
-      by_test false = refl
+  named_by p = search arith
 
   pub counted : (p : ℕ × V) (s : List (ℕ × V)) → count_by is_named (p ∷ s)
       ≡ one_name p.0 + count_by is_named s
-  counted p s = sum_by-cons (λ x. cond (is_named x) 1 0) p s
-      ∙ ap (λ n. n + count_by is_named s) (named_by p)
+  counted p s = sum_by-cons _ p s ∙ ap (λ n. n + count_by is_named s) (named_by p)
 
   -- what an ordered map's `insert` adds
   pub names_put : (k : ℕ) (v : V) (s : List (ℕ × V)) → count_by is_named (put nat_cmp k v s)
@@ -41,8 +36,7 @@ module _ {V : Type 0} where
           ≤ count_by is_named (e ∷ s) + one_name k
       by_cmp Less rest = let c = counted (k, v) (e ∷ s) in omega (arith, c)
       by_cmp Equal rest = let c = counted (e.0, v) s in let d = counted e s in omega (arith, c, d)
-      by_cmp Greater rest = let c = counted e (put nat_cmp k v s) in let d = counted e s in
-          omega (arith, c, d, rest)
+      by_cmp Greater rest = search (counted, put, arith)
 
   names_filter : (p : ℕ × V → Bool) (s : List (ℕ × V)) → count_by is_named (filter p s)
       ≤ count_by is_named s
@@ -51,42 +45,24 @@ module _ {V : Type 0} where
     where
       by_test : (b : Bool) → count_by is_named (filter p s) ≤ count_by is_named s
           → count_by is_named (cond b (e ∷ filter p s) (filter p s)) ≤ count_by is_named (e ∷ s)
-      by_test true rest = let c = counted e (filter p s) in let d = counted e s in
-          omega (arith, c, d, rest)
+      by_test true rest = search (counted, arith)
       by_test false rest = let d = counted e s in omega (arith, d, rest)
 
   pub names_with_value : (is_nothing : V → Bool) (s : List (ℕ × V)) (k : ℕ) (v : V)
       → count_by is_named (with_value is_nothing s k v) ≤ count_by is_named s + one_name k
-  names_with_value is_nothing s k v = by_nothing (is_nothing v)
-    where
-      by_nothing : (b : Bool)
-          → count_by is_named (cond b (filter (λ entry. not (entry.0 == k)) s) (put nat_cmp k v s))
-          ≤ count_by is_named s + one_name k
-      by_nothing true = let less = names_filter (λ entry. not (entry.0 == k)) s in
-          omega (arith, less)
-      by_nothing false = names_put k v s
+  names_with_value is_nothing s k v = search (put, one_name, names_filter, names_put, arith)
 
   -- nothing adds none
   pub names_taken_out : (is_nothing : V → Bool) (s : List (ℕ × V)) (k : ℕ) (v : V) → is_nothing v
       ≡ true
       → count_by is_named (with_value is_nothing s k v) ≤ count_by is_named s
-  names_taken_out is_nothing s k v none =
-      let less = names_filter (λ entry. not (entry.0 == k)) s in
-      omega (
-        arith,
-        less,
-        ap
-            (λ b. count_by is_named
-            (cond b (filter (λ entry. not (entry.0 == k)) s) (put nat_cmp k v s)))
-            none,
-      )
+  names_taken_out is_nothing s k v none = search (names_filter, put, arith)
 
   -- what a place that is written adds
   pub names_set : (places : List (ℕ × V)) (i : ℕ) (p : ℕ × V) → count_by is_named (set places i p)
       ≤ count_by is_named places + one_name p.0
   names_set [] i p = omega arith
-  names_set (x ∷ places) zero p = let c = counted p places in let d = counted x places in
-      omega (arith, c, d)
+  names_set (x ∷ places) zero p = search (counted, arith)
   names_set (x ∷ places) (suc i) p =
       let c = counted x (set places i p) in let d = counted x places in
       let rest = names_set places i p in omega (arith, c, d, rest)
@@ -96,9 +72,7 @@ module _ {V : Type 0} where
       → (place_at nothing places i).0 ≡ p.0
       → count_by is_named (set places i p) ≤ count_by is_named places
   names_stay nothing [] i p same = omega arith
-  names_stay nothing (x ∷ places) zero p same =
-      let c = counted p places in let d = counted x places in let e : one_name x.0 ≡ one_name p.0 =
-      ap one_name same in omega (arith, c, d, e)
+  names_stay nothing (x ∷ places) zero p same = grind arith
   names_stay nothing (x ∷ places) (suc i) p same =
       let c = counted x (set places i p) in let d = counted x places in
       let rest = names_stay nothing places i p same in omega (arith, c, d, rest)
@@ -109,8 +83,8 @@ module _ {V : Type 0} where
       ≤ count_by is_named places + count_by is_named rest
   unfolding entries_in
   names_entries is_nothing [] rest = omega arith
-  names_entries is_nothing (p ∷ places) rest =
-      by_taken (is_nothing p.1) (names_entries is_nothing places rest)
+  names_entries is_nothing (p ∷ places) rest = by_taken (is_nothing p.1)
+      (names_entries is_nothing places rest)
     where
       by_taken : (b : Bool) → count_by is_named (entries_in is_nothing places rest)
           ≤ count_by is_named places + count_by is_named rest
@@ -119,10 +93,7 @@ module _ {V : Type 0} where
           (put nat_cmp p.0 p.1 (entries_in is_nothing places rest)))
           ≤ count_by is_named (p ∷ places) + count_by is_named rest
       by_taken true others = let c = counted p places in omega (arith, c, others)
-      by_taken false others =
-          let c = counted p places in
-          let more = names_put p.0 p.1 (entries_in is_nothing places rest) in
-          omega (arith, c, more, others)
+      by_taken false others = search (counted, names_put, entries_in, arith)
 
   -- keys that rise above one are all named
   all_named : (k : ℕ) (s : List (ℕ × V)) → T (below_all nat_cmp k s) → length s
@@ -139,20 +110,12 @@ module _ {V : Type 0} where
   -- so of keys that rise at most one is not
   keys_named : (s : List (ℕ × V)) → T (is_sorted nat_cmp s) → length s ≤ 1 + count_by is_named s
   keys_named [] rising = omega arith
-  keys_named (e ∷ s) rising =
-      let c = counted e s in let rest = all_named e.0 s (first_of_and _ _ rising) in
-      omega (arith, c, rest)
+  keys_named (e ∷ s) rising = search (counted, all_named, first_of_and, arith)
 
   pub keys_fewer : (is_nothing : V → Bool) (places rest : List (ℕ × V))
       → IsEntries is_nothing (entries_in is_nothing places rest)
       → length (entries_in is_nothing places rest) ≤ names_in places rest
-  keys_fewer is_nothing places rest is =
-      omega (
-        arith,
-        keys_named (entries_in is_nothing places rest) is.rising,
-        names_entries
-            is_nothing places rest,
-      )
+  keys_fewer is_nothing places rest is = search (keys_named, entries_in, names_entries, arith)
 
   -- new places have the name of 0
   pub new_unnamed : (n : ℕ) (nothing : V) → count_by is_named (replicate n (0, nothing)) ≡ 0

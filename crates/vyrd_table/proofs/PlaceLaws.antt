@@ -26,10 +26,9 @@ unfolding first_place
 places_within shift bits q sum =
     let low : (q * 11400714819323198485) % 18446744073709551616 < 18446744073709551616 =
     omega arith in
-    let is : 2 ^ (bits + shift) ≡ 18446744073709551616 =
-    ap (λ n. 2 ^ n) (let e : bits + shift ≡ 64 = omega (arith, sum) in e) in
-    shr_below ((q * 11400714819323198485) % 18446744073709551616) bits shift
-    (omega (arith, low, is))
+    let is : 2 ^ (bits + shift) ≡ 18446744073709551616 = ap (λ n. 2 ^ n)
+    (let e : bits + shift ≡ 64 = omega (arith, sum) in e) in
+    shr_below _ _ _ (omega (arith, low, is))
 
 module _ {V : Type 0} (nothing : V) (is_nothing : V → Bool) where
   -- what the first place with a key and a value has of it
@@ -48,14 +47,7 @@ module _ {V : Type 0} (nothing : V) (is_nothing : V → Bool) where
   -- a place where another key stands, or none
   pub skipped : (p : ℕ × V) (places : List (ℕ × V)) (q : ℕ)
       → (is_taken is_nothing p ≡ true → p.0 ≢ q) → held (p ∷ places) q ≡ held places q
-  skipped p places q other = by_taken (is_nothing p.1) refl
-    where
-      by_taken : (b : Bool) → is_nothing p.1 ≡ b
-          → cond b (held places q) (cond (q == p.0) (Some p.1) (held places q)) ≡ held places q
-      by_taken true e = refl
-      by_taken false e =
-          ap (λ b. cond b (Some p.1) (held places q))
-          (isnt_same q p.0 (λ same. other (ap not e) (sym same)))
+  skipped p places q other = search (isnt_same, arith)
 
   pub find_in : (places rest : List (ℕ × V)) (q : ℕ)
       → find nat_cmp q (entries_in is_nothing places rest)
@@ -64,9 +56,6 @@ module _ {V : Type 0} (nothing : V) (is_nothing : V → Bool) where
   find_in [] rest q = refl
   find_in (p ∷ places) rest q = by_taken (is_nothing p.1) (find_in places rest q)
     where
-      below : List (ℕ × V)
-      below = entries_in is_nothing places rest
-
       by_taken : (b : Bool) → find nat_cmp q (entries_in is_nothing places rest)
           ≡ option_or (held places q) (find nat_cmp q rest)
           → find nat_cmp q
@@ -76,10 +65,12 @@ module _ {V : Type 0} (nothing : V) (is_nothing : V → Bool) where
           (find nat_cmp q rest)
       by_taken true others = others
       by_taken false others =
-          find-put nat_cmp nat_cmp_total q p.0 p.1 (entries_in is_nothing places rest)
-          ∙ ap (λ b. cond b (Some p.1) (find nat_cmp q (entries_in is_nothing places rest)))
-          (unsigned_tied q p.0)
-          ∙ by_key (q == p.0)
+          cc (
+            find-put nat_cmp nat_cmp_total q p.0 p.1
+                (entries_in is_nothing places rest),
+            unsigned_tied q p.0,
+            by_key (q == p.0),
+          )
         where
           by_key : (b : Bool)
               → cond b (Some p.1) (find nat_cmp q (entries_in is_nothing places rest))
@@ -92,7 +83,7 @@ module _ {V : Type 0} (nothing : V) (is_nothing : V → Bool) where
   unfolding entries_in
   entries_formed [] rest formed = formed
   entries_formed (p ∷ places) rest formed =
-      by_taken (is_nothing p.1) refl (entries_formed places rest formed)
+      by_taken (is_nothing _) refl (entries_formed places rest formed)
     where
       by_taken : (b : Bool) → is_nothing p.1 ≡ b
           → IsEntries is_nothing (entries_in is_nothing places rest)
@@ -100,15 +91,14 @@ module _ {V : Type 0} (nothing : V) (is_nothing : V → Bool) where
           (cond b (entries_in is_nothing places rest)
           (put nat_cmp p.0 p.1 (entries_in is_nothing places rest)))
       by_taken true e others = others
-      by_taken false e others = IsEntries-put is_nothing (entries_in is_nothing places rest) p.0 p.1
-          e others
+      by_taken false e others = search (IsEntries-put, entries_in, arith)
 
   -- the rest has no more keys than the whole
   pub rest_fewer : (places rest : List (ℕ × V)) → IsEntries is_nothing rest → length rest
       ≤ length (entries_in is_nothing places rest)
   unfolding entries_in
   rest_fewer [] rest formed = omega arith
-  rest_fewer (p ∷ places) rest formed = by_taken (is_nothing p.1) (rest_fewer places rest formed)
+  rest_fewer (p ∷ places) rest formed = by_taken (is_nothing _) (rest_fewer places rest formed)
     where
       by_taken : (b : Bool) → length rest ≤ length (entries_in is_nothing places rest)
           → length rest
@@ -117,34 +107,29 @@ module _ {V : Type 0} (nothing : V) (is_nothing : V → Bool) where
           (put nat_cmp p.0 p.1 (entries_in is_nothing places rest)))
       by_taken true fewer = fewer
       by_taken false fewer =
-          omega (
+          grind (
             arith,
-            fewer,
             put_more is_nothing (entries_in is_nothing places rest) p.0 p.1
                 (entries_formed places rest formed),
           )
 
   pub held_none : (places : List (ℕ × V)) (q : ℕ) → StandsAt places q None → held places q ≡ None
   held_none [] q none = refl
-  held_none (p ∷ places) q none = skipped p places q (none zero)
-      ∙ held_none places q (λ i. none (suc i))
+  held_none (p ∷ places) q none = skipped p _ q (none zero) ∙ held_none places q (λ i. none (suc i))
 
   held_one : (passes : is_nothing nothing ≡ true) (places : List (ℕ × V)) (q i : ℕ)
       → StandsAt places q (Some i)
       → ((j : ℕ) → j ≢ i → is_taken is_nothing (place_at nothing places j) ≡ true
       → (place_at nothing places j).0 ≢ q)
       → held places q ≡ Some (place_at nothing places i).1
-  held_one passes [] q i here others =
-      let free : is_taken is_nothing (place_at nothing [] i) ≡ false = ap not passes in absurd cc
-  held_one passes (p ∷ places) q zero here others = by_taken (is_nothing p.1) refl
+  held_one passes [] q i here others = cc
+  held_one passes (p ∷ places) q zero here others = by_taken (is_nothing _) refl
     where
       by_taken : (b : Bool) → is_nothing p.1 ≡ b
           → cond b (held places q) (cond (q == p.0) (Some p.1) (held places q)) ≡ Some p.1
-      by_taken true e = let free : is_taken is_nothing p ≡ false = ap not e in
-          let taken : is_taken is_nothing p ≡ true = here.0 in absurd cc
-      by_taken false e = ap (λ b. cond b (Some p.1) (held places q)) (is_same q p.0 (sym here.1))
-  held_one passes (p ∷ places) q (suc i) here others =
-      skipped p places q (others zero (omega arith))
+      by_taken true e = cc
+      by_taken false e = cc (is_same q p.0 (sym here.1))
+  held_one passes (p ∷ places) q (suc i) here others = skipped p _ q (others zero (omega arith))
       ∙ held_one passes places q i here
       (λ j other. others (suc j) (λ same. other (omega (arith, same))))
 
@@ -153,10 +138,8 @@ module _ {V : Type 0} (nothing : V) (is_nothing : V → Bool) where
       → (is_taken is_nothing p ≡ true → p.0 ≢ r)
       → held (set places i p) r ≡ held places r
   held_set [] i p r old new = refl
-  held_set (x ∷ places) zero p r old new = skipped p places r new ∙ sym (skipped x places r old)
-  held_set (x ∷ places) (suc i) p r old new =
-      ap (λ (o : Option V). cond (is_nothing x.1) o (cond (r == x.0) (Some x.1) o))
-      (held_set places i p r old new)
+  held_set (x ∷ places) zero p r old new = skipped p _ r new ∙ sym (skipped x _ r old)
+  held_set (x ∷ places) (suc i) p r old new = cc (held_set places i p r old new)
 
   module _ (passes : is_nothing nothing ≡ true) (only : (v : V) → is_nothing v ≡ true → v ≡ nothing)
     where

@@ -14,45 +14,35 @@ doubled d = omega arith
 pub digits_fit : (n : ℕ) → (n < 2 ^ digits n) × (2 ^ digits n ≤ 2 * n + 1)
 unfolding digits
 digits_fit zero = (omega arith, omega arith)
-digits_fit (suc n) = by_test (nat_le (2 ^ digits n) (suc n)) refl (digits_fit n)
+digits_fit (suc n) = by_test (nat_le _ _) refl (digits_fit n)
   where
     by_test : (b : Bool) → nat_le (2 ^ digits n) (suc n) ≡ b → (n < 2 ^ digits n)
         × (2 ^ digits n ≤ 2 * n + 1)
         → (suc n < 2 ^ cond b (suc (digits n)) (digits n))
         × (2 ^ cond b (suc (digits n)) (digits n) ≤ 2 * suc n + 1)
-    by_test true e fit =
-        let low : 2 ^ digits n ≤ suc n = grind (arith, nat_tests) in
-        let up = doubled (digits n) in
-        (omega (arith, up, fit.0, low), omega (arith, up, low))
-    by_test false e fit =
-        let high : suc n < 2 ^ digits n = grind (arith, nat_tests) in
-        (high, omega (arith, fit.1))
+    by_test true e fit = grind arith
+    by_test false e fit = grind arith
 
 -- what the processor counts
 pub digits_counted : (n : ℕ) → n < 2 ^ 64 → 64 - count_leading_zeros 64 n ≡ digits n
 digits_counted n fits =
     let fit = digits_fit n in
     let few : digits n ≤ 64 = at_most (digits n) fit.1 in
-    let is : 64 - digits n ≡ count_leading_zeros 64 n =
-    leading_unique 64 n (64 - digits n) (digits n) (omega (arith, few)) fit.0 fit.1 in
+    let is : 64 - digits n ≡ count_leading_zeros 64 n = leading_unique _ n _ (digits n)
+    (omega (arith, few)) fit.0 fit.1 in
     omega (arith, few, is)
   where
     at_most : (d : ℕ) → 2 ^ d ≤ 2 * n + 1 → d ≤ 64
-    at_most d low = by_test (nat_lt 64 d) refl
+    at_most d low = by_test (nat_lt _ d) refl
       where
         by_test : (b : Bool) → nat_lt 64 d ≡ b → d ≤ 64
-        by_test true e =
-            absurd (omega (arith, pow_mono {i = 65} {j = d} (grind (arith, nat_tests)), low, fits))
+        by_test true e = grind (arith, pow_mono {i = 65} {j = d} (grind (arith, nat_tests)))
         by_test false e = grind (arith, nat_tests)
 
 -- a greater number has no fewer digits
 digits_next : (n : ℕ) → digits n ≤ digits (suc n)
 unfolding digits
-digits_next n = by_test (nat_le (2 ^ digits n) (suc n))
-  where
-    by_test : (b : Bool) → digits n ≤ cond b (suc (digits n)) (digits n)
-    by_test true = omega arith
-    by_test false = omega arith
+digits_next n = search arith
 
 pub digits_mono : (a b : ℕ) → a ≤ b → digits a ≤ digits b
 digits_mono a zero le = grind arith

@@ -48,8 +48,7 @@ pub later_last : (text : List ℕ) → lacks 10 text ≡ true → front_starts (
 later_last text lack = ap (λ ps. front_starts (after_first ps)) (split_whole 10 text lack)
 
 after_onto : (x : ℕ) (ps : List (List ℕ)) → after_first (onto_first x ps) ≡ after_first ps
-after_onto x [] = refl
-after_onto x (p ∷ ps) = refl
+after_onto x ps = search arith
 
 -- they are the same, whatever more stands in the first line
 after_same : (xs text : List ℕ) → lacks 10 xs ≡ true → after_first (cut (xs ++ text))
@@ -79,5 +78,4 @@ pub ahead_begun : (fault : Option TextFault) (o : Option Header) (h : Header) (s
     (xs text : List ℕ) → o ≡ Some h → lacks 10 xs ≡ true
     → starts_in_lines fault o starting (cut (xs ++ text)) ≤ 1 + front_starts
     (after_first (cut text))
-ahead_begun fault o h starting xs text e lack =
-    grind (arith, starting, after_same, ahead_some, front_cap)
+ahead_begun fault o h starting xs text e lack = search (after_same, ahead_some, front_cap, arith)

@@ -45,19 +45,14 @@ entries_taken h (e ∷ es) r has fine plain not_ended empty low fits all =
     let line = entry_line e in
     let next : LineState = record r { line = r.line + 1; starting = false; unfinished = [] } in
     let last : ℕ → LineState = λ n. record r { line = n; starting = false; unfinished = [] } in
-    let one : IsTaken r (line ++ 10 ∷ []) [] (e ∷ []) next = line_at_once r next line []
-    (e ∷ []) empty
-    (entry_read r line (entry_line_whole h.subject e is) fine low h has
-    (isnt_below r.max_lines r.line (omega arith)) not_ended
-    (cc) (entry_line_isnt_end e) e
-    (entry_in-entry_line h.subject e is)) in
+    let one : IsTaken r (line ++ 10 ∷ []) [] (e ∷ []) next = line_at_once r _ _ [] _ empty
+    (entry_read r _ (entry_line_whole h.subject e is) fine low h has (isnt_below _ _ (omega arith))
+    not_ended (cc) (entry_line_isnt_end e) e (entry_in-entry_line _ e is)) in
     let more = entries_taken h es next has fine refl not_ended refl low (omega arith)
-    (second_true (is_entry_of h.subject e) _ all) in
-    let both = taken_then r next (last (r.line + 1 + length es)) (line ++ 10 ∷ []) (entries_text es)
-    [] [] (e ∷ []) es one more in
+    (second_true (is_entry_of _ e) _ all) in
+    let both = taken_then r next _ (line ++ 10 ∷ []) (entries_text _) [] [] (e ∷ []) es one more in
     let same : r.line + 1 + length es ≡ r.line + suc (length es) = omega arith in
-    rw (← append_assoc line (10 ∷ []) (entries_text es))
-    (rw (← same) both)
+    rw (← append_assoc line (10 ∷ []) (entries_text es)) (rw (← same) both)
 
 -- entries at the front of a piece were taken in
 pub entries_fed : (h : Header) (r : LineState) (piece rest : List ℕ) (before after : List Entry)
@@ -87,15 +82,12 @@ fed_on a b c xs piece rest start start_new before middle after fed front = recor
   starts = fed.starts;
   start_grown = fed.start_grown;
   found = fed.found ++ front.found;
-  grown = front.grown ∙ ap (λ t. t ++ front.found) fed.grown
-      ∙ append_assoc before fed.found front.found;
-  taken = subst (λ ss. IsTaken a (xs ++ front.read) ss (fed.found ++ front.found) c)
-      (append-nil fed.starts)
+  grown = cc (front.grown, fed.grown, append_assoc before fed.found front.found);
+  taken = rw (← append-nil fed.starts)
       (taken_then a b c xs front.read fed.starts [] fed.found front.found fed.taken front.taken);
 }
 
 -- what isn't there is nothing in any view of it
 pub none_mapped : {A B : Type 0} (f : A → B) (o : Option A) → is_some o ≡ false → option_map f o
     ≡ None
-none_mapped f None e = refl
-none_mapped f (Some x) e = cc
+none_mapped f o e = search arith

@@ -36,11 +36,7 @@ module _ (r : ReaderState) (bytes more : List ℕ) (low : 1 ≤ r.max_lines) whe
       by_fault : (o : Option TextFault) → old.fault ≡ o → (found : List Entry)
           × (new.entries ≡ old.entries ++ found)
       by_fault None e = grown.grown.entries e
-      by_fault (Some f) e = (
-        [],
-        ap (λ read. read.entries) (grown.grown.fault f e)
-            ∙ sym (append-nil old.entries),
-      )
+      by_fault (Some f) e = ([], cc (grown.grown.fault f e, append-nil old.entries),)
 
   pub starts_last : (found : List StartWord) × (new.starting ≡ old.starting ++ found)
   starts_last = by_fault old.fault refl
@@ -48,11 +44,7 @@ module _ (r : ReaderState) (bytes more : List ℕ) (low : 1 ≤ r.max_lines) whe
       by_fault : (o : Option TextFault) → old.fault ≡ o → (found : List StartWord)
           × (new.starting ≡ old.starting ++ found)
       by_fault None e = grown.grown.starting e
-      by_fault (Some f) e = (
-        [],
-        ap (λ read. read.starting) (grown.grown.fault f e)
-            ∙ sym (append-nil old.starting),
-      )
+      by_fault (Some f) e = ([], cc (grown.grown.fault f e, append-nil old.starting),)
 
   pub starts_stay : (has_any old.entries || old.ended) ≡ true → new.starting ≡ old.starting
   starts_stay begun = by_fault old.fault refl

@@ -28,8 +28,7 @@ use Rattle.vyrd_text.proofs.PartLaws.{one_before_space}
 -- a size that no number of callers follows
 pub no_callers : (text : List ℕ) (m : ℕ) (r : List ℕ) → m < 2 ^ 64 → text ≡ decimal m ++ 32 ∷ r
     → ((n : ℕ) → n < 2 ^ 32 → r ≡ decimal n → ⊥) → AreLimitsRead text None
-no_callers text m r low e none size callers sized f =
-    search (one_before_space, small_size, sized, small_callers, arith)
+no_callers text m r low e none = search (one_before_space, small_size, small_callers, arith)
 
 -- numbers that aren't within the limits
 pub not_sized : (text : List ℕ) (m n : ℕ) (r : List ℕ) → m < 2 ^ 64 → n < 2 ^ 64 → text ≡ decimal m
@@ -51,42 +50,26 @@ pub no_subject : (line r : List ℕ) (m : ℕ) (s : List ℕ) → m < 2 ^ 64 →
     → r ≡ decimal m ++ 32 ∷ s
     → ((subject : Subject) (rest : List ℕ) → is_built_in subject ≡ true → s ≡ subject_name subject
     ++ 32 ∷ rest → ⊥) → AreNumbersRead line None
-no_subject line r m s low e f none version subject size callers small built sized g =
-    let after = append_cancel_left (codes "vyrd ") r
-    (decimal version ++ 32 ∷ (subject_name subject ++ 32 ∷ (decimal size ++ 32 ∷ decimal callers)))
-    (sym e ∙ g) in
-    let is = one_before_space m version s
-    (subject_name subject ++ 32 ∷ (decimal size ++ 32 ∷ decimal callers)) low (omega arith)
-    (sym f ∙ after) in
-    none subject (decimal size ++ 32 ∷ decimal callers) built is.1
+no_subject line r m s low e f none = search (one_before_space, arith)
 
 -- a subject that no limits follow
 pub no_limits : (line r : List ℕ) (m : ℕ) (s : List ℕ) (found : Subject) (t : List ℕ) → m < 2 ^ 64
     → line ≡ codes "vyrd " ++ r → r ≡ decimal m ++ 32 ∷ s
     → s ≡ subject_name found ++ 32 ∷ t → AreLimitsRead t None → AreNumbersRead line None
-no_limits line r m s found t low e f h none version subject size callers small built sized g =
-    let after = append_cancel_left (codes "vyrd ") r
-    (decimal version ++ 32 ∷ (subject_name subject ++ 32 ∷ (decimal size ++ 32 ∷ decimal callers)))
-    (sym e ∙ g) in
-    let is = one_before_space m version s
-    (subject_name subject ++ 32 ∷ (decimal size ++ 32 ∷ decimal callers)) low (omega arith)
-    (sym f ∙ after) in
-    none size callers sized (one_name found subject t (decimal size ++ 32 ∷ decimal callers)
-    (sym h ∙ is.1))
+no_limits line r m s found t low e f h none = search (one_before_space, one_name, arith)
 
 -- a line with a version, a subject and limits is read as that header, where the version is known
 pub header_known : (line : List ℕ) (version : ℕ) (subject : Subject) (size callers : ℕ)
     → AreNumbersRead line (Some (version, subject, size, callers))
     → header_in line ≡ ok_or (header_of version subject size callers) UnknownVersion
 unfolding header_in
-header_known line version subject size callers is =
-    ap (λ l. header_from l (fields_of l)) is.3
+header_known line version subject size callers is = ap (λ l. header_from l (fields_of l)) is.3
     ∙ ap (header_from text) fields
     ∙ (λ i. header_spelled text (number_of_decimal version v i) (subject_read subject is.1 i)
     (number_of_decimal size s i) (number_of_decimal callers c i))
     ∙ ap (λ b. cond b (ok_or (header_of version subject size callers) UnknownVersion)
-    (Err BadHeader))
-    (both_true _ _ (both_true _ _ (is_below version (2 ^ 32) is.0) is.2) (bytes_same text))
+    (Err BadHeader)) (both_true _ _ (both_true _ _ (is_below version (2 ^ 32) is.0) is.2)
+    (bytes_same text))
   where
     text : List ℕ
     text = header_line version subject size callers
@@ -104,9 +87,7 @@ header_known line version subject size callers is =
     parts = decimal version ∷ subject_name subject ∷ decimal size ∷ decimal callers ∷ []
 
     plain : list_all is_plain_field (codes "vyrd" ∷ parts) ≡ true
-    plain = both_true _ _ (plain_number version v)
-        (both_true _ _ (plain_subject subject)
-        (both_true _ _ (plain_number size s) (both_true _ _ (plain_number callers c) refl)))
+    plain = search (both_true, plain_number, plain_subject, arith)
 
     fields : fields_of text ≡ codes "vyrd" ∷ parts
     fields = split-join 32 (codes "vyrd") parts (plain_spaces (codes "vyrd" ∷ parts) plain)
@@ -151,13 +132,7 @@ header_unknown line none = sym (from_none line (fields_of line) none)
 made_if : (h : Header) (b : Bool) (e : limits_of h.subject h.version h.size h.callers ≡ b)
     → b ≡ true
     → Some h ≡ header_if h.version h.subject h.size h.callers b e
-made_if h true e t = ap (λ w. Some (record {
-  version = h.version;
-  subject = h.subject;
-  size = h.size;
-  callers = h.callers;
-  within = w;
-})) (Bool-set _ _ h.within e)
+made_if h true e t = ap (λ w. Some (record h { within = w })) (Bool-set _ _ _ e)
 made_if h false e t = cc
 
 pub made : (version : ℕ) (subject : Subject) (size callers : ℕ) (h : Header) → h.version ≡ version
@@ -171,8 +146,7 @@ not_made_if : (version : ℕ) (subject : Subject) (size callers : ℕ) (b : Bool
     (e : limits_of subject version size callers ≡ b)
     → ¬ (limits_of subject version size callers ≡ true) → header_if version subject size callers b e
     ≡ None
-not_made_if version subject size callers true e no_header = absurd (no_header e)
-not_made_if version subject size callers false e no_header = refl
+not_made_if version subject size callers b e no_header = search arith
 
 pub not_made : (version : ℕ) (subject : Subject) (size callers : ℕ)
     → ¬ (limits_of subject version size callers ≡ true)

@@ -122,12 +122,10 @@ header_step input line more lack = grind (arith, split_at 10 line more lack, (pa
 nothing_more : (max : ℕ) (h : Header) (starting : Bool) (last : Option StartWord) (n : ℕ)
     → body_on (record { max_lines = max; is_whole = false }) h starting last n ([] ∷ [])
     ≡ stopped n None
-nothing_more max h true last n = refl
-nothing_more max h false last n = refl
+nothing_more max h starting last n = search arith
 
 few : (b : Bool) (n : ℕ) → cond b n 0 ≤ n
-few true n = omega arith
-few false n = omega arith
+few b n = search arith
 
 -- what a line is to a reader where nothing is wrong yet
 module _ (r : LineState) (line : List ℕ) (lack : lacks 10 line ≡ true) (fine : r.fault ≡ None)

@@ -59,22 +59,20 @@ module _ (text ds : List ℕ) (rest : Option (List ℕ)) (e : text ≡ ds ++ aft
     (all : AllDigits 10 ds) where
   pub bad_byte : (i : ℕ) → AllDigits 10 (take i text) → i < length text → get_or text i 0 ≢ 32
       → ¬ (digit_value (get_or text i 0) < 10) → ⊥
-  bad_byte i front h space digit = bad_byte_at i ds rest all (rw e at front) (rw e at h)
-      (rw e at space) (rw e at digit)
+  bad_byte i front h space digit = search (bad_byte_at, arith)
 
   -- digits whose value is too large aren't at the front of a field with a small value
   pub too_large : (i : ℕ) → AllDigits 10 (take i text) → i < length text
       → digit_value (get_or text i 0) < 10 → digits_value 10 ds < 2 ^ 64
       → 2 ^ 64 ≤ digits_value 10 (take i text) * 10 + digit_value (get_or text i 0) → ⊥
   too_large i front h digit small large =
-      let all_more : AllDigits 10 (take (i + 1) text) = digits_more 10 text i h front digit in
+      let all_more : AllDigits 10 (take (i + 1) text) = digits_more _ _ i h front digit in
       let value_more : digits_value 10 (take (i + 1) text) ≡ digits_value 10 (take i text) * 10
-      + digit_value (get_or text i 0) =
-      digits_value_more 10 text i h in
-      let within : i + 1 ≤ length ds = digits_within (i + 1) ds rest (rw e at all_more)
+      + digit_value (get_or text i 0) = digits_value_more _ _ i h in
+      let within : i + 1 ≤ length ds = digits_within _ _ rest (rw e at all_more)
       (rw e at (let l : i + 1 ≤ length text = omega arith in l)) in
-      let same : take (i + 1) text ≡ take (i + 1) ds = ap (take (i + 1)) e
-      ∙ take-append-le (i + 1) ds (after_field rest) within in
+      let same : take (i + 1) text ≡ take (i + 1) ds = ap (take _) e
+      ∙ take-append-le _ _ _ within in
       let part : digits_value 10 (take (i + 1) ds) ≤ digits_value 10 ds = digits_value-take-le 10 ds
       (i + 1) (omega arith) in
       omega (arith, ap (digits_value 10) same, value_more, part)
@@ -98,9 +96,7 @@ no_number text none n rest small e =
 pub number_end : (text : List ℕ) (value end n : ℕ) (rest : Option (List ℕ))
     → IsDigitField text value end → n < 2 ^ 64
     → text ≡ decimal n ++ after_field rest → end ≡ length (decimal n)
-number_end text value end n rest field small e =
-    field_is text (decimal n) rest e (digits_of_decimal n small) end field.digits field.within
-    field.ended
+number_end text value end n rest field small e = search (field_is, digits_of_decimal, arith)
 
 -- an empty field is no number
 pub empty_field : (text : List ℕ) (value end : ℕ) → IsDigitField text value end → end ≡ 0
@@ -127,10 +123,9 @@ number_found : (text : List ℕ) (value end : ℕ) → IsDigitField text value e
     → 0 < end
     → (get_or (take end text) 0 0 ≡ 48 → length (take end text) ≡ 1) → IsNumberField text value end
 number_found text value end field small some canonical =
-    let many : length (take end text) ≡ end = length-take-le end text field.within in
-    let spelled : decimal (digits_value 10 (take end text)) ≡ take end text =
-    decimal-digits_value (numerals_by_value (AllDigits 10) tells_digits)
-    (take end text) field.digits (omega arith) canonical
+    let many : length (take end text) ≡ end = length-take-le _ _ field.within in
+    let spelled : decimal (digits_value 10 (take end text)) ≡ take end text = decimal-digits_value
+    (numerals_by_value _ tells_digits) _ field.digits (omega arith) canonical
     (omega (arith, field.value_is)) in
     record {
       within = field.within;
@@ -158,11 +153,10 @@ pub one_number : (text : List ℕ) (m end n : ℕ) (rest : Option (List ℕ)) �
     → (end ≡ length (decimal n)) × (m ≡ n)
 one_number text m end n rest field low small e =
     let digits : AllDigits 10 (take end text) = rw field.spelled (digits_of_decimal m low) in
-    let is = field_is text (decimal n) rest e (digits_of_decimal n small) end digits field.within
-    field.ended in (
+    let is = field_is _ _ _ e (digits_of_decimal n small) _ digits field.within field.ended in (
       is,
-      decimal_injective m n low small (sym field.spelled ∙ ap (take end) e
-          ∙ take_at (decimal n) (after_field rest) end (sym is)),
+      decimal_injective m n low small (sym field.spelled ∙ ap (take _) e
+          ∙ take_at _ _ _ (sym is)),
     )
 
 -- a digit's value

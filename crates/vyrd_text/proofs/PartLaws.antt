@@ -24,31 +24,18 @@ pub one_before_space : (m n : ℕ) (r s : List ℕ) → m < 2 ^ 64 → n < 2 ^ 6
     ≡ decimal n ++ 32 ∷ s → (m ≡ n) × (r ≡ s)
 one_before_space m n r s low small e =
     let parts : decimal m ∷ slice_split (λ b. b == 32) r ≡ decimal n ∷ slice_split
-    (λ b. b == 32) s =
-    sym (split_at 32 (decimal m) r (decimal_lacks 32 m no_space low))
-    ∙ ap (slice_split (λ b. b == 32)) e
-    ∙ split_at 32 (decimal n) s (decimal_lacks 32 n no_space small) in
+    (λ b. b == 32) s = sym (split_at _ _ r (decimal_lacks _ m no_space low)) ∙ ap (slice_split _) e
+    ∙ split_at _ _ s (decimal_lacks _ n no_space small) in
     let same : decimal m ≡ decimal n = cc in
-    let tails : 32 ∷ r ≡ 32 ∷ s = append_cancel_left (decimal m) (32 ∷ r) (32 ∷ s)
-    (e ∙ ap (λ t. t ++ 32 ∷ s) (sym same)) in
+    let tails : 32 ∷ r ≡ 32 ∷ s = append_cancel_left (decimal m) _ _ (cc) in
     (decimal_injective m n low small same, cc)
 
 -- a word before a space that no value follows isn't a write
 pub no_value : (text : List ℕ) (w : ℕ) (r : List ℕ) → w < 2 ^ 64 → text ≡ decimal w ++ 32 ∷ r
     → ((n : ℕ) → n < 2 ^ 64 → r ≡ decimal n → ⊥)
     → (subject : Subject) → IsKindRead subject (codes "write " ++ text) None
-no_value text w r low e none subject (Write word value) ok f =
-    let small : word < 2 ^ 32 = below_of word (2 ^ 32) (first_true _ _ ok) in
-    let fits : value < 2 ^ 64 = below_of value (2 ^ 64) (second_true (nat_lt word (2 ^ 32)) _ ok) in
-    let is = one_before_space w word r (decimal value) low (omega arith)
-    (sym e ∙ append_cancel_left (codes "write ") text (decimal word ++ 32 ∷ decimal value) f) in
-    none value fits is.1
-no_value text w r low e none subject (Call method args) ok f = grind arith
-no_value text w r low e none subject (Return reply) ok f = grind arith
-no_value text w r low e none subject Commit ok f = grind arith
-no_value text w r low e none subject BlockOpen ok f = grind arith
-no_value text w r low e none subject BlockClose ok f = grind arith
-no_value text w r low e none subject BlockCommit ok f = grind arith
+no_value text w r low e none subject = search
+    (below_of, first_true, second_true, one_before_space, arith)
 
 -- nor is a word before what no call spells a call
 pub no_call : (subject : Subject) (text : List ℕ) → IsCallRead subject text None
@@ -68,11 +55,7 @@ no_middle text m r low e none args padded a b c f = search (one_before_space, ar
 pub no_third : (text : List ℕ) (m n : ℕ) (r s : List ℕ) → m < 2 ^ 64 → n < 2 ^ 64 → text ≡ decimal m
     ++ 32 ∷ r
     → r ≡ decimal n ++ 32 ∷ s → ((k : ℕ) → k < 2 ^ 32 → s ≡ decimal k → ⊥) → AreArgsRead 3 text None
-no_third text m n r s low small e f none args padded a b c g =
-    let is = one_before_space m args.a r (decimal args.b ++ 32 ∷ decimal args.c) low (omega arith)
-    (sym e ∙ g) in
-    let more = one_before_space n args.b s (decimal args.c) small (omega arith) (sym f ∙ is.1) in
-    none args.c c more.1
+no_third text m n r s low small e f none = search (one_before_space, arith)
 
 -- an entry's line is its caller, a space and what it says
 pub entry_line_is : (caller : ℕ) (kind : Kind)
@@ -99,11 +82,8 @@ no_caller subject line none = grind (arith, no_entry, below_of, first_true, entr
 pub no_kind : (subject : Subject) (line : List ℕ) (caller : ℕ) (rest : List ℕ) → caller < 2 ^ 64
     → line ≡ decimal caller ++ 32 ∷ rest → IsKindRead subject rest None
     → None ≡ entry_in subject line
-no_kind subject line caller rest low is none = no_entry subject line (λ e ok same.
-    let small : e.caller < 2 ^ 32 = below_of e.caller (2 ^ 32) (first_true _ _ ok) in
-    let parts = one_before_space caller e.caller rest (kind_text e.kind) low (omega arith)
-    (sym is ∙ same ∙ entry_line_is e.caller e.kind) in
-    none e.kind (second_true (nat_lt e.caller (2 ^ 32)) _ ok) parts.1)
+no_kind subject line caller rest low is none = search
+    (no_entry, below_of, first_true, one_before_space, entry_line_is, second_true, arith)
 
 -- a line that is an entry's
 pub entry_read : (subject : Subject) (line : List ℕ) (caller : ℕ) (kind : Kind) (rest : List ℕ)
@@ -113,5 +93,4 @@ pub entry_read : (subject : Subject) (line : List ℕ) (caller : ℕ) (kind : Ki
 entry_read subject line caller kind rest low is read =
     let entry : Entry = record { caller = caller; kind = kind } in
     let same : line ≡ entry_line entry = cc (read.1, entry_line_is caller kind) in
-    sym (ap (entry_in subject) same ∙ entry_in-entry_line subject entry
-    (both_true _ _ (is_below caller (2 ^ 32) low) read.0))
+    sym (ap (entry_in _) same ∙ entry_in-entry_line _ _ (both_true _ _ (is_below _ _ low) read.0))

@@ -10,16 +10,14 @@ use Rattle.vyrd_base.proofs.SplitLaws.{lacks}
 use Rattle.vyrd_base.proofs.TestLaws.{both_true}
 
 not_true : (b : Bool) → ¬ (b ≡ true) → not b ≡ true
-not_true true h = absurd (h refl)
-not_true false h = refl
+not_true b h = search arith
 
 -- before the first line feed there is none
 pub front_one_line : (k : ℕ) (xs : List ℕ) → k ≤ length xs
     → ((i : ℕ) → i < k → ¬ ((get_or xs i 0 == 10) ≡ true)) → lacks 10 (take k xs) ≡ true
 front_one_line zero xs h none = refl
 front_one_line (suc k) [] h none = refl
-front_one_line (suc k) (x ∷ xs) h none =
-    both_true _ _ (not_true (x == 10) (none 0 (omega arith)))
+front_one_line (suc k) (x ∷ xs) h none = both_true _ _ (not_true _ (none 0 (omega arith)))
     (front_one_line k xs (omega arith) (λ i l. none (suc i) (omega arith)))
 
 pub whole_one_line : (xs : List ℕ) → ((i : ℕ) → i < length xs → ¬ ((get_or xs i 0 == 10) ≡ true))
@@ -33,9 +31,8 @@ is_byte b e = grind (arith, nat_tests)
 -- and after it stands the rest
 pub parts_at : (xs : List ℕ) (k : ℕ) → k < length xs → (get_or xs k 0 == 10) ≡ true
     → xs ≡ take k xs ++ 10 ∷ take (length xs - (k + 1)) (drop (k + 1) xs)
-parts_at xs k h e =
-    sym (take-append-drop k xs) ∙ ap (λ t. take k xs ++ t) (drop_more xs k 0 h
-    ∙ (λ i. is_byte (get_or xs k 0) e i ∷ sym (take_rest xs (k + 1)) i))
+parts_at xs k h e = sym (take-append-drop k _) ∙ ap (λ t. take k xs ++ t)
+    (drop_more _ k 0 h ∙ (λ i. is_byte _ e i ∷ sym (take_rest xs (k + 1)) i))
 
 -- a line takes one line feed away
 pub count_line : (line after : List ℕ) → 1 + count_by (λ b. b == 10) after ≤ count_by (λ b. b == 10)

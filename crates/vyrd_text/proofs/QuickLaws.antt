@@ -32,20 +32,11 @@ module _ (text : List ℕ) (value end : ℕ) (within : end ≤ length text)
   same = take_all end (take end text) (omega (arith, many))
 
   field : IsDigitField (take end text) value end
-  field = record {
-    within = omega (arith, many);
-    digits = subst (AllDigits 10) (sym same) digits;
-    value_is = is ∙ ap (digits_value 10) (sym same);
-    ended = λ l. absurd (omega (arith, many, l));
-  }
+  field = search (many, same, arith)
 
   -- one digit
   pub front_digit : end ≡ 1 → IsFrontNumber text value end
-  front_digit one = record {
-    within = within;
-    spelled = sym same
-        ∙ (one_digit (take end text) value end field small one).spelled;
-  }
+  front_digit one = search (same, one_digit, field, arith)
 
   -- more digits that don't begin with 0
   pub front_digits : 1 < end → get_or text 0 0 ≢ 48 → IsFrontNumber text value end
@@ -68,9 +59,8 @@ all_more : (subject : Subject) (es : List Entry) (e : Entry) → list_all (is_en
     ≡ true → is_entry_of subject e ≡ true
     → list_all (is_entry_of subject) (es ++ e ∷ []) ≡ true
 all_more subject [] e all is = both_true _ _ is refl
-all_more subject (x ∷ es) e all is =
-    both_true _ _ (first_true _ _ all)
-    (all_more subject es e (second_true (is_entry_of subject x) _ all) is)
+all_more subject (x ∷ es) e all is = both_true _ _ (first_true _ _ all)
+    (all_more subject es e (second_true (is_entry_of _ x) _ all) is)
 
 pub one_more : (subject : Subject) (text : List ℕ) (before middle after : List Entry)
     (rest more : List ℕ) (count : ℕ) (e : Entry)
@@ -96,16 +86,15 @@ module _ (text : List ℕ) (value end : ℕ) (counted : end ≡ 0 + digits_len (
   read_value =
       let front : slice_range text 0 end ≡ take end text = ap (λ n. take n text)
       (let e : end - 0 ≡ end = omega arith in e) in
-      let below : digits_value 10 (take end text) < 10 ^ length (take end text) = digits_value-lt 10
-      (take end text) read_all in
+      let below : digits_value 10 (take end text) < 10 ^ length (take end text) =
+      digits_value-lt _ _ read_all in
       let short : length (take end text) ≤ 19 = omega (arith, length-take end text, few) in
       let bound : 10 ^ length (take end text) ≤ 10 ^ 19 = pow-le-pow_right
       (let p : 0 < 10 = omega arith in p) short in
       let small : digits_value 10 (take end text) < 2 ^ 64 = omega (arith, below, bound) in
       let plain : 0 * 10 ^ (end - 0) + digits_value 10 (slice_range text 0 end) ≡ digits_value 10
-      (take end text) =
-      omega (arith, ap (digits_value 10) front) in
-      is ∙ ap (λ n. n % 2 ^ 64) plain ∙ mod-eq_of_lt small
+      (take end text) = omega (arith, ap (digits_value 10) front) in
+      cc (mod-eq_of_lt small)
 
 -- one digit before a byte
 pub digit_front : (text : List ℕ) (n byte : ℕ) → 2 ≤ length text
@@ -117,9 +106,8 @@ digit_front (d ∷ b ∷ rest) n byte long digit is next =
     let range = digit_from_value d digit in
     let small : n < 10 = omega (arith, range, is) in
     let same : 48 + n ≡ d = omega (arith, range, is) in
-    let spelled : decimal n ≡ d ∷ [] = decimal_digit n small ∙ ap (λ x. x ∷ []) same in
-    let tail : take (length (d ∷ b ∷ rest) - 2) rest ≡ rest = take_all (length (d ∷ b ∷ rest) - 2)
-    rest (omega arith) in
+    let spelled : decimal n ≡ d ∷ [] = cc (decimal_digit n small) in
+    let tail : take (length (d ∷ b ∷ rest) - 2) rest ≡ rest = take_all _ _ (omega arith) in
     λ i. sym spelled i ++ next i ∷ sym tail i
 
 -- that many digits at the front, and the number that they write
@@ -151,14 +139,13 @@ pub digits_front : (text : List ℕ) (value end byte : ℕ) → AreFrontDigits t
     → get_or text 0 0 ≢ 48 → get_or text end 0 ≡ byte
     → text ≡ decimal value ++ byte ∷ take (length text - (end + 1)) (drop (end + 1) text)
 digits_front text value end byte are some few within first next =
-    let below : digits_value 10 (take end text) < 10 ^ length (take end text) = digits_value-lt 10
-    (take end text) are.1 in
+    let below : digits_value 10 (take end text) < 10 ^ length (take end text) =
+    digits_value-lt _ _ are.1 in
     let short : length (take end text) ≤ 4 = omega (arith, length-take end text, few) in
     let bound : 10 ^ length (take end text) ≤ 10 ^ 4 = pow-le-pow_right
     (let p : 0 < 10 = omega arith in p) short in
     let small : value < 2 ^ 64 = omega (arith, are.2, below, bound) in
-    sym (take-append-drop end text)
-    ∙ ap (λ t. take end text ++ t)
+    sym (take-append-drop end _) ∙ ap (λ t. take end text ++ t)
     (drop_more text end 0 within ∙ (λ i. next i ∷ sym (take_rest text (end + 1)) i))
     ∙ ap (λ t. t ++ byte ∷ take (length text - (end + 1)) (drop (end + 1) text))
-    (front_digits text value end are.0 are.1 are.2 small some first).spelled
+    (front_digits text _ end are.0 are.1 are.2 small some first).spelled

@@ -52,13 +52,11 @@ noticed_of r bytes has =
     let on = goes_on (lines_of r) false [] in
     let now : reading (so_far r) bytes ≡ with_read (starting_of r bytes) (entries_of r bytes) on =
     read_now (lines_of r) bytes false (starting_of r bytes) (entries_of r bytes) has.follows in
-    let header : on.header ≡ r.header = sym (ap (λ read. read.header) now) ∙ sym has.header in
-    let no_start : on.starting ≡ [] = nothing_after (starting_of r bytes) on.starting
-    (ap (λ read. read.starting) now) in
-    let none : on.entries ≡ [] = nothing_after (entries_of r bytes) on.entries
-    (ap (λ read. read.entries) now) in
-    let done : on.ended ≡ r.ended = sym (ap (λ read. read.ended) now) ∙ sym has.ended in
-    let fault : on.fault ≡ r.fault = sym (ap (λ read. read.fault) now) ∙ sym has.fault in
+    let header : on.header ≡ r.header = sym (cc) ∙ sym has.header in
+    let no_start : on.starting ≡ [] = nothing_after (starting_of r bytes) on.starting (cc) in
+    let none : on.entries ≡ [] = nothing_after (entries_of r bytes) on.entries (cc) in
+    let done : on.ended ≡ r.ended = sym (cc) ∙ sym has.ended in
+    let fault : on.fault ≡ r.fault = sym (cc) ∙ sym has.fault in
     λ i. record {
       header = header i;
       starting = no_start i;
@@ -175,16 +173,12 @@ no_fault n (Some rule) e = cc
 pub whole_read : (r : ReaderState) (bytes : List ℕ) → HasRead r bytes
     → reading (whole r) bytes ≡ with_read (starting_of r bytes) (entries_of r bytes)
     (goes_on (lines_of r) true [])
-whole_read r bytes has = read_now (lines_of r) bytes true (starting_of r bytes) (entries_of r bytes)
-    has.follows
+whole_read r bytes has = read_now (lines_of r) _ _ (starting_of r _) (entries_of r _) has.follows
 
 module _ (r : LineState) where
   -- a fault that stands is the fault of the whole
   pub fault_at_end : (f : TextFault) → r.fault ≡ Some f → r.fault ≡ (goes_on r true []).fault
-  fault_at_end f is = is
-      ∙ sym (ap (λ o.
-      (unless_faulty r (input_to r true) (slice_split (λ b. b == 10) (r.unfinished ++ [])) o).fault)
-      is)
+  fault_at_end f is = cc
 
   module _ (noticed : IsNoticed r) (fine : r.fault ≡ None) where
     -- the lines, and the unfinished one

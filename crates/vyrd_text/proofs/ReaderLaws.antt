@@ -18,10 +18,7 @@ use Rattle.vyrd_text.specs.Steps.{with_line, IsTaken, IsLineTaken}
 -- what was read before, before what was read before
 twice : (ss ts : List StartWord) (es gs : List Entry) (r : Reading)
     → with_read ss es (with_read ts gs r) ≡ with_read (ss ++ ts) (es ++ gs) r
-twice ss ts es gs r = λ i. record r {
-  starting = sym (append_assoc ss ts r.starting) i;
-  entries = sym (append_assoc es gs r.entries) i;
-}
+twice ss ts es gs r = search (append_assoc, arith)
 
 -- a line that goes on
 pub longer_line : (r : LineState) (ss : List StartWord) (es : List Entry) (before xs : List ℕ)
@@ -36,9 +33,8 @@ pub fault_found : (r : LineState) (ss : List StartWord) (es : List Entry) (befor
     → Follows (record r { fault = Some f }) ss es (before ++ xs)
 fault_found r ss es before xs f low follows is is_whole more =
     let old : reading (input_of r.max_lines false) (before ++ xs) ≡ with_read ss es
-    (known r (Some f)) = follows false xs ∙ ap (with_read ss es) is in
-    (reading_grows r.max_lines is_whole (before ++ xs) more low).grown.fault f
-    (ap (λ read. read.fault) old) ∙ old
+    (known r (Some f)) = follows _ _ ∙ ap (with_read _ _) is in
+    (reading_grows _ _ _ _ low).grown.fault f (ap (λ read. read.fault) old) ∙ old
 
 -- one step of the reader, from one reader to another with the same limit
 pub step : (r new : LineState) (ss ts : List StartWord) (es gs : List Entry) (before xs : List ℕ)
@@ -90,37 +86,31 @@ line_at_once a c line ss found empty taken = record {
   max_lines = taken.max_lines;
   follows = λ rs es before f is_whole more.
       ap (λ t. reading (input_to c is_whole) (t ++ more)) (sym (append_assoc before line (10 ∷ [])))
-      ∙ taken.follows rs es (before ++ line) (λ w m. longer_line a rs es before line f w m
-      ∙ ap (λ t. with_read rs es (goes_on (with_line a (t ++ line)) w m)) empty) is_whole more;
+      ∙ taken.follows _ _ (before ++ line) (λ w m. cc (longer_line a rs es before line f w m)) _ _;
   noticed = λ n. taken.noticed;
   room = λ after.
       let same : line ++ 10 ∷ after ≡ a.unfinished ++ ((line ++ 10 ∷ []) ++ after) =
-      sym (append_assoc line (10 ∷ []) after) ∙ ap (λ t. t ++ ((line ++ 10 ∷ []) ++ after))
-      (sym empty) in
-      subst (λ t. length ss + starts_ahead c after ≤ starts_in_lines a.fault a.header a.starting
-      (slice_split (λ b. b == 10) t))
-      same (taken.room after);
+      cc (append_assoc line (10 ∷ []) after) in
+      rw (← same) (taken.room after);
 }
 
 -- a reader with a fault takes nothing in
 pub faulty_taken : (a : LineState) (f : TextFault) (xs : List ℕ) → 1 ≤ a.max_lines
     → a.fault ≡ Some f → IsTaken a xs [] [] a
-faulty_taken a f xs low is = record {
-  max_lines = refl;
-  follows = λ ss es before fol is_whole more.
-      fault_found a ss es before xs f low fol
-      (ap (unless_faulty a (input_to a false) (slice_split (λ b. b == 10) (a.unfinished ++ xs))) is)
-      is_whole more
-      ∙ (λ i. with_read (sym (append-nil ss) i) (sym (append-nil es) i) (known a (Some f)))
-      ∙ ap (λ o. with_read (ss ++ []) (es ++ [])
-      (unless_faulty a (input_to a is_whole) (slice_split (λ b. b == 10) (a.unfinished ++ more)) o))
-      (sym is);
-  noticed = λ n. n;
-  room = λ after.
-      let none : starts_ahead a after ≡ 0 =
-      cc in
-      omega (arith, none);
-}
+faulty_taken a f xs low is =
+    record {
+      max_lines = refl;
+      follows = λ ss es before fol is_whole more. fault_found a ss es before xs f low fol
+          (ap (unless_faulty a _ _) is) is_whole more
+          ∙ (λ i. with_read (sym (append-nil ss) i) (sym (append-nil es) i) (known a (Some f)))
+          ∙ ap (λ o. with_read (ss ++ []) (es ++ [])
+          (unless_faulty a (input_to a is_whole) (slice_split (λ b. b == 10) (a.unfinished ++ more))
+          o)) (sym is);
+      noticed = λ n. n;
+      room = λ after.
+          let none : starts_ahead a after ≡ 0 = cc in
+          omega (arith, none);
+    }
 
 -- a fault that is found when bytes come
 pub fault_taken : (a : LineState) (f : TextFault) (xs : List ℕ) → 1 ≤ a.max_lines
@@ -151,21 +141,13 @@ reader_with r start = record {
 
 pub fresh_has_read : (max : ℕ) → HasRead (reader_with (fresh max) []) []
 unfolding reading
-fresh_has_read max = record {
-  header = refl;
-  start = refl;
-  ended = refl;
-  fault = refl;
-  follows = λ is_whole more. refl;
-}
+fresh_has_read max = search arith
 
 pub no_none : (o : Option Header) → IsSome o → o ≡ None → ⊥
-no_none None is e = cc
-no_none (Some h) is e = cc
+no_none o is e = search arith
 
 pub none_of : (o : Option Header) → is_some o ≡ false → o ≡ None
-none_of None e = refl
-none_of (Some h) e = cc
+none_of o e = search arith
 
 pub some_of : (o : Option Header) → is_some o ≡ true → (h : Header) × (o ≡ Some h)
 some_of None e = cc

@@ -25,15 +25,13 @@ unfinished_cases : (max n : ℕ) (bad : Rule) (ys : List ℕ)
 unfinished_cases max n bad ys = grind (arith, has_any)
 
 some_bytes : (ys : List ℕ) → 0 < length ys → has_any ys ≡ true
-some_bytes [] h = absurd (omega arith)
-some_bytes (y ∷ ys) h = refl
+some_bytes ys h = search arith
 
 -- an unfinished line is the same, whether it may become a starting line or not
 pub rest_body : (input : Input) (h : Header) (starting : Bool) (last : Option StartWord) (n : ℕ)
     (ys : List ℕ)
     → body_on input h starting last n (ys ∷ []) ≡ stopped n (unfinished_rule input n BadEntry ys)
-rest_body input h true last n ys = refl
-rest_body input h false last n ys = refl
+rest_body input h starting last n ys = search arith
 
 -- a reader where nothing is wrong, with bytes that don't end its line
 module _ (r : LineState) (fine : r.fault ≡ None) (low : 1 ≤ r.max_lines)
@@ -45,9 +43,8 @@ module _ (r : LineState) (fine : r.fault ≡ None) (low : 1 ≤ r.max_lines)
   -- they are one unfinished line
   on : goes_on r false xs ≡ lines_on (input_to r false) r.line r.header r.starting r.last r.ended
       ((r.unfinished ++ xs) ∷ [])
-  on = fine_on r (input_to r false) (slice_split (λ b. b == 10) (r.unfinished ++ xs)) fine
-      ∙ ap (lines_on (input_to r false) r.line r.header r.starting r.last r.ended)
-      (split_whole 10 (r.unfinished ++ xs) (lacks-append 10 r.unfinished xs one_line lack))
+  on = fine_on r _ _ fine ∙ ap (lines_on _ _ _ _ _ _)
+      (split_whole _ _ (lacks-append 10 r.unfinished xs one_line lack))
 
   module _ (no_header : r.header ≡ None) (one : r.line ≡ 1) (not_ended : r.ended ≡ false) where
     first_rest : (o : Option Rule) → cond (nat_lt 64 (length (r.unfinished ++ xs)))

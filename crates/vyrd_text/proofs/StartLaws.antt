@@ -35,13 +35,8 @@ pub no_start_value : (line rest : List ℕ) (word : ℕ) (more : List ℕ) → l
     → word < 2 ^ 32
     → rest ≡ decimal word ++ 32 ∷ more → ((n : ℕ) → n < 2 ^ 64 → more ≡ decimal n → ⊥)
     → None ≡ start_in line
-no_start_value line rest word more is low parts none = no_start line (λ s ok same.
-    let small : s.word < 2 ^ 32 = below_of s.word (2 ^ 32) (first_true _ _ ok) in
-    let after = append_cancel_left (codes "start ") rest (decimal s.word ++ 32 ∷ decimal s.value)
-    (sym is ∙ same) in
-    let one = one_before_space word s.word more (decimal s.value) (omega arith) (omega arith)
-    (sym parts ∙ after) in
-    none s.value (below_of s.value (2 ^ 64) (second_true (nat_lt s.word (2 ^ 32)) _ ok)) one.1)
+no_start_value line rest word more is low parts none = search
+    (no_start, below_of, first_true, one_before_space, second_true, arith)
 
 -- a line that is one
 pub start_made : (line rest : List ℕ) (word : ℕ) (more : List ℕ) (value : ℕ) → line ≡ codes "start "

@@ -25,15 +25,13 @@ pub front_of_front : (old more middle now : List ℕ) → middle ≡ old ++ more
     → take (length middle) now ≡ middle → take (length old) now ≡ old
 front_of_front old more middle now e f =
     let long : length old ≤ length middle = omega (arith, ap length e, length-append old more) in
-    sym (take-take (length old) (length middle) now long) ∙ ap (take (length old)) (f ∙ e)
-    ∙ take_at old more (length old) refl
+    sym (take-take _ _ _ long) ∙ ap (take _) (f ∙ e) ∙ take_at _ _ _ refl
 
 -- the last part of what is appended
 pub appended : {E : Type 0} (r : Result (Unit {0}) E) (was more now target : List ℕ)
     → now ≡ cond (is_ok r) (was ++ more) was
     → was ++ more ≡ target → OnOk r (now ≡ target)
-appended (Ok x) was more now target e f = e ∙ f
-appended (Err x) was more now target e f = tt
+appended r was more now target e f = search arith
 
 -- a header, starting words, entries and `end` are a log's text
 pub whole_log : (h : Header) (start : List StartWord) (entries : List Entry)
@@ -43,15 +41,7 @@ pub whole_log : (h : Header) (start : List StartWord) (entries : List Entry)
     → third ≡ second ++ flat_map (λ e. ended_line (entry_line e)) entries → third ++ codes "end\n"
     ≡ old ++ log_text h start entries
 unfolding log_text
-whole_log h start entries old first second third e f g =
-    let line = ended_line (header_line h.version h.subject h.size h.callers) in
-    let starts = flat_map (λ s. ended_line (start_line s)) start in
-    let lines = flat_map (λ x. ended_line (entry_line x)) entries in
-    let begun : second ≡ old ++ (line ++ starts) = f ∙ ap (λ t. t ++ starts) e
-    ∙ append_assoc old line starts in
-    ap (λ t. t ++ codes "end\n")
-    (g ∙ ap (λ t. t ++ lines) begun ∙ append_assoc old (line ++ starts) lines)
-    ∙ append_assoc old ((line ++ starts) ++ lines) (codes "end\n")
+whole_log h start entries old first second third e f g = search (append_assoc, arith)
 
 -- an entry that has a spelling can be written
 entry_writable : (subject : Subject) (e : Entry) → is_entry_of subject e ≡ true

@@ -44,8 +44,7 @@ module _ (p : Plan) (s : St) (r : TraceKept p s) (id : ℕ) (v : Record)
       → (c : ℕ) → G.claimer k ≡ Some c → c ≢ By
   others_claim k inside not_here c is same = not_here (slice_index s.words (k + 1))
       (last_value G.history k)
-      (subst (InHand p.plain By k (slice_index s.words (k + 1)) (last_value G.history k))
-      Mine.at_stage
+      (subst (InHand _ _ k _ _) Mine.at_stage
       (in_hand p.plain G.stage k _ _ By (G.claimer k) (is ∙ ap Some same) (r.cells k inside)))
 
   module _ (k0 : ℕ) (inside : k0 < p.plain + p.locks) where

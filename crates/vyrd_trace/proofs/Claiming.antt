@@ -31,18 +31,17 @@ module _ (p : Plan) where
   unmoved s r id c v l at live i =
       let g = r.ghost_state in
       let mine = r.seats id v at live in
-      let same : set s.words i (slice_index s.words i) ≡ s.words = set-get_or s.words i 0 in
-      turned p s r i (slice_index s.words i) id c v v.lane v.stage l g at live record {
-        same = same_refl g v.caller;
+      let same : set s.words i (slice_index s.words i) ≡ s.words = set-get_or _ i 0 in
+      turned p s r i _ _ c v _ _ l g at live record {
+        same = same_refl g _;
         whole = mine.whole;
         at_stage = mine.at_stage;
         wide = ap length same ∙ r.wide;
-        counted = ap (λ (x : List ℕ). slice_index x 0) same ∙ r.counted;
+        counted = cc r.counted;
         legal = r.legal;
         short = let a = r.short v.caller in let b = ap length mine.whole in omega arith;
         claims = r.claims;
-        cells = λ k l. refit p.plain g.stage k _ _ _ _ (g.claimer k)
-            (ap (λ (x : List ℕ). slice_index x (k + 1)) same) refl (r.cells k l);
+        cells = λ k l. refit p.plain g.stage k _ _ _ _ (g.claimer k) (cc) refl (r.cells k l);
       }
 
   -- looks: nothing changes but the looks
@@ -51,15 +50,8 @@ module _ (p : Plan) where
   looks slots id me k live s r _ at _ =
       let v : Record = me.0 in
       let n : ℕ = slice_index s.words (k + 1) in
-      let g = r.ghost_state in
-      let mine = r.seats id v at live in
-      let l : Look = look_first v.look ((k + 1) - 1) n in (
-        acting v v.stage l,
-        keeps,
-        tt,
-        unmoved s r id me.1 v l at live (k + 1),
-        refl,
-      )
+      let l : Look = look_first v.look _ n in
+      (acting v _ l, keeps, tt, unmoved s r _ me.1 v l at live _, refl)
 
   -- a claim that is won: the word is `old`, which is even, and for a lock 0
   won : (s : St) (r : TraceKept p s) (id : ℕ) (c : List (ℕ × Unit {0})) (v : Record)
@@ -80,15 +72,10 @@ module _ (p : Plan) where
       let free = free_cell p.plain g.stage k0 old (last_value g.history k0) (g.claimer k0) even lock
       cell in
       let twice = free.1 in
-      let h : Ghost =
-      record {
-        history = g.history;
-        owner = g.owner;
-        stage = upd g.stage by st;
-        claimer = upd g.claimer k0 o;
-      } in
+      let h : Ghost = record g { stage = upd g.stage by st; claimer = upd g.claimer k0 o } in
       let words : List ℕ = set s.words (k0 + 1) new in
-      turned p s r (k0 + 1) new id c v v.lane st l h at live record {
+      turned p s r (k0 + 1) new id c v v.lane st l h at live
+      record {
         same = same_moved p s r id v at live k0 inside g.history st o (λ c _. refl);
         whole = mine.whole;
         at_stage = upd_here g.stage by st by refl;
@@ -99,17 +86,14 @@ module _ (p : Plan) where
         claims = claims_moved p s r id v at live k0 inside st o
             (λ k x. let y : k0 ≡ k = subst (λ (q : Stage). IsAt q k) is x in
             (sym y, refl)) (λ c no has. let f = free.0 in absurd (cc));
-        cells = moved p s r id v at live k0 inside st new o words g.history
+        cells =
+            moved p s r id v at live k0 inside st new o words g.history
             (λ k no. get_or-set_other s.words (k0 + 1) (k + 1) new 0 (λ z. no (omega arith)))
             (get_or-set_same s.words (k0 + 1) new 0 (omega arith)) (λ k _. refl)
             (nowhere_rest p.plain by k0 v.stage rest)
             (subst (InHand p.plain by k0 new (last_value g.history k0))
-            (sym (upd_here g.stage by st by refl ∙ is)) (
-              refl,
-              omega arith,
-              omega arith,
-              (λ z. let q = lock z in omega arith),
-            ));
+            (sym (upd_here g.stage by st by refl ∙ is))
+            (refl, omega arith, omega arith, (λ z. let q = lock z in omega arith)));
       }
 
   -- a try of a claim: won if the word is the expected one, and otherwise nothing changes but the
@@ -126,22 +110,17 @@ module _ (p : Plan) where
       let back : (k0 + 1) - 1 ≡ k0 = omega arith in
       let st : Stage = Claimed ((k0 + 1) - 1) (old / 2) in dite (ℕ_discrete n old)
       (λ hit. (
-        acting me.0 st l,
+        acting me.0 _ l,
         keeps,
         tt,
-        subst (λ (b : Bool). TraceKept p
-            (stepped s (k0 + 1) (either b new n) id me.1 (acting me.0 st l) keeps))
-            (sym (eq-eqb n old hit))
-            (won s r id me.1 me.0 k0 old new st l at live inside rest even lock up hit
-            (ap (λ (x : ℕ). Claimed x (old / 2)) back)),
+        rw (eq-eqb n old hit)
+            (won s r id me.1 me.0 k0 old new st l at live inside rest even lock up hit (cc)),
         ((λ _. refl), (λ no. absurd (no hit))),
-      ))
-      (λ miss. (
-        acting me.0 me.0.stage l,
+      )) (λ miss. (
+        acting me.0 _ l,
         keeps,
         tt,
-        subst (λ (b : Bool). TraceKept p
-            (stepped s (k0 + 1) (either b new n) id me.1 (acting me.0 me.0.stage l) keeps))
-            (sym (ne_eqb n old miss)) (unmoved s r id me.1 me.0 l at live (k0 + 1)),
+        rw (ne_eqb n old miss)
+            (unmoved s r id me.1 me.0 l at live (k0 + 1)),
         ((λ hit. absurd (miss hit)), (λ _. refl)),
       ))

@@ -62,25 +62,22 @@ module _ (p : Plan) (s : St) (r : TraceKept p s) (id : ℕ) (v : Record) (hs : L
   -- the one seat has the lane of every hand
   has : (c : ℕ) → c < length hs → (h : HandView) × (HasLane G id (own_lane_of h)) × (h.caller ≡ c)
       × (slice_index_or (lanes_of hs) c [] ≡ h.lane) × ((d : HandView) → slice_index_or hs c d ≡ h)
-  has c l = let f = lane_at hs c l in (
+  has c l = let f = lane_at _ c l in (
     f.0,
-    has_any p.callers G id v rest (r.seats id v at live) c (own_lane_of f.0)
-        (ap (λ (ls : List Lane). slice_get ls c) all
-        ∙ f.1),
-    ap (λ (h : HandView). h.caller) (sym (f.3 f.0)) ∙ order c f.0 l,
+    has_any p.callers G _ v rest (r.seats _ v at live) c _
+        (cc f.1),
+    cc (f.3 f.0, order c f.0 l),
     f.2,
     f.3,
   )
 
   -- no caller has an action in hand
   rests : (c : ℕ) → G.stage c ≡ Rest
-  rests c = dite (dec_lt c (length hs))
-      (λ l. let f = has c l in ap G.stage (sym f.2) ∙ f.1.rests)
+  rests c = dite (dec_lt c _) (λ l. let f = has c l in ap G.stage (sym f.2) ∙ f.1.rests)
       (λ no. (r.idle c (r.outside c (omega arith))).1)
 
   pub are_parts : AreParts G.history hs
-  are_parts k d l = let f = has k l in subst (λ (h : HandView). part h.caller G.history ≡ h.lane)
-      (sym (f.4 d)) f.1.whole
+  are_parts k d l = let f = has k l in rw (f.4 d) f.1.whole
 
   pub are_twice : AreTwice p G.history s.words
   are_twice k l = by_claimer (G.claimer k) (r.cells k l)
@@ -89,10 +86,7 @@ module _ (p : Plan) (s : St) (r : TraceKept p s) (id : ℕ) (v : Record) (hs : L
           (last_value G.history k) o
           → slice_index s.words (k + 1) ≡ 2 * last_value G.history k
       by_claimer None fits = fits
-      by_claimer (Some c) fits = let x : InHand p.plain c k (slice_index s.words (k + 1))
-          (last_value G.history k) Rest =
-          subst (InHand p.plain c k (slice_index s.words (k + 1)) (last_value G.history k))
-          (rests c) fits in absurd x
+      by_claimer (Some c) fits = search (rests, arith)
 
 abbrev pub size : HandView → ℕ
 size h = length h.lane
@@ -113,8 +107,7 @@ sums hs h parts (suc n) l =
     let b = below_more n h in
     let up : suc n ≡ n + 1 = omega arith in
     let same : size (get_or hs n at.0) ≡ size at.0 = ap size item in
-    let goal : below (suc n) h ≡ sum_by size (take (n + 1) hs) = omega arith in goal
-    ∙ ap (λ (k : ℕ). sum_by size (take k hs)) (sym up)
+    let goal : below (suc n) h ≡ sum_by size (take (n + 1) hs) = omega arith in cc
 
 -- the history is as long as the lanes together
 pub total_length : (hs : List HandView) (h : List Stamped) → IsMerge h (lanes_of hs) → length h
@@ -189,8 +182,7 @@ is_merge p words hs count order one = (merge, total_length hs one.history merge)
           let m = many in
           let inside : c < length hs = omega arith in
           let at = lane_at hs c inside in
-          ap (λ (x : ℕ). part x one.history) (sym (order c at.0 inside)) ∙ one.parts c at.0 inside
-          ∙ ap (λ (h : HandView). h.lane) (at.3 at.0) ∙ sym at.2;
+          cc (order c at.0 inside, one.parts c at.0 inside, at.3 at.0, at.2);
     }
 
 -- what a slice of a `Vec` that was lent whole writes back

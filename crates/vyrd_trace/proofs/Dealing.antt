@@ -22,8 +22,7 @@ use Rattle.vyrd_trace.specs.Rule.{Ghost, HasLane, Knows, TraceKept}
 use Rattle.vyrd_trace.proofs.Stays.{apart_from}
 
 no_lane : (i : ℕ) (l : Lane) → slice_get [] i ≡ Some l → ⊥
-no_lane zero l e = cc
-no_lane (suc i) l e = cc
+no_lane i l e = search arith
 
 none_is_legal : (z : Cells) → is_legal z [] ≡ true
 unfolding is_legal
@@ -58,20 +57,7 @@ opens p some_caller = record {
           stage = λ _. Rest;
           claimer = λ _. None;
         }) j v
-    one zero v e live = subst (Knows p.callers (record {
-      history = [];
-      owner = upd (λ _. None) 0 (Some 0);
-      stage = λ _. Rest;
-      claimer = λ _. None;
-    }) 0) (some-injective first_record v e) record {
-      owned = upd_here (λ _. None) 0 (Some 0) 0 refl;
-      whole = refl;
-      at_stage = refl;
-      in_range = some_caller;
-      others = λ i l h. absurd (no_lane i l h);
-      apart = λ i l h. absurd (no_lane i l h);
-      unmade = λ _ c le. upd_else (λ _. None) 0 (Some 0) c (λ z. omega arith);
-    }
+    one zero v e live = search (upd_here, no_lane, upd_else, arith)
     one (suc j) v e live = absurd (some-ne-none v (sym e))
 
 at_end : {A : Type 0} (l : List A) (a b : A) (j : ℕ) → get_elem? (l ++ a ∷ []) j ≡ some b
@@ -86,8 +72,7 @@ lane_kept : (g h : Ghost) (seat : ℕ) (l : Lane) → h.history ≡ g.history
     → ((c : ℕ) → h.stage c ≡ g.stage c)
     → (g.owner l.caller ≡ Some seat → h.owner l.caller ≡ Some seat) → HasLane g seat l
     → HasLane h seat l
-lane_kept g h seat l same stages owns has =
-    grind (arith, owns has.owned, has.whole, stages l.caller, has.rests)
+lane_kept g h seat l same stages owns has = search arith
 
 -- the record of a seat where new owners are added
 knows_kept : (n : ℕ) (g h : Ghost) (j : ℕ) (u : Record) → h.history ≡ g.history
@@ -114,17 +99,13 @@ splits p id v live zeroth room s r at =
     let new : ℕ = length views in
     let free : g.owner v.next ≡ None = mine.unmade zeroth v.next (omega arith) in
     let idle = r.idle v.next free in
-    let h : Ghost = record {
-      history = g.history;
-      owner = upd g.owner v.next (Some new);
-      stage = g.stage;
-      claimer = g.claimer;
-    } in
+    let h : Ghost = record g { owner = upd g.owner v.next (Some new) } in
     let others = λ (c j : ℕ) (o : g.owner c ≡ Some j). let no : c ≢ v.next = λ e. let f : g.owner c
     ≡ g.owner v.next = ap g.owner e in absurd (cc) in upd_else g.owner v.next (Some new) c no ∙ o in
     let positive : v.next ≢ 0 = λ e. let f : g.owner v.next ≡ g.owner v.caller = ap g.owner
     (e ∙ sym zeroth) in
-    let m = mine.owned in absurd (cc) in record {
+    let m = mine.owned in absurd (cc) in
+    record {
       ghost_state = h;
       wide = r.wide;
       counted = r.counted;
@@ -139,8 +120,7 @@ splits p id v live zeroth room s r at =
       seats = λ j u e alive. ⊎_elim
           (λ (x : get_elem? views j ≡ some u). ⊎_elim
           (λ (y : (j ≡ id) × (dealer v ≡ u)). subst (λ (z : ℕ × Record). Knows p.callers h z.0 z.1)
-          (λ q. (sym y.0 q, y.1 q))
-          record {
+          (λ q. (sym y.0 q, y.1 q)) record {
             owned = others v.caller id mine.owned;
             whole = mine.whole;
             at_stage = mine.at_stage;
@@ -150,16 +130,13 @@ splits p id v live zeroth room s r at =
             apart = mine.apart;
             unmade = λ z c le. upd_else g.owner v.next (Some new) c (λ q. omega arith)
                 ∙ mine.unmade z c (omega arith);
-          })
-          (λ (y : (j ≢ id) × (get_elem? s.views j ≡ some u)). let k = r.seats j u y.1 alive in
+          }) (λ (y : (j ≢ id) × (get_elem? s.views j ≡ some u)). let k = r.seats j u y.1 alive in
           knows_kept p.callers g h j u refl (λ _. refl) (λ c. others c j)
           (λ z. let f : g.owner u.caller ≡ g.owner v.caller = ap g.owner (z ∙ sym zeroth) in let a =
           k.owned in
-          let b = mine.owned in absurd (y.0 (cc))) k)
-          (at_set s.views id j (dealer v) u x))
+          let b = mine.owned in absurd (y.0 (cc))) k) (at_set s.views id j (dealer v) u x))
           (λ (x : (j ≡ new) × (dealt v ≡ u)). subst (λ (z : ℕ × Record). Knows p.callers h z.0 z.1)
-          (λ q. (sym x.0 q, x.1 q))
-          record {
+          (λ q. (sym x.0 q, x.1 q)) record {
             owned = upd_here g.owner v.next (Some new) v.next refl;
             whole = idle.0;
             at_stage = idle.1;
@@ -167,8 +144,7 @@ splits p id v live zeroth room s r at =
             others = λ i l q. absurd (no_lane i l q);
             apart = λ i l q. absurd (no_lane i l q);
             unmade = λ z. absurd (positive z);
-          })
-          (at_end views (dealt v) u j e);
+          }) (at_end views (dealt v) u j e);
     }
 
 slice_get_append : (xs ys : List Lane) (i : ℕ) (l : Lane) → slice_get (xs ++ ys) i ≡ Some l
@@ -198,38 +174,27 @@ pub joins : (p : Plan) (id : ℕ) (v : Record) (other : ℕ) (w : Record) → v.
 joins p id v other w live alive rest s r at differ there =
     let g = r.ghost_state in
     let mine = r.seats id v at live in
-    let was : get_elem? s.views other
-    ≡ some w = ⊎_elim (λ (t : (other ≡ id) × (gathering v w ≡ w)). absurd (differ t.0))
-    (λ (t : (other ≢ id) × (get_elem? s.views other ≡ some w)). t.1)
-    (at_set s.views id other (gathering v w) w there) in
+    let was : get_elem? s.views other ≡ some w = ⊎_elim
+    (λ (t : (other ≡ id) × (gathering v w ≡ w)). absurd (differ t.0))
+    (λ (t : (other ≢ id) × (get_elem? s.views other ≡ some w)). t.1) (at_set _ _ _ _ w there) in
     let theirs = r.seats other w was alive in
-    let h : Ghost = record {
-      history = g.history;
-      owner = λ c. given other id (g.owner c);
-      stage = g.stage;
-      claimer = g.claimer;
-    } in
+    let h : Ghost = record g { owner = λ c. given other id (g.owner c) } in
     let keeps = λ (c j : ℕ) (apart : j ≢ other) (o : g.owner c ≡ Some j). ap (given other id) o
-    ∙ given_else other id j apart in
-    let moves = λ (c : ℕ) (o : g.owner c ≡ Some other). ap (given other id) o
-    ∙ given_other other id in
-    let joined : Knows p.callers h id (gathering v w) = record {
-      owned = keeps v.caller id (λ e. differ (sym e)) mine.owned;
+    ∙ given_else _ _ j apart in
+    let moves = λ (c : ℕ) (o : g.owner c ≡ Some other). ap (given _ id) o ∙ given_other _ _ in
+    let joined : Knows p.callers h id (gathering v w) =
+    record {
+      owned = keeps v.caller _ (λ e. differ (sym e)) mine.owned;
       whole = mine.whole;
       at_stage = mine.at_stage;
       in_range = mine.in_range;
-      others = λ i l e. ⊎_elim
-          (λ (x : slice_get v.gathered i ≡ Some l). lane_kept g h id l refl (λ _. refl)
-          (keeps l.caller id (λ q. differ (sym q))) (mine.others i l x))
+      others = λ i l e. ⊎_elim (λ (x : slice_get v.gathered i ≡ Some l). lane_kept g h _ l refl
+          (λ _. refl) (keeps _ _ (λ q. differ (sym q))) (mine.others i l x))
           (λ (x : (j : ℕ) × (slice_get (own_lane w ∷ w.gathered) j ≡ Some l)). taken l x.0 x.1
-          theirs moves)
-          (slice_get_append v.gathered (own_lane w ∷ w.gathered) i l e);
-      apart = λ i l e. ⊎_elim
-          (λ (x : slice_get v.gathered i ≡ Some l). mine.apart i l x)
-          (λ (x : (j : ℕ) × (slice_get (own_lane w ∷ w.gathered) j ≡ Some l)). apart_from g v.caller
-          l.caller id other mine.owned
-          (their l x.0 x.1 theirs) differ)
-          (slice_get_append v.gathered (own_lane w ∷ w.gathered) i l e);
+          theirs moves) (slice_get_append _ _ i l e);
+      apart = λ i l e. ⊎_elim (λ (x : slice_get v.gathered i ≡ Some l). mine.apart i l x)
+          (λ (x : (j : ℕ) × (slice_get (own_lane w ∷ w.gathered) j ≡ Some l)). apart_from g _ _ id
+          other mine.owned (their l x.0 x.1 theirs) differ) (slice_get_append _ _ i l e);
       unmade = λ z c le. ap (given other id) (mine.unmade z c le);
     } in record {
       ghost_state = h;
@@ -239,19 +204,17 @@ joins p id v other w live alive rest s r at differ there =
       short = r.short;
       claims = r.claims;
       cells = r.cells;
-      idle = λ c e. r.idle c (given_none other id (g.owner c) e);
+      idle = λ c e. r.idle c (given_none _ _ _ e);
       outside = λ c le. ap (given other id) (r.outside c le);
       seats = λ j u e here. ⊎_elim
-          (λ (x : (j ≡ other) × (spent ≡ u)). absurd
-          (true≢false (sym here ∙ sym (ap (λ (q : Record). q.live) x.1))))
+          (λ (x : (j ≡ other) × (spent ≡ u)). absurd (true≢false (sym here ∙ sym (cc x.1))))
           (λ (x : (j ≢ other) × (get_elem? (set s.views id (gathering v w)) j ≡ some u)). ⊎_elim
           (λ (y : (j ≡ id) × (gathering v w ≡ u)). subst
           (λ (z : ℕ × Record). Knows p.callers h z.0 z.1) (λ q. (sym y.0 q, y.1 q)) joined)
           (λ (y : (j ≢ id) × (get_elem? s.views j ≡ some u)). let k = r.seats j u y.1 here in
-          knows_kept p.callers g h j u refl (λ _. refl) (λ c. keeps c j x.0)
-          (λ z c le. ap (given other id) (k.unmade z c le)) k)
-          (at_set s.views id j (gathering v w) u x.1))
-          (at_set (set s.views id (gathering v w)) other j spent u e);
+          knows_kept _ g h j u refl (λ _. refl) (λ c. keeps c j x.0)
+          (λ z c le. ap (given other id) (k.unmade z c le)) k) (at_set _ _ j _ u x.1))
+          (at_set _ _ j _ u e);
     }
   where
     their : {g : Ghost} (l : Lane) (j : ℕ) → slice_get (own_lane w ∷ w.gathered) j ≡ Some l
@@ -271,4 +234,4 @@ joins p id v other w live alive rest s r at differ there =
         }) id l
     taken {g} l zero e k moves = grind arith
     taken {g} l (suc j) e k moves = let x = k.others j l e in
-        record { owned = moves l.caller x.owned; whole = x.whole; rests = x.rests }
+        record { owned = moves _ x.owned; whole = x.whole; rests = x.rests }

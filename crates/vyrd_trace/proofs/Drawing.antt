@@ -135,30 +135,25 @@ module _ (p : Plan) (few : p.callers ≤ 64) (short : p.limit ≤ most_events) w
       let hist : List Stamped = g.history ++ e ∷ [] in
       let st : Stage = drawn v.stage by did in
       let o : Option ℕ = Some by in
-      let mine_is : g.claimer k0 ≡ Some by = r.claims by k0
-      (subst (λ (x : Stage). IsAt x k0) (sym (mine.at_stage ∙ claimed)) refl) in
-      let fits = in_hand p.plain g.stage k0 _ _ by (g.claimer k0) mine_is (r.cells k0 inside) in
+      let mine_is : g.claimer k0 ≡ Some by = r.claims by k0 (rw (mine.at_stage ∙ claimed) refl) in
+      let fits = in_hand _ _ _ _ _ by (g.claimer _) mine_is (r.cells _ inside) in
       let cell : InHand p.plain by k0 (slice_index s.words (k0 + 1)) (last_value g.history k0)
-      (Claimed k0 b) =
-      subst (InHand p.plain by k0 (slice_index s.words (k0 + 1)) (last_value g.history k0))
-      (mine.at_stage ∙ claimed) fits in
-      let now : last_value hist k0 ≡ m = value-snoc g.history e k0
-      ∙ ap (λ (x : ℕ). value_after k0 x by did) cell.2 ∙ here in (
-        with_event v n did,
+      (Claimed k0 b) = subst (InHand _ by k0 _ _) (mine.at_stage ∙ claimed) fits in
+      let now : last_value hist k0 ≡ m = cc (value-snoc g.history e k0, cell.2) in (
+        with_event v n _,
         keeps,
         tt,
-        drew_keeps s r id me.1 v did (upd g.stage by st) (upd g.claimer k0 o) st at live room
-            (follows g.history cell.2 cell.3)
-            (upd_here g.stage by st by refl) (λ c no. upd_else g.stage by st c no)
-            (claims_moved p s r id v at live k0 inside st o
+        drew_keeps s r _ me.1 v did (upd _ by st) (upd _ k0 o) st at live room
+            (follows g.history cell.2 cell.3) (upd_here g.stage by st by refl)
+            (λ c no. upd_else g.stage by st c no)
+            (claims_moved p s r id v at live _ inside _ o
             (λ k x. let y : k0 ≡ k = subst (λ (q : Stage). IsAt q k) next x in
             (sym y, refl)) (λ c no is. no (sym (same_Some by c (sym mine_is ∙ is)))))
-            (moved p s r id v at live k0 inside st (slice_index s.words (k0 + 1)) o s.words hist
-            (λ k _. refl) refl
-            (λ k no. value-snoc g.history e k ∙ away k (last_value g.history k) no)
-            (nowhere p.plain by k0 b v.stage claimed)
-            (subst (InHand p.plain by k0 (slice_index s.words (k0 + 1)) (last_value hist k0))
-            (sym (upd_here g.stage by st by refl ∙ next)) (refl, cell.1, now, lock))),
+            (moved p s r id v at live _ inside st (slice_index s.words (k0 + 1)) o _ hist
+            (λ k _. refl) refl (λ k no. value-snoc g.history e k ∙ away k _ no)
+            (nowhere _ by k0 b _ claimed)
+            (subst (InHand _ by k0 _ _) (sym (upd_here g.stage by st by refl ∙ next))
+            (refl, cell.1, now, lock))),
         (refl, below p s r v mine.whole n r.counted),
       )
 
@@ -178,27 +173,25 @@ module _ (p : Plan) (few : p.callers ≤ 64) (short : p.limit ≤ most_events) w
       let hist : List Stamped = g.history ++ e ∷ [] in
       let st : Stage = Giving k0 in
       let o : Option ℕ = Some by in
-      let was : last_value g.history k0
-      ≡ by + 1 = held_value (cells_in p) k0 by g.history lock r.legal
-      (ap (λ (l : List Stamped). last_value l k0) mine.whole ∙ held) in
+      let was : last_value g.history k0 ≡ by + 1 = held_value (cells_in p) k0 by g.history lock
+      r.legal (cc mine.whole) in
       let free = held_cell p.plain g.stage k0 (slice_index s.words (k0 + 1))
-      (last_value g.history k0) by (g.claimer k0) lock was
-      (mine.at_stage ∙ rest) (r.cells k0 inside) in
+      (last_value g.history k0) by (g.claimer k0) lock was (mine.at_stage ∙ rest)
+      (r.cells k0 inside) in
       let now : last_value hist k0 ≡ 0 = value-snoc g.history e k0 ∙ rw (eq-eqb k0 k0 refl) refl in
-      let word : slice_index s.words (k0 + 1) ≡ 2 * (by + 1) = free.1 ∙ ap (λ (x : ℕ). 2 * x) was in (
+      let word : slice_index s.words (k0 + 1) ≡ 2 * (by + 1) = cc free.1 in (
         with_event v n (Gave k0),
         keeps,
         tt,
-        drew_keeps s r id me.1 v (Gave k0) (upd g.stage by st) (upd g.claimer k0 o) st at live room
+        drew_keeps s r id me.1 v (Gave k0) (upd g.stage by st)
+            (upd g.claimer k0 o) st at live room
             (may_give (cells_in p) (newest_first g.history) by k0 lock inside was)
-            (upd_here g.stage by st by refl)
-            (λ c no. upd_else g.stage by st c no)
+            (upd_here g.stage by st by refl) (λ c no. upd_else g.stage by st c no)
             (claims_moved p s r id v at live k0 inside st o (λ k x. (sym x, refl))
             (λ c no is. let f = free.0 in absurd (cc)))
             (moved p s r id v at live k0 inside st (slice_index s.words (k0 + 1)) o s.words hist
-            (λ k _. refl) refl
-            (λ k no. value-snoc g.history e k ∙ rw (ne_eqb k0 k (λ x. no (sym x))) refl)
-            (nowhere_rest p.plain by k0 v.stage rest)
+            (λ k _. refl) refl (λ k no. value-snoc g.history e k
+            ∙ rw (ne_eqb k0 k (λ x. no (sym x))) refl) (nowhere_rest p.plain by k0 v.stage rest)
             (subst (InHand p.plain by k0 (slice_index s.words (k0 + 1)) (last_value hist k0))
             (sym (upd_here g.stage by st by refl)) (refl, lock, word, now))),
         (refl, below p s r v mine.whole n r.counted),
@@ -209,18 +202,17 @@ module _ (p : Plan) (few : p.callers ≤ 64) (short : p.limit ≤ most_events) w
       → length me.0.lane < p.limit → MayDraw p me.0 did
       → Allows (TraceKept p) slots id me 0 (λ n. (n + 1) % 2 ^ 64)
       (drew did (step slots 0 1 0 none) me)
-  draws slots id me (Marked kind) live room may = marks slots id me kind live room may
-  draws slots id me (Gave k) live room may = gives slots id me k live room may.0 may.1 may.2 may.3
+  draws slots id me (Marked kind) live room may = marks _ _ _ _ live room may
+  draws slots id me (Gave k) live room may = gives _ _ _ k live room may.0 may.1 may.2 may.3
   draws slots id me (Read k x) live room may = let a = may.0 in
-      acts slots id me (Read k x) k x x live room (omega arith) may.1 refl (λ _ _ _. refl) refl
+      acts _ _ _ _ k x x live room (omega arith) may.1 refl (λ _ _ _. refl) refl
       (λ z. absurd (omega arith))
       (λ h is _. may_read (cells_in p) (newest_first h) me.0.caller k x a (sym is))
   draws slots id me (Wrote k x) live room may = let a = may.0 in let b : ℕ = before_of me.0.stage in
-      acts slots id me (Wrote k x) k b x live room (omega arith) may.2 refl
-      (λ j w no. rw (ne_eqb k j (λ e. no (sym e))) refl)
-      (rw (eq-eqb k k refl) refl) (λ z. absurd (omega arith))
+      acts _ _ _ _ k b x live room (omega arith) may.2 refl
+      (λ j w no. rw (ne_eqb k j (λ e. no (sym e))) refl) (rw (eq-eqb k k refl) refl)
+      (λ z. absurd (omega arith))
       (λ h _ _. may_write (cells_in p) (newest_first h) me.0.caller k x a may.1)
-  draws slots id me (Took k) live room may =
-      acts slots id me (Took k) k 0 (me.0.caller + 1) live room may.1 may.2 refl
-      (λ j w no. rw (ne_eqb k j (λ e. no (sym e))) refl) (rw (eq-eqb k k refl) refl) (λ _. refl)
-      (λ h is _. may_take (cells_in p) (newest_first h) me.0.caller k may.0 may.1 is)
+  draws slots id me (Took k) live room may = acts _ _ _ _ k 0 (me.0.caller + 1) live room may.1
+      may.2 refl (λ j w no. rw (ne_eqb k j (λ e. no (sym e))) refl) (rw (eq-eqb k k refl) refl)
+      (λ _. refl) (λ h is _. may_take (cells_in p) (newest_first h) me.0.caller k may.0 may.1 is)

@@ -24,8 +24,7 @@ abbrev pub value_after : ℕ → ℕ → ℕ → Did → ℕ
 value_after cell v caller did = unwrap_or (made_of cell caller did) v
 
 or_else : (a b : Option ℕ) → unwrap_or (option_or a b) 0 ≡ unwrap_or a (unwrap_or b 0)
-or_else None b = refl
-or_else (Some x) b = refl
+or_else a b = search arith
 
 -- the values after one event more
 pub value_in-snoc : (h : List Stamped) (e : Stamped) (cell : ℕ)
@@ -75,15 +74,7 @@ facts_at : (z : Cells) (earlier : List Stamped) (x : Stamped) (xs : List Stamped
     → (x.number ≡ length earlier) × (x.caller < z.callers)
     × (may_do z earlier x.caller x.did ≡ true)
     × (list_all (is_legal_at z) (places_after (x ∷ earlier) xs) ≡ true)
-facts_at z earlier x xs legal =
-    let here = first_true (is_legal_at z (record { earlier = earlier; here = x; later = xs })) _
-    legal in
-    let both = first_true _ _ here in (
-      same_of x.number (length earlier) (first_true _ _ both),
-      below_of x.caller z.callers (second_true (x.number == length earlier) _ both),
-      second_true (x.number == length earlier && nat_lt x.caller z.callers) _ here,
-      second_true (is_legal_at z (record { earlier = earlier; here = x; later = xs })) _ legal,
-    )
+facts_at z earlier x xs legal = search (first_true, same_of, below_of, second_true, arith)
 
 -- the events that follow have the numbers that follow
 numbered_after : (z : Cells) (earlier xs : List Stamped) → list_all (is_legal_at z)
@@ -114,10 +105,8 @@ module _ (z : Cells) (P : List Stamped → Type 0) (none : P [])
   onward h [] so_far legal = subst P (sym (append-nil h)) so_far
   onward h (x ∷ xs) so_far legal =
       let f = facts_at z (newest_first h) x xs legal in
-      let next = onward (h ++ x ∷ []) xs (more h x so_far f.2)
-      (ap (λ earlier. list_all (is_legal_at z) (places_after earlier xs)) (newest_first-push h x)
-      ∙ f.3) in
-      subst P (append_assoc h (x ∷ []) xs) next
+      let next = onward (h ++ x ∷ []) xs (more h x so_far f.2) (cc (newest_first-push h x, f.3)) in
+      subst P (append_assoc h _ _) next
 
   -- what holds of no event, and after each event that may come next, holds of a legal history
   pub legal_induction : (h : List Stamped) → is_legal z h ≡ true → P h

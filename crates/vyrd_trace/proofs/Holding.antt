@@ -20,8 +20,7 @@ pub holds-still : (hand : HandView) (lock number : ℕ) (did : Did) (look : Look
     → made_of lock hand.caller did ≡ None
     → Holds hand lock → Holds (with_one_more hand number did look) lock
 holds-still hand lock number did look other held =
-    value-snoc hand.lane (stamp number hand.caller did) lock
-    ∙ ap (λ (o : Option ℕ). unwrap_or o (last_value hand.lane lock)) other ∙ held
+    cc (value-snoc hand.lane (stamp number hand.caller did) lock)
 
 -- a lock that it held, where it takes or gives another one
 pub holds-beside : (hand : HandView) (lock other number : ℕ) (look : Look) → other ≢ lock

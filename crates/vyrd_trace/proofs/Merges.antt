@@ -46,12 +46,11 @@ IsInPlace h e = slice_get h e.number ≡ Some e
 pub write_keeps : (h hist : List Stamped) (e : Stamped) (i : ℕ) → IsInPlace h e → slice_get hist i
     ≡ slice_get h i
     → slice_get (set hist e.number e) i ≡ slice_get h i
-write_keeps h hist e i stands was = dite (ℕ_discrete i e.number)
-    (λ same. let at : IsInPlace hist e = ap (slice_get hist) (sym same) ∙ was
-    ∙ ap (slice_get h) same ∙ stands in
-    ap (slice_get (set hist e.number e)) same ∙ set_same hist e.number e
-    (slice_get_within hist e.number e at) ∙ sym stands ∙ ap (slice_get h) (sym same))
-    (λ apart. set_other hist e.number i e apart ∙ was)
+write_keeps h hist e i stands was = dite (ℕ_discrete i _)
+    (λ same. let at : IsInPlace hist e = ap (slice_get _) (sym same) ∙ was ∙ ap (slice_get h) same
+    ∙ stands in
+    ap (slice_get _) same ∙ set_same hist e.number e (slice_get_within _ _ e at) ∙ sym stands
+    ∙ ap (slice_get h) (sym same)) (λ apart. set_other _ _ i e apart ∙ was)
 
 -- and one event more of the lane stands in its place
 pub write_places : (h hist lane : List Stamped) (k : ℕ) (d : Stamped) → k < length lane
@@ -93,10 +92,9 @@ module _ (h : List Stamped) (lanes : List (List Stamped)) (m : IsMerge h lanes) 
       ≡ lane → All (IsInPlace h) lane
   lane_in_place c lane l is k d below =
       let same : part c h ≡ lane = m.parts c l ∙ is in
-      let f = part_in c h k d (subst (λ (q : List Stamped). k < length q) (sym same) below) in
-      let got : slice_get h f.0 ≡ Some (slice_index_or lane k d) = f.1
-      ∙ ap (λ (q : List Stamped). Some (slice_index_or q k d)) same in
-      ap (slice_get h) (m.placed f.0 (slice_index_or lane k d) got).0 ∙ got
+      let f = part_in c h k d (rw same below) in
+      let got : slice_get h f.0 ≡ Some (slice_index_or lane k d) = cc f.1 in
+      ap (slice_get h) (m.placed _ (slice_index_or _ k d) got).0 ∙ got
 
   -- with the lane of caller c written, the events of all callers up to c stand in their places
   pub merge_step : (c : ℕ) (lane old new : List Stamped) → c < length lanes
@@ -109,9 +107,8 @@ module _ (h : List Stamped) (lanes : List (List Stamped)) (m : IsMerge h lanes) 
   merge_step c lane old new l is kept placed so_far i e at below = dite (ℕ_discrete e.caller c)
       (λ same.
       let f = in_part c h i e at same in let there : part c h ≡ lane = m.parts c l ∙ is in
-      let got = placed f.0 e (subst (λ (q : List Stamped). f.0 < length q) there f.1) in
-      let is_e : slice_index_or lane f.0 e ≡ e = ap (λ (q : List Stamped). slice_index_or q f.0 e)
-      (sym there) ∙ f.2 e in
+      let got = placed f.0 e (rw (← there) f.1) in
+      let is_e : slice_index_or lane f.0 e ≡ e = cc (f.2 e) in
       ap (slice_get new) (sym (m.placed i e at).0) ∙ subst (IsInPlace new) is_e got)
       (λ apart. kept i (so_far i e at (omega arith) ∙ sym at) ∙ at)
 

@@ -47,8 +47,7 @@ below n (e ∷ es) = cond (ltb e.caller n) 1 0 + below n es
 
 length-part : (n : ℕ) (e : Stamped) (es : List Stamped) (b : Bool) → eqb e.caller n ≡ b
     → length (part n (e ∷ es)) ≡ cond b 1 0 + length (part n es)
-length-part n e es true is = rw is (omega arith)
-length-part n e es false is = rw is (omega arith)
+length-part n e es b is = search arith
 
 pub below_more : (n : ℕ) (h : List Stamped) → below (suc n) h ≡ below n h + length (part n h)
 unfolding below
@@ -110,19 +109,15 @@ held_step : (z : Cells) (k c : ℕ) (h : List Stamped) (by : ℕ) (d : Did) → 
     → (by ≡ c → value_after k (last_value (part c h) k) by d ≡ c + 1
     → value_after k (last_value h k) by d ≡ c + 1)
     × (by ≢ c → HoldsBy (part c h) c k → value_after k (last_value h k) by d ≡ c + 1)
-held_step z k c h by d lock holds may =
-    grind (arith, below_of, first_true, ne_eqb, same_of, second_true, eq-eqb)
+held_step z k c h by d lock holds may = search (below_of, first_true, same_of, second_true, arith)
 
 pub held_value : (z : Cells) (k c : ℕ) (h : List Stamped) → z.plain ≤ k → is_legal z h ≡ true
     → HoldsBy (part c h) c k → last_value h k ≡ c + 1
-held_value z k c h lock legal =
-    legal_induction z (HoldsToo k c) (λ t. absurd (omega arith))
+held_value z k c h lock legal = legal_induction z (HoldsToo k c) (λ t. absurd (omega arith))
     (λ l e so_far may. let s = held_step z k c l e.caller e.did lock so_far may in
     dite (ℕ_discrete e.caller c)
-    (λ is. λ t. value-snoc l e k ∙ s.0 is (sym (value-snoc (part c l) e k)
-    ∙ ap (λ (p : List Stamped). last_value p k) (sym (part-mine c l e is)) ∙ t))
-    (λ no. λ t. value-snoc l e k
-    ∙ s.1 no (ap (λ (p : List Stamped). last_value p k) (sym (part-other c l e no)) ∙ t))) h legal
+    (λ is. λ t. value-snoc l e k ∙ s.0 is (cc (value-snoc (part c l) e k, part-mine c l e is)))
+    (λ no. λ t. value-snoc l e k ∙ s.1 no (cc (part-other c l e no)))) h legal
 
 all_below : (z : Cells) (h : List Stamped) → is_legal z h ≡ true
     → All (λ (e : Stamped). e.number < length h) h
@@ -131,8 +126,7 @@ all_below z h legal k d l = search (numbered, get_there, arith)
 -- the numbers of a caller's events are below the history's length
 pub part_below : (z : Cells) (c : ℕ) (h : List Stamped) → is_legal z h ≡ true
     → All (λ (e : Stamped). e.number < length h) (part c h)
-part_below z c h legal = All-filter (λ (e : Stamped). eqb e.caller c)
-    (λ (e : Stamped). e.number < length h) h (all_below z h legal)
+part_below z c h legal = All-filter _ (λ (e : Stamped). e.number < length h) h (all_below z h legal)
 
 -- an event of a part stands in the history, and the other way round
 pub part_in : (c : ℕ) (h : List Stamped) (k : ℕ) (d : Stamped) → k < length (part c h)
@@ -153,15 +147,13 @@ part_in c (x ∷ xs) k d l = at (eqb x.caller c) refl (λ j l'. part_in c xs j d
         × (slice_get xs i ≡ Some (slice_index_or (part c xs) j d)))
         → (i : ℕ) × (slice_get (x ∷ xs) i ≡ Some (slice_index_or (part c (x ∷ xs)) k d))
     at false is more =
-        let same : part c (x ∷ xs) ≡ part c xs =
-        ap (λ (b : Bool). cond b (x ∷ part c xs) (part c xs)) is in
-        let f = more k (subst (λ (q : List Stamped). k < length q) same l) in
-        (suc f.0, f.1 ∙ ap (λ (q : List Stamped). Some (slice_index_or q k d)) (sym same))
+        let same : part c (x ∷ xs) ≡ part c xs = cc in
+        let f = more k (rw (← same) l) in
+        (suc f.0, cc f.1)
     at true is more =
-        let same : part c (x ∷ xs) ≡ x ∷ part c xs =
-        ap (λ (b : Bool). cond b (x ∷ part c xs) (part c xs)) is in
+        let same : part c (x ∷ xs) ≡ x ∷ part c xs = cc in
         let f = here k more (subst (λ (q : List Stamped). k < length q) same l) in
-        (f.0, f.1 ∙ ap (λ (q : List Stamped). Some (slice_index_or q k d)) (sym same))
+        (f.0, cc f.1)
 
 pub in_part : (c : ℕ) (h : List Stamped) (i : ℕ) (e : Stamped) → slice_get h i ≡ Some e → e.caller
     ≡ c
@@ -176,10 +168,5 @@ in_part c (x ∷ xs) (suc i) e q is = let f = in_part c xs i e q is in at (eqb x
         × ((d : Stamped) → slice_index_or (part c (x ∷ xs)) k d ≡ e)
     at false is' f = grind (arith, f.0, f.1)
     at true is' f =
-        let p : part c (x ∷ xs) ≡ x ∷ part c xs =
-        ap (λ (b : Bool). cond b (x ∷ part c xs) (part c xs)) is' in
-        let l = f.1 in (
-          suc f.0,
-          subst (λ (q : List Stamped). suc f.0 < length q) (sym p) (omega arith),
-          λ d. ap (λ (q : List Stamped). slice_index_or q (suc f.0) d) p ∙ f.2 d,
-        )
+        let p : part c (x ∷ xs) ≡ x ∷ part c xs = cc in
+        let l = f.1 in (suc f.0, rw p (omega arith), λ d. cc (f.2 d))

@@ -35,23 +35,18 @@ module _ (p : Plan) where
       let mine = r.seats id v at live in
       let wide = r.wide in
       let h : Ghost =
-      record {
-        history = g.history;
-        owner = g.owner;
-        stage = upd g.stage by Rest;
-        claimer = upd g.claimer k0 None;
-      } in
-      turned p s r (k0 + 1) x id c v v.lane Rest v.look h at live record {
-        same = same_moved p s r id v at live k0 inside g.history Rest None (λ c _. refl);
+      record g { stage = upd g.stage by Rest; claimer = upd g.claimer k0 None } in
+      turned p s r _ x _ c v _ _ _ h at live record {
+        same = same_moved p s r id v at live _ inside _ _ _ (λ c _. refl);
         whole = mine.whole;
         at_stage = upd_here g.stage by Rest by refl;
-        wide = length-set s.words (k0 + 1) x ∙ wide;
+        wide = length-set _ _ x ∙ wide;
         counted = get_or-set_other s.words (k0 + 1) 0 x 0 (λ z. omega arith) ∙ r.counted;
         legal = r.legal;
         short = let a = r.short by in let b = ap length mine.whole in omega arith;
-        claims = claims_moved p s r id v at live k0 inside Rest None (λ k z. absurd z)
+        claims = claims_moved p s r id v at live _ inside _ _ (λ k z. absurd z)
             (λ c no is. no (same_Some c by (sym is ∙ mine_is)));
-        cells = moved p s r id v at live k0 inside Rest x None (set s.words (k0 + 1) x) g.history
+        cells = moved p s r id v at live _ inside Rest x _ _ g.history
             (λ k no. get_or-set_other s.words (k0 + 1) (k + 1) x 0 (λ z. no (omega arith)))
             (get_or-set_same s.words (k0 + 1) x 0 (omega arith)) (λ k _. refl) elsewhere twice;
       }
@@ -66,19 +61,15 @@ module _ (p : Plan) where
       let by : ℕ = v.caller in
       let g = r.ghost_state in
       let mine = r.seats id v at live in
-      let mine_is : g.claimer k0 ≡ Some by = r.claims by k0
-      (subst (λ (q : Stage). IsAt q k0) (sym (mine.at_stage ∙ drawn_is)) refl) in
+      let mine_is : g.claimer k0 ≡ Some by = r.claims by k0 (rw (mine.at_stage ∙ drawn_is) refl) in
       let cell : InHand p.plain by k0 (slice_index s.words (k0 + 1)) (last_value g.history k0)
-      (Drawn k0 b m) =
-      subst (InHand p.plain by k0 (slice_index s.words (k0 + 1)) (last_value g.history k0))
-      (mine.at_stage
-      ∙ drawn_is) (in_hand p.plain g.stage k0 _ _ by (g.claimer k0) mine_is (r.cells k0 inside)) in (
-        acting v Rest v.look,
+      (Drawn k0 b m) = subst (InHand _ by k0 _ _) (mine.at_stage ∙ drawn_is)
+      (in_hand _ _ _ _ _ by (g.claimer _) mine_is (r.cells _ inside)) in (
+        acting v _ _,
         keeps,
         tt,
-        ends s r id me.1 v k0 x at live inside mine_is (twice
-            ∙ ap (λ (q : ℕ). 2 * q) (sym cell.2))
-            (nowhere_drawn p.plain by k0 b m v.stage drawn_is),
+        ends s r _ me.1 v _ x at live inside mine_is (cc cell.2)
+            (nowhere_drawn _ by k0 b m _ drawn_is),
         refl,
       )
 
@@ -91,18 +82,15 @@ module _ (p : Plan) where
       let by : ℕ = v.caller in
       let g = r.ghost_state in
       let mine = r.seats id v at live in
-      let mine_is : g.claimer k0 ≡ Some by = r.claims by k0
-      (subst (λ (q : Stage). IsAt q k0) (sym (mine.at_stage ∙ drawn_is)) refl) in
+      let mine_is : g.claimer k0 ≡ Some by = r.claims by k0 (rw (mine.at_stage ∙ drawn_is) refl) in
       let cell : InHand p.plain by k0 (slice_index s.words (k0 + 1)) (last_value g.history k0)
-      (Giving k0) =
-      subst (InHand p.plain by k0 (slice_index s.words (k0 + 1)) (last_value g.history k0))
-      (mine.at_stage
-      ∙ drawn_is) (in_hand p.plain g.stage k0 _ _ by (g.claimer k0) mine_is (r.cells k0 inside)) in (
-        acting v Rest v.look,
+      (Giving k0) = subst (InHand _ by k0 _ _) (mine.at_stage ∙ drawn_is)
+      (in_hand _ _ _ _ _ by (g.claimer _) mine_is (r.cells _ inside)) in (
+        acting v _ _,
         keeps,
         tt,
-        ends s r id me.1 v k0 x at live inside mine_is (twice
-            ∙ ap (λ (q : ℕ). 2 * q) (sym cell.3)) (nowhere_giving p.plain by k0 v.stage drawn_is),
+        ends s r _ me.1 v _ x at live inside mine_is (cc cell.3)
+            (nowhere_giving _ by k0 _ drawn_is),
         refl,
       )
 
@@ -117,7 +105,6 @@ module _ (p : Plan) where
           (λ _. published (step slots (k0 + 1) x 0 none) me x)
       by_stage Rest is h = absurd h
       by_stage (Claimed c b) is h = absurd h
-      by_stage (Drawn c b m) is h = publishes slots id me k0 b m x live inside
-          (is ∙ ap (λ (q : ℕ). Drawn q b m) h.0) h.1
+      by_stage (Drawn c b m) is h = publishes slots id me k0 b m x live inside (cc h.0) h.1
       by_stage (Giving c) is h = publishes_give slots id me k0 x live inside (is ∙ ap Giving h.0)
           h.1

@@ -32,11 +32,7 @@ pub record Same (g h : Ghost) (by : ℕ) : Type 0 where
 -- another caller's lane stays where it is
 lane_stays : (g h : Ghost) (by seat : ℕ) (l : Lane) → Same g h by → l.caller ≢ by → HasLane g seat l
     → HasLane h seat l
-lane_stays g h by seat l same apart has = record {
-  owned = same.owners l.caller ∙ has.owned;
-  whole = same.parts l.caller apart ∙ has.whole;
-  rests = same.stages l.caller apart ∙ has.rests;
-}
+lane_stays g h by seat l same apart has = search arith
 
 -- what is owned by another seat is another caller's
 pub apart_from : (g : Ghost) (by c id j : ℕ) → g.owner by ≡ Some id → g.owner c ≡ Some j → j ≢ id
@@ -117,8 +113,7 @@ turned p s r i n id c v lane st look h at live t =
       legal = t.legal;
       short = λ by. dite (ℕ_discrete by v.caller)
           (λ e. let a : length (part by h.history) ≡ length lane =
-          ap (λ (x : ℕ). length (part x h.history)) e
-          ∙ ap length t.whole in let b = t.short in omega arith)
+          cc t.whole in let b = t.short in omega arith)
           (λ e. let a : length (part by h.history) ≡ length (part by g.history) = ap length
           (t.same.parts by e) in let b = r.short by in omega arith);
       claims = t.claims;

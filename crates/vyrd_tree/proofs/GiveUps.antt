@@ -24,9 +24,8 @@ leaf_found : (size : ℕ) (m : Memory) (low : ℕ → ℕ) (key : ℕ) → IsTre
     → n ≤ last_in size m → level_at m n ≡ 0 → low n ≤ key
     → after_of (last_in size m) m low n < left → LeafOf size m low key (leaf_from left m key n)
 leaf_found size m low key t zero n used leaf from more = absurd (omega (arith, more))
-leaf_found size m low key t (suc left) n used leaf from more =
-    by_bound (zero_or (bound_at m n)) (le_or (bound_at m n) key)
-    (leaf_found size m low key t left (right_at m n))
+leaf_found size m low key t (suc left) n used leaf from more = by_bound (zero_or (bound_at m n))
+    (le_or (bound_at m n) key) (leaf_found size m low key t left (right_at m n))
   where
     Found : Bool → Type 0
     Found beyond = LeafOf size m low key (cond beyond (leaf_from left m key (right_at m n)) n)
@@ -41,15 +40,7 @@ leaf_found size m low key t (suc left) n used leaf from more =
         (cond (is_past (bound_at m n) key) (leaf_from left m key (right_at m n)) n)
     by_bound (inl none) order later = here (λ some. absurd (some none))
     by_bound (inr some) (inr lt) later = here (λ some. lt)
-    by_bound (inr some) (inl le) later =
-        let on = next_of size m low t n used some in
-        let begins : low (right_at m n) ≡ bound_at m n = on.begins in
-        let above : low n < bound_at m n = on.above in
-        let falls = after_falls (last_in size m) m low n (right_at m n) on.in_use
-        (inr (on.same_level, omega arith)) in
-        subst (λ b. LeafOf size m low key (cond b (leaf_from left m key (right_at m n)) n))
-        (sym (past (bound_at m n) key some le))
-        (later on.in_use (on.same_level ∙ leaf) (omega arith) (omega arith))
+    by_bound (inr some) (inl le) later = search (next_of, after_falls, last_in, past, arith)
 
 -- the leaf of a key is a leaf in use that has the key in its range, and no other node is
 pub leaf_stands : (h : Header) (m : Memory) (low : ℕ → ℕ) (key : ℕ) → IsTree h.size m low
@@ -64,9 +55,8 @@ leaf_stands h m low key t =
 pub leaf_is : (h : Header) (m : Memory) (low : ℕ → ℕ) (key n : ℕ) → IsTree h.size m low
     → LeafOf h.size m low key n → leaf_of h m key ≡ n
 leaf_is h m low key n t l =
-    let found = leaf_stands h m low key t in
-    one_cover h.size m low t (leaf_of h m key) n key found.in_use l.in_use (found.leaf ∙ sym l.leaf)
-    found.covers l.covers
+    let found = leaf_stands h m _ key t in
+    one_cover _ m _ t _ n key found.in_use l.in_use (found.leaf ∙ sym l.leaf) found.covers l.covers
 
 pub insert_gives_up : (h : Header) (memory : Memory) (state : Amounts) (c key value : ℕ) → h.subject
     ≡ Tree
@@ -85,8 +75,7 @@ insert_gives_up h memory state c key value is e small_key small =
     says reply after (inl d) = (
       λ none. record {
         absent = d.1;
-        full = ap (λ n. memory (count_cell n))
-            (leaf_is h memory d.3.0 key d.3.1 d.3.2 d.3.3) ∙ d.3.4;
+        full = cc (leaf_is h memory d.3.0 key d.3.1 d.3.2 d.3.3, d.3.4);
         no_node = d.4;
       },
       λ room. d.0,
@@ -95,8 +84,7 @@ insert_gives_up h memory state c key value is e small_key small =
       λ none. absurd (let one = d.0 in omega (arith, none, one)),
       λ room. absurd
           (with_room d.3.4
-          (ap (λ n. memory (count_cell n)) (sym (leaf_is h memory d.3.0 key d.3.1 d.3.2 d.3.3))
-          ∙ room.full) room.no_node),
+          (cc (leaf_is h memory d.3.0 key d.3.1 d.3.2 d.3.3, room.full)) room.no_node),
     )
       where
         with_room : (count_at memory d.3.1 < 4) ⊎ (last_in h.size memory + 1 < h.size)

@@ -33,10 +33,7 @@ module _ (size : ℕ) (words : List ℕ) (low : ℕ → ℕ) (level key node : �
   same n used = entries_are words n (t.few n used)
 
   elsewhere : (entry : ℕ × ℕ) → not (entry.1 == node) ≡ true → entry.1 ≢ node
-  elsewhere entry e at = clash (sym (ap not (is_same entry.1 node at)) ∙ e)
-    where
-      clash : false ≡ true → ⊥
-      clash e = cc
+  elsewhere entry e = search (is_same, arith)
 
   says : hangs_in size words level key node ≡ true → IsHanging size (slice_index words) low level
       key node
@@ -59,43 +56,34 @@ module _ (size : ℕ) (words : List ℕ) (low : ℕ → ℕ) (level key node : �
     where
       four : (nat_le node last && level_of words node == level && low_of last words node == key
           && not (key == 0)) ≡ true
-      four = first_true (nat_le node last && level_of words node == level
-          && low_of last words node == key && not (key == 0))
-          (list_all (leads_elsewhere words node) (nodes last)) e
+      four = search (first_true, arith)
 
       all : list_all (leads_elsewhere words node) (nodes last) ≡ true
-      all = second_true (nat_le node last && level_of words node == level
-          && low_of last words node == key && not (key == 0))
-          (list_all (leads_elsewhere words node) (nodes last)) e
+      all = search (second_true, arith)
 
       three : (nat_le node last && level_of words node == level && low_of last words node == key)
           ≡ true
-      three = first_true (nat_le node last && level_of words node == level
-          && low_of last words node == key) (not (key == 0)) four
+      three = search (first_true, arith)
 
       two : (nat_le node last && level_of words node == level) ≡ true
-      two = first_true (nat_le node last && level_of words node == level)
-          (low_of last words node == key) three
+      two = search (first_true, arith)
 
       used : node ≤ last
       used = at_most_of node last (first_true (nat_le node last) (level_of words node == level) two)
 
       inner : (n : ℕ) → level_of words n ≢ 0 → leads_elsewhere words node n ≡ true
           → list_all (λ entry. not (entry.1 == node)) (entries_of words n) ≡ true
-      inner n some e = ap (λ b. b || list_all (λ entry. not (entry.1 == node)) (entries_of words n))
-          (sym (isnt_same (level_of words n) 0 some)) ∙ e
+      inner n some e = cc (isnt_same (level_of words n) 0 some)
 
   passes : IsHanging size (slice_index words) low level key node
       → hangs_in size words level key node ≡ true
-  passes is =
-      both_true (nat_le node last && level_of words node == level && low_of last words node == key
-      && not (key == 0))
+  passes is = both_true (nat_le node last && level_of words node == level
+      && low_of last words node == key && not (key == 0))
       (list_all (leads_elsewhere words node) (nodes last))
       (both_true (nat_le node last && level_of words node == level && low_of last words node == key)
-      (not (key == 0))
-      (both_true (nat_le node last && level_of words node == level) (low_of last words node == key)
-      (both_true (nat_le node last) (level_of words node == level) (is_at_most node last is.in_use)
-      (is_same (level_of words node) level is.level_is))
+      (not (key == 0)) (both_true (nat_le node last && level_of words node == level)
+      (low_of last words node == key) (both_true (nat_le node last) (level_of words node == level)
+      (is_at_most node last is.in_use) (is_same (level_of words node) level is.level_is))
       (is_same (low_of last words node) key (low_is size words low t node is.in_use ∙ is.low_is)))
       (ap not (isnt_same key 0 is.some)))
       (pass_all (leads_elsewhere words node) 0 (last + 1)
@@ -103,36 +91,31 @@ module _ (size : ℕ) (words : List ℕ) (low : ℕ → ℕ) (level key node : �
     where
       by_level : (n : ℕ) → n ≤ last → (level_of words n ≡ 0) ⊎ (level_of words n ≢ 0)
           → leads_elsewhere words node n ≡ true
-      by_level n used (inl leaf) =
-          ap (λ b. b || list_all (λ entry. not (entry.1 == node)) (entries_of words n))
-          (is_same (level_of words n) 0 leaf)
+      by_level n used (inl leaf) = cc (is_same (level_of words n) 0 leaf)
       by_level n used (inr some) =
           ap (λ b. b || list_all (λ entry. not (entry.1 == node)) (entries_of words n))
-          (isnt_same (level_of words n) 0 some)
-          ∙ all_passes (λ entry. not (entry.1 == node)) (λ entry. entry.1 ≢ node)
-          (λ entry other. ap not (isnt_same entry.1 node other)) (entries_of words n)
+          (isnt_same (level_of words n) 0 some) ∙ all_passes (λ entry. not (entry.1 == node))
+          (λ entry. entry.1 ≢ node) (λ entry other. ap not (isnt_same entry.1 node other))
+          (entries_of words n)
           (subst (Each (λ entry. entry.1 ≢ node)) (sym (same n used)) (is.unnamed n used some))
 
 pub hanging_says : (h : Header) (m : Memory) (low : ℕ → ℕ) (level key node : ℕ) → h.subject ≡ Tree
     → IsTree h.size m low
     → is_hanging h m level key node ≡ true
     → IsHanging h.size m low level key node
-hanging_says h m low level key node is t e =
-    hanging_same_words h.size (slice_index (words_in h m)) m low level key node back there
-    (says h.size (words_in h m) low level key node there e)
+hanging_says h m low level key node is t e = hanging_same_words _ (slice_index (words_in h m))
+    m _ _ _ _ back there (says h.size (words_in h m) low level key node there e)
   where
     back : SameWords h.size (slice_index (words_in h m)) m
-    back cell small = sym (words_same h m is cell small)
+    back cell small = sym (words_same h m is _ small)
 
     there : IsTree h.size (slice_index (words_in h m)) low
-    there = same_words_tree h.size m (slice_index (words_in h m)) low (words_same h m is) t
+    there = same_words_tree _ m _ _ (words_same h m is) t
 
 pub hanging_passes : (h : Header) (m : Memory) (low : ℕ → ℕ) (level key node : ℕ) → h.subject ≡ Tree
     → IsTree h.size m low
     → IsHanging h.size m low level key node
     → is_hanging h m level key node ≡ true
 hanging_passes h m low level key node is t hangs =
-    passes h.size (words_in h m) low level key node
-    (same_words_tree h.size m (slice_index (words_in h m)) low (words_same h m is) t)
-    (hanging_same_words h.size m (slice_index (words_in h m)) low level key node
-    (words_same h m is) t hangs)
+    passes h.size (words_in h m) low level key node (same_words_tree _ m _ _ (words_same h m is) t)
+    (hanging_same_words _ m _ _ _ _ _ (words_same h m is) t hangs)

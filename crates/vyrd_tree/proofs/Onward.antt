@@ -29,9 +29,7 @@ pub written : (c node place : ℕ) (xs : Entries) (m : Memory)
     → (after : Memory) × ((later : Script) → alone c (write_entries node place xs later) m
     ≡ alone c later after)
 written c node place [] m = (m, λ later. refl)
-written c node place ((key, value) ∷ xs) m =
-    written c node (place + 1) xs
-    (with_cell (with_cell m (key_cell node place) key) (value_cell node place) value)
+written c node place ((key, value) ∷ xs) m = written c node (place + 1) xs (with_cell _ _ _)
 
 -- A full node is split.
 pub node_is_split : (h : Header) (c : ℕ) (at : Arrived) (key value new : ℕ) (close : Kind)
@@ -99,10 +97,9 @@ module _ (h : Header) (c level key node : ℕ) where
       → ((ending : Script) (next : ℕ → ℕ → ℕ → Script) → alone c (part' ending next) m
       ≡ alone c (part ending next) m)
       → Comes part m → Comes part' m
-  moved part part' m e (inl s) = inl (s.0, λ ending next. e ending next ∙ s.1 ending next)
-  moved part part' m e (inr (inl s)) =
-      inr (inl (s.0, s.1, s.2, λ ending next. e ending next ∙ s.3 ending next))
-  moved part part' m e (inr (inr s)) = inr (inr (λ ending next. e ending next ∙ s ending next))
+  moved part part' m e (inl s) = inl (s.0, λ ending next. e _ _ ∙ s.1 _ _)
+  moved part part' m e (inr (inl s)) = inr (inl (s.0, s.1, s.2, λ ending next. e _ _ ∙ s.3 _ _))
+  moved part part' m e (inr (inr s)) = inr (inr (λ ending next. e _ _ ∙ s _ _))
 
   either : (b : Bool) (part part' : Part) (m : Memory) → Comes part m → Comes part' m
       → Comes (λ ending next. cond b (part ending next) (part' ending next)) m
@@ -131,15 +128,12 @@ module _ (h : Header) (c level key node : ℕ) where
       → ((new : ℕ) (m' : Memory) → Comes (part' new) m')
       → Comes (λ ending next. with_unused h (part ending next) (λ new. part' new ending next)) m
   got part part' m none found =
-      taken (used_lock h)
-      (λ ending next. step (Load (used_cell h))
+      taken _ (λ ending next. step (Load (used_cell h))
       (λ used. cond (nat_le h.size (used + 1)) (unlock_used h (part ending next))
       (perform (Store (used_cell h) (used + 1)) (unlock_used h (part' (used + 1) ending next))))) m
-      (either (nat_le h.size (held (used_cell h) + 1))
-      (λ ending next. unlock_used h (part ending next))
+      (either (nat_le h.size (held (used_cell h) + 1)) (λ ending next. unlock_used h (part _ _))
       (λ ending next. perform (Store (used_cell h) (held (used_cell h) + 1))
-      (unlock_used h (part' (held (used_cell h) + 1) ending next))) held
-      (none (with_cell held (used_lock h) 0))
+      (unlock_used h (part' (held (used_cell h) + 1) ending next))) held (none (with_cell _ _ 0))
       (found (held (used_cell h) + 1)
       (with_cell (with_cell held (used_cell h) (held (used_cell h) + 1)) (used_lock h) 0)))
     where
@@ -149,14 +143,14 @@ module _ (h : Header) (c level key node : ℕ) where
   -- a new root
   grown : (root : ℕ) (m : Memory) → Comes (λ ending next. grow_root h level key node root ending) m
   grown root m =
-      got (λ ending next. unlock_root h ending)
-      (λ new ending next. perform (Mark BlockOpen)
+      got _ (λ new ending next. perform (Mark BlockOpen)
       (write_node new (level + 1) 0 0 ((0, root) ∷ (key, node) ∷ [])
       (perform (Store (root_cell h) new) (perform (Mark BlockClose) (unlock_root h ending))))) m
-      (λ m. stops (with_cell m (root_lock h) 0))
+      (λ m. stops _)
       (λ new m. inl (
         with_cell (with_cell (full new m).0 (root_cell h) new) (root_lock h) 0,
-        λ ending next. (full new m).1
+        λ ending next.
+            (full new m).1
             (perform (Store (root_cell h) new) (perform (Mark BlockClose) (unlock_root h ending))),
       ))
     where
@@ -165,9 +159,7 @@ module _ (h : Header) (c level key node : ℕ) where
           × ((later : Script)
           → alone c (write_node new (level + 1) 0 0 ((0, root) ∷ (key, node) ∷ []) later) m
           ≡ alone c later after)
-      full new m = written c new 0 ((0, root) ∷ (key, node) ∷ [])
-          (with_cell (with_cell (with_cell (with_cell m (level_cell new) (level + 1))
-          (count_cell new) 2) (bound_cell new) 0) (right_cell new) 0)
+      full new m = written c _ 0 ((0, root) ∷ (key, node) ∷ []) _
 
   -- an entry in a node that has room
   added : (at : Arrived) (m : Memory)
@@ -302,8 +294,7 @@ module _ (h : Header) (c level key node : ℕ) where
   pub round_comes : (m : Memory)
       → Comes (λ ending next. ascend_once h Correct level key node ending next) m
   round_comes m =
-      taken (root_lock h)
-      (λ ending next. step (Load (root_cell h))
+      taken _ (λ ending next. step (Load (root_cell h))
       (λ root. cond (nat_lt root h.size) (under root ending next) (unlock_root h ending))) m
       (either (nat_lt root h.size) (under root) (λ ending next. unlock_root h ending) held
       (either (nat_le (held (level_cell root)) level)
@@ -325,6 +316,6 @@ module _ (h : Header) (c level key node : ℕ) where
           (λ at. add_child h level key node at ending next)
 
       under : ℕ → Script → (ℕ → ℕ → ℕ → Script) → Script
-      under root ending next = step (Load (level_cell root)) (λ top.
-          cond (nat_le top level) (grow_root h level key node root ending)
+      under root ending next = step (Load (level_cell root))
+          (λ top. cond (nat_le top level) (grow_root h level key node root ending)
           (unlock_root h (walk root ending next)))

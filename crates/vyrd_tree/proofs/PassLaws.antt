@@ -56,8 +56,7 @@ round_keeps_state h c level key node memory state is e hangs = by_end
 
     represents : (m : Memory) (low : ℕ → ℕ) → ShowsBy h.size m low state → FreeAll h m
         → state_in h m ≡ Some state
-    represents m low shown free = tree_represented h m state is
-        (record { low = low; held = shown; free = free })
+    represents m low shown free = search (tree_represented, arith)
 
     played : (ending : Script) (next : ℕ → ℕ → ℕ → Script) (Q : Option Outcome → Type 0)
         → Stops h c state ending Q
@@ -102,9 +101,8 @@ round_keeps_state h c level key node memory state is e hangs = by_end
         found = subst (IfEnds Says) (same stop only)
             (played stop only (IfEnds Says) (λ m low shown free. tt)
             (λ m low key'' node'' shown free hangs'. seen m (represents m low shown free) key''
-            node''
-            (hanging_passes h m low (level + 1) key'' node'' is shown.tree hangs') (key'' == key')
-            (node'' == node') refl refl))
+            node'' (hanging_passes h m low (level + 1) key'' node'' is shown.tree hangs')
+            (key'' == key') (node'' == node') refl refl))
 
     by_end : Comes h c level key node
         (λ ending next. ascend_once h Correct level key node ending next) memory
@@ -117,12 +115,10 @@ round_keeps_state h c level key node memory state is e hangs = by_end
           represents = says.0;
           goes_on = inr (record { key = s.1; node = s.2; rest = s.3; hangs = says.1 });
         }
-    by_end (inr (inr s)) =
-        absurd (subst (λ o. EndsSo o (λ reply after. ⊤))
-        (s (returns 0) (λ level' key' node'. returns 0))
+    by_end (inr (inr s)) = absurd
+        (subst (λ o. EndsSo o (λ reply after. ⊤)) (s (returns 0) (λ level' key' node'. returns 0))
         (played (returns 0) (λ level' key' node'. returns 0) (λ o. EndsSo o (λ reply after. ⊤))
-        (λ m low shown free. tt)
-        (λ m low key' node' shown free hangs'. tt)))
+        (λ m low shown free. tt) (λ m low key' node' shown free hangs'. tt)))
 
 pub insert_splits_leaf : (h : Header) (c : ℕ) (args : Args) (memory : Memory) (state : Amounts)
     → h.subject ≡ Tree
@@ -136,7 +132,7 @@ insert_splits_leaf h c args memory state is e small_key small none full room = r
   leaf = u;
   after = split.0;
   rest = comes;
-  represents = says.0 ∙ sym (ap (λ n. then_some (not (not (n == 0))) next) none);
+  represents = says.0 ∙ sym (cc);
   hangs = says.1;
 }
   where
@@ -211,11 +207,9 @@ insert_splits_leaf h c args memory state is e small_key small none full room = r
         → alone c (insert_in_then h args.a args.b later (loaded_at m n)
         (place_of args.a (entries_at m n))) m ≡ alone c (later key u) split.0
     in_leaf later =
-        subst (λ o. Comes (alone c (insert_in_then h args.a args.b later (loaded_at m n) o) m))
-        (sym is_new)
-        (subst (λ b. Comes (alone c (by_room b) m))
-        (sym (isnt_below (length (entries_at m n)) 4
-        (let len = length-entries m n 0 (count_at m n) in omega (arith, len, four))))
+        rw is_new
+        (rw (isnt_below (length (entries_at m n)) 4
+        (let len = length-entries m n 0 (count_at m n) in omega (arith, len, four)))
         (unused_played h c m Comes (changes_nothing h n) splitting
         (at.free (used_lock h) (omega arith) (omega arith) (omega (arith, fits)))
         (λ none_left. absurd (omega (arith, space, none_left))) (λ some. split.1 (later key u))))
@@ -227,19 +221,14 @@ insert_splits_leaf h c args memory state is e small_key small none full room = r
         splitting new = split_entry h (loaded_at m n) args.a args.b new BlockCommit
             (later (split_key (loaded_at m n) args.a args.b) new)
 
-        by_room : Bool → Script
-        by_room room = cond room (add_entry h (loaded_at m n) args.a args.b BlockCommit (returns 1))
-            (with_unused h (changes_nothing h n) splitting)
-
     comes : (later : ℕ → ℕ → Script) → alone c (insert_then h Correct args.a args.b later) memory
         ≡ alone c (later key u) split.0
     comes later =
         walk_down_arrives h c args.a memory st.low gives_up in_this
         (λ o. o ≡ alone c (later key u) split.0) st.held.tree
         (λ n low. st.free (lock_of h n) (omega arith) (omega (arith, low)))
-        (λ n' used level over. subst (λ n. alone c (in_this (loaded_at (with_lock h c memory n) n))
-        (with_lock h c memory n) ≡ alone c (later key u) split.0)
-        (leaf_is h memory st.low args.a n' st.held.tree
+        (λ n' used level over. rw
+        (← leaf_is h memory st.low args.a n' st.held.tree
         (record { in_use = used; leaf = level; covers = over })) (in_leaf later))
       where
         in_this : Arrived → Script

@@ -77,14 +77,7 @@ pub taking_after : {S : Type 0} (has_taken : S → List Stamped → Type 0) (sin
     → ((n : ℕ) → k.next < n → held after n ≡ held k n)
     → ((history : List Stamped) → has_taken sink history → has_taken sink' (history ++ e ∷ []))
     → IsTaking has_taken sink k taken → IsTaking has_taken sink' after taken
-taking_after has_taken sink sink' k after taken e found next same shown t =
-    let here : numbered k.next taken ≡ Some e = sym (t.in_hand.later k.next (omega arith))
-    ∙ found in
-    let order = ap (λ (n : ℕ). in_order_below n taken) next ∙ in_order_more k.next taken e here in
-    record {
-      in_hand = kept_after k after taken e found next same t.in_hand;
-      shown = subst (has_taken sink') (sym order) (shown _ t.shown);
-    }
+taking_after has_taken sink sink' k after taken e found next same shown t = grind arith
 
 pub taking_with : {S : Type 0} (has_taken : S → List Stamped → Type 0) (sink : S)
     (k after : ReorderKept)
@@ -93,12 +86,7 @@ pub taking_with : {S : Type 0} (has_taken : S → List Stamped → Type 0) (sink
     → ((n : ℕ) → held after n ≡ (if n == e.number then Some e else held k n))
     → IsTaking has_taken sink k taken → IsTaking has_taken sink after (taken ++ e ∷ [])
 taking_with has_taken sink k after taken e not_had next put t =
-    let new = new_number k taken e.number not_had t.in_hand in record {
-      in_hand = kept_with k after taken e not_had next put t.in_hand;
-      shown = subst (has_taken sink)
-          (sym (ap (λ (n : ℕ). in_order_below n (taken ++ e ∷ [])) next
-          ∙ in_order_same k.next taken e new.0)) t.shown;
-    }
+    search (new_number, kept_with, in_order_same, arith)
 
 -- nothing was taken in
 pub taking_none : {S : Type 0} (has_taken : S → List Stamped → Type 0) (sink : S) (k : ReorderKept)
@@ -142,35 +130,11 @@ pub taking_turn : {S : Type 0} (has_taken : S → List Stamped → Type 0) (sink
     → ((n : ℕ) → k.next < n → held after n ≡ held k n)
     → has_taken sink' (in_order_below k.next taken ++ e ∷ [])
     → IsTaking has_taken sink k taken → IsTaking has_taken sink' after (taken ++ e ∷ [])
-taking_turn has_taken sink sink' k after taken e not_had turn next same shown t =
-    let new = new_number k taken e.number not_had t.in_hand in
-    let none : numbered k.next taken ≡ None = ap (λ (n : ℕ). numbered n taken) (sym turn) ∙ new.1 in
-    let here : numbered k.next (taken ++ e ∷ []) ≡ Some e = numbered_new k.next taken e none turn in
-    let order = ap (λ (n : ℕ). in_order_below n (taken ++ e ∷ [])) next
-    ∙ in_order_more k.next (taken ++ e ∷ []) e here
-    ∙ ap (λ (xs : List Stamped). xs ++ e ∷ []) (in_order_same k.next taken e new.0) in record {
-      in_hand = record {
-        gone = λ n l. dite (dec_lt n k.next)
-            (λ less. ap is_some (numbered_old n taken e (λ q. omega arith)) ∙ t.in_hand.gone n less)
-            (λ no_less. let is : k.next ≡ n = omega arith in ap is_some
-            (ap (λ (m : ℕ). numbered m (taken ++ e ∷ [])) (sym is) ∙ here));
-        later = λ n l. same n (omega arith) ∙ t.in_hand.later n (omega arith)
-            ∙ sym (numbered_old n taken e (λ q. omega arith));
-      };
-      shown = subst (has_taken sink') (sym order) shown;
-    }
+taking_turn has_taken sink sink' k after taken e not_had turn next same shown t = search
+    (new_number, numbered, numbered_new, in_order_more, in_order_same, is_some, numbered_old, arith)
 
 -- and what is had changes at its number alone
 pub has_passed : (k after : ReorderKept) (number : ℕ) → number ≡ k.next → after.next ≡ k.next + 1
     → ((n : ℕ) → k.next < n → held after n ≡ held k n)
     → (n : ℕ) → n ≢ number → has after n ≡ has k n
-has_passed k after number turn next same n apart = dite (dec_lt n k.next)
-    (λ less. let a : ltb n after.next ≡ true = grind (arith, nat_tests) in let b : ltb n k.next
-    ≡ true = grind (arith, nat_tests) in
-    ap (λ (x : Bool). x || is_some (held after n)) a
-    ∙ sym (ap (λ (x : Bool). x || is_some (held k n)) b))
-    (λ no_less. let over : k.next < n = omega arith in
-    let a : ltb n after.next ≡ false = grind (arith, nat_tests) in let b : ltb n k.next
-    ≡ false = grind (arith, nat_tests) in
-    ap (λ (x : Bool). x || is_some (held after n)) a ∙ ap is_some (same n over)
-    ∙ sym (ap (λ (x : Bool). x || is_some (held k n)) b))
+has_passed k after number turn next same n apart = search (is_some, held, arith)

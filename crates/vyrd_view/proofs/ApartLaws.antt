@@ -53,23 +53,13 @@ past_head : (x : ℕ × ℕ) (xs : Amounts) → IsAmounts (x ∷ xs) → amount_
 past_head x xs is = absent_below xs x.0 x.0 (omega arith) (first_of_and _ _ is.rising)
 
 tail : (x : ℕ × ℕ) (xs : Amounts) → IsAmounts (x ∷ xs) → IsAmounts xs
-tail x xs is = record {
-  rising = second_of_and (below_all nat_cmp x.0 xs) _ is.rising;
-  some = is.some.1;
-}
+tail x xs is = search (second_of_and, below_all, arith)
 
 -- one more pair in front of both
 with_same_head : (x y : ℕ × ℕ) (xs ys : Amounts) (o : Option ℕ) → x.0 ≡ y.0 → x.1 ≡ y.1
     → IsAmounts (x ∷ xs) → IsAmounts (y ∷ ys)
     → LeastApart xs ys o → LeastApart (x ∷ xs) (y ∷ ys) o
-with_same_head x y xs ys o key amount is it = by_option o
-  where
-    differ : (k : ℕ) → amount_of xs k ≢ amount_of ys k → (b : Bool) → (k == x.0) ≡ b
-        → amount_of (x ∷ xs) k ≢ amount_of (y ∷ ys) k
-    differ k apart b e = search (apart, past_head, amount_of-cons, arith)
-
-    by_option : (o : Option ℕ) → LeastApart xs ys o → LeastApart (x ∷ xs) (y ∷ ys) o
-    by_option o f = search (differ, arith)
+with_same_head x y xs ys o key amount is it e9 = search (past_head, amount_of-cons, arith)
 
 -- two pairs in front that differ
 lesser_head : (x y : ℕ × ℕ) (xs ys : Amounts) → IsAmounts (x ∷ xs) → IsAmounts (y ∷ ys) → x.0 < y.0
@@ -114,10 +104,7 @@ apart_is_least (x ∷ xs) (y ∷ ys) is it = by_test
   where
     by_test : LeastApart xs ys (first_apart xs ys) → (t : Bool) → (x.0 == y.0 && x.1 == y.1) ≡ t
         → LeastApart (x ∷ xs) (y ∷ ys) (cond t (first_apart xs ys) (Some (min x.0 y.0)))
-    by_test rest true e =
-        let both = both_of (x.0 == y.0) (x.1 == y.1) e in
-        with_same_head x y xs ys (first_apart xs ys) (same_of x.0 y.0 both.0)
-        (same_of x.1 y.1 both.1) is it rest
+    by_test rest true e = search (both_of, with_same_head, same_of, arith)
     by_test rest false e = apart_heads x y xs ys is it e
 
 -- the least key that differs is where the lists part
@@ -162,5 +149,4 @@ first_apart_of a b s t is it ours theirs = cc (first_difference-first_apart a b 
 pub least_is_first : (f g : ℕ → ℕ) (a b : Amounts) (o : Option ℕ) → ((q : ℕ) → f q ≡ amount_of a q)
     → ((q : ℕ) → g q ≡ amount_of b q)
     → IsLeastApart f g o → o ≡ first_difference a b
-least_is_first f g a b o left right least =
-    grind (arith, left, least, one_least, difference_is_least)
+least_is_first f g a b o left right least = search (one_least, difference_is_least, arith)

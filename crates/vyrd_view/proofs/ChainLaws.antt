@@ -102,11 +102,9 @@ pub walk_goes_on : (size : ℕ) (words : List ℕ) (sums t : Amounts) (flags : L
     → Walk size words t (set flags n true) left (right_of words n)
 walk_goes_on size words sums t flags left n walk within more on new = record {
   seen = n ∷ walk.seen;
-  marks = marked size n flags walk.seen within walk.marks;
-  rest = ap (λ s. added s (chain_parts_from size words left (n ∷ walk.seen) (right_of words n)))
-      more
-      ∙ onward size words sums flags left n walk false false within
-      (isnt_same (right_of words n) 0 on) new;
+  marks = marked _ n _ _ within walk.marks;
+  rest = cc (onward size words sums flags left n walk false false within
+      (isnt_same (right_of words n) 0 on) new);
 }
 
 -- a node that isn't seen is within the flags

@@ -53,30 +53,11 @@ module _ (before words changed : List ℕ) (elsewhere : AgreeElsewhere before wo
 
   entry_untouched : (n j : ℕ) → j < 4 → is_touched 12 n changed ≡ false → entry_pair words n j
       ≡ entry_pair before n j
-  entry_untouched n j low untouched =
-      ap (λ (k : ℕ). cond {A = ℕ × ℕ} (nat_lt j k)
-      (cond {A = ℕ × ℕ} (nat_lt (node_word words n (4 + j)) (2 ^ 32)
-      && nat_lt (node_word words n (8 + j)) (2 ^ 32))
-      (node_word words n (4 + j), 2 ^ 32 + node_word words n (8 + j)) (2 ^ 33, 1))
-      (0, 0)) (same_node_word n 1 (omega arith) untouched)
-      ∙ ap (λ (k : ℕ). cond {A = ℕ × ℕ} (nat_lt j (count_of before n))
-      (cond {A = ℕ × ℕ} (nat_lt k (2 ^ 32) && nat_lt (node_word words n (8 + j)) (2 ^ 32))
-      (k, 2 ^ 32 + node_word words n (8 + j)) (2 ^ 33, 1))
-      (0, 0)) (same_node_word n (4 + j) (omega (arith, low)) untouched)
-      ∙ ap (λ (v : ℕ). cond {A = ℕ × ℕ} (nat_lt j (count_of before n))
-      (cond {A = ℕ × ℕ} (nat_lt (node_word before n (4 + j)) (2 ^ 32) && nat_lt v (2 ^ 32))
-      (node_word before n (4 + j), 2 ^ 32 + v) (2 ^ 33, 1))
-      (0, 0)) (same_node_word n (8 + j) (omega (arith, low)) untouched)
+  entry_untouched n j low untouched = search (same_node_word, arith)
 
   pub node_untouched : (marks : List Bool) (m : ℕ) → is_stale marks (m / 4) changed ≡ false
       → node_pair words marks m ≡ node_pair before marks m
-  node_untouched marks m fresh = by_mark (get_or marks (m / 4) false) fresh
-    where
-      by_mark : (b : Bool) → (b && is_touched 12 (m / 4) changed) ≡ false
-          → cond {A = ℕ × ℕ} b (entry_pair words (m / 4) (m % 4)) (0, 0) ≡ cond {A = ℕ × ℕ} b
-          (entry_pair before (m / 4) (m % 4)) (0, 0)
-      by_mark true e = entry_untouched (m / 4) (m % 4) (omega arith) e
-      by_mark false e = refl
+  node_untouched marks m fresh = search (entry_untouched, arith)
 
   module _ (unlinked : has_link changed ≡ false) where
     same_link : (n : ℕ) → right_of words n ≡ right_of before n
@@ -114,43 +95,24 @@ module _ (before words changed : List ℕ) (elsewhere : AgreeElsewhere before wo
 -- ---- zeroed words
 
 no_entry : (n node j : ℕ) → entry_pair (replicate n 0) node j ≡ (0, 0)
-no_entry n node j =
-    cc (zeros n (12 * node + 1), isnt_below j 0 (omega arith))
+no_entry n node j = search (zeros, isnt_below, arith)
 
 pub no_node : (n : ℕ) (marks : List Bool) (m : ℕ) → node_pair (replicate n 0) marks m ≡ (0, 0)
-no_node n marks m = by_mark (get_or marks (m / 4) false)
-  where
-    by_mark : (b : Bool) → cond {A = ℕ × ℕ} b (entry_pair (replicate n 0) (m / 4) (m % 4)) (0, 0)
-        ≡ (0, 0)
-    by_mark true = no_entry n (m / 4) (m % 4)
-    by_mark false = refl
+no_node n marks m = search (no_entry, arith)
 
 one_node : (n size left : ℕ) → chain_nodes_from size (replicate n 0) (suc left) [] 0 ≡ 0 ∷ []
-one_node n size left = ap (λ s. 0 ∷ s) (ap (λ r. elim (r == 0) [
-  | true ↦ []
-  | false ↦ elim (nat_le size r || list_any (λ m. m == r) (0 ∷ [])) [
-    | true ↦ []
-    | false ↦ chain_nodes_from size (replicate n 0) left (0 ∷ []) r
-  ]
-]) (zeros n (12 * 0 + 3)))
+one_node n size left = cc (zeros n (12 * 0 + 3))
 
 whole_chain : (n size left : ℕ) → chain_breaks_from size (replicate n 0) (suc left) [] 0 ≡ false
-whole_chain n size left = ap (λ r. elim (r == 0) [
-  | true ↦ false
-  | false ↦ elim (nat_le size r || list_any (λ m. m == r) (0 ∷ [])) [
-    | true ↦ true
-    | false ↦ chain_breaks_from size (replicate n 0) left (0 ∷ []) r
-  ]
-]) (zeros n (12 * 0 + 3))
+whole_chain n size left = cc (zeros n (12 * 0 + 3))
 
 pub first_is_marked : (n size i : ℕ) → 0 < size → get_or (set (replicate size false) 0 true) i false
     ≡ is_on_chain size (replicate n 0) i
 unfolding is_on_chain
 first_is_marked n zero i some = absurd (omega arith)
-first_is_marked n (suc left) zero some =
-    sym (ap (list_any (λ m. m == 0)) (one_node n (suc left) left))
+first_is_marked n (suc left) zero some = cc (one_node n (suc left) left)
 first_is_marked n (suc left) (suc i) some = none left i
-    ∙ sym (ap (list_any (λ m. m == suc i)) (one_node n (suc left) left)
+    ∙ sym (ap (list_any (λ m. m == suc i)) (one_node n (suc _) left)
     ∙ ap (λ b. b || false) (isnt_same 0 (suc i) (λ e. absurd (omega (arith, e)))))
   where
     none : (k j : ℕ) → get_or (replicate k false) j false ≡ false
@@ -160,8 +122,7 @@ first_is_marked n (suc left) (suc i) some = none left i
 
 pub end_is_whole : (n size : ℕ) → 0 < size → is_broken size (replicate n 0) ≡ false
 unfolding is_broken
-end_is_whole n zero some = absurd (omega arith)
-end_is_whole n (suc left) some = whole_chain n (suc left) left
+end_is_whole n size some = search (whole_chain, arith)
 
 -- they give nothing
 pub given_copies : (q n : ℕ) → given q (replicate n (0, 0)) ≡ 0

@@ -40,8 +40,7 @@ own_length width part parts words low count =
 
 -- the part of a word, and of a place
 pub part_of_within : (n parts width : ℕ) → n < parts * width → n / width < parts
-part_of_within n parts zero low = absurd (omega (arith, low))
-part_of_within n parts (suc w) low = (div-lt_iff_lt-mul (omega arith)).1 low
+part_of_within n parts width low = search arith
 
 pub is_place : (places m : ℕ) → (m / places) * places + m % places ≡ m
 is_place places m = grind (arith, div-add-mod m places)
@@ -50,20 +49,12 @@ module _ (width places parts : ℕ) (gives : Gives) where
   -- all pairs are given by some words
   pub pairs_given : (words : List ℕ)
       → AreGiven places parts gives (pairs_by width places parts gives words)
-  pairs_given words = record {
-    count = length_below (pair_at width places gives words) (parts * places);
-    each = λ m low. record {
-      own = words_of width (m / places) words;
-      is = element_below (pair_at width places gives words) (parts * places) m (0, 0)
-          (omega (arith, low, length_below (pair_at width places gives words) (parts * places)));
-    };
-  }
+  pairs_given words = search (length_below, words_of, element_below, arith)
 
   -- if all fits, so do the first of them
   given_grows : (q : ℕ) (f : ℕ → ℕ × ℕ) (m k : ℕ)
       → given q (map f (numbers_below m)) ≤ given q (map f (numbers_below (m + k)))
-  given_grows q f m zero = let none : m + 0 ≡ m = omega arith in
-      omega (arith, ap (λ n. given q (map f (numbers_below n))) none)
+  given_grows q f m zero = grind arith
   given_grows q f m (suc k) =
       let more : m + suc k ≡ m + k + 1 = omega arith in
       omega (
@@ -108,41 +99,35 @@ pub own_untouched : (width part parts : ℕ) (before words changed : List ℕ) �
     → length before ≡ parts * width → length words ≡ parts * width
     → AgreeElsewhere before words changed → is_touched width part changed ≡ false
     → words_of width part words ≡ words_of width part before
-own_untouched width part parts before words changed low old new elsewhere untouched =
-    same_lists (words_of width part words) (words_of width part before)
-    (own_length width part parts words low new ∙ sym (own_length width part parts before low old))
+own_untouched width part parts before words changed low old new elsewhere untouched = same_lists _ _
+    (own_length _ part parts words low new ∙ sym (own_length _ part parts before low old))
     (λ i d inside.
     let within : i < width = omega (arith, inside, own_length width part parts words low new) in
     let also : i < length (words_of width part before) =
     omega (arith, within, own_length width part parts before low old) in
-    get_or_default (words_of width part words) i d 0 inside
-    ∙ own_word width part words i within
-    ∙ elsewhere (part * width + i) (word_untouched width part (part * width + i) changed
-    (div-mul-add part width i within) untouched)
-    ∙ sym (own_word width part before i within)
-    ∙ get_or_default (words_of width part before) i 0 d also)
+    get_or_default _ i d 0 inside ∙ own_word width part _ i within
+    ∙ elsewhere _ (word_untouched width part (part * width + i) changed (div-mul-add _ _ i within)
+    untouched) ∙ sym (own_word width part _ i within) ∙ get_or_default _ i 0 d also)
 
 -- ---- one place more
 
 pub sums_more : (f : ℕ → ℕ × ℕ) (m n : ℕ) (s t : Amounts) (p : ℕ × ℕ)
     → s ≡ collected (map f (numbers_below m)) → t ≡ plus_amount s p.0 p.1 → p ≡ f m → n ≡ m + 1
     → t ≡ collected (map f (numbers_below n))
-sums_more f m n s t p is more here next =
-    grind (arith, more, here, collected-append, collected, mapped-push)
+sums_more f m n s t p is more here next = search (collected-append, collected, mapped-push, arith)
 
 -- and one that gives nothing
 pub sums_same : (f : ℕ → ℕ × ℕ) (m n : ℕ) (s t : Amounts) (p : ℕ × ℕ)
     → s ≡ collected (map f (numbers_below m)) → t ≡ s → p ≡ f m → p.1 ≡ 0 → n ≡ m + 1
     → t ≡ collected (map f (numbers_below n))
-sums_same f m n s t p is same here none next =
-    same ∙ is
-    ∙ same_amounts (collected before) (collected after) (IsAmounts-collected before)
-    (IsAmounts-collected after)
+sums_same f m n s t p is same here none next = same ∙ is
+    ∙ same_amounts _ _ (IsAmounts-collected before) (IsAmounts-collected after)
     (λ q. omega (
       arith,
       amount_of-collected before q,
       amount_of-collected after q,
-      ap (λ k. given q (map f (numbers_below k))) next,
+      ap
+          (λ k. given q (map f (numbers_below k))) next,
       given_map_push q f m,
       ap (part_given q) (sym here),
       ap (λ a. part_given q (p.0, a)) none,

@@ -27,8 +27,7 @@ module _ (before words : List ℕ) where
       → differing before words (drop index changed)
       ≡ get_or changed index 0 ∷ differing before words (drop (index + 1) changed)
   unfolding more_by
-  one_differs changed index low apart = one_more changed index low
-      ∙ ap (more_by changed index) (isnt_same _ _ apart)
+  one_differs changed index low apart = cc (one_more changed index low, isnt_same _ _ apart)
 
   -- and one that holds the same
   pub one_stays : (changed : List ℕ) (index : ℕ) → index < length changed
@@ -36,8 +35,7 @@ module _ (before words : List ℕ) where
       → differing before words (drop index changed)
       ≡ differing before words (drop (index + 1) changed)
   unfolding more_by
-  one_stays changed index low same = one_more changed index low
-      ∙ ap (more_by changed index) (is_same _ _ same)
+  one_stays changed index low same = cc (one_more changed index low, is_same _ _ same)
 
   -- whether a word is among these
   abbrev is_told : ℕ → List ℕ → Bool
@@ -47,9 +45,8 @@ module _ (before words : List ℕ) where
   untold : (changed : List ℕ) (w : ℕ) → (get_or words w 0 == get_or before w 0) ≡ false
       → is_told w (differing before words changed) ≡ false → is_told w changed ≡ false
   untold [] w apart none = refl
-  untold (x ∷ changed) w apart none =
-      by_tests (x == w) (get_or words x 0 == get_or before x 0) refl refl none
-      (untold changed w apart)
+  untold (x ∷ changed) w apart none = by_tests (x == w) (get_or words x 0 == get_or before x 0) refl
+      refl none (untold changed w apart)
     where
       by_tests : (here same : Bool) → (x == w) ≡ here
           → (get_or words x 0 == get_or before x 0) ≡ same
@@ -57,13 +54,10 @@ module _ (before words : List ℕ) where
           (differing before words changed)) ≡ false
           → (is_told w (differing before words changed) ≡ false → is_told w changed ≡ false)
           → (here || is_told w changed) ≡ false
-      by_tests true true e f rest more =
-          sym f ∙ ap (λ k. get_or words k 0 == get_or before k 0) (same_of x w e) ∙ apart
-      by_tests true false e f rest more =
-          sym (ap (λ b. b || is_told w (differing before words changed)) e) ∙ rest
+      by_tests true true e f rest more = cc (same_of x w e)
+      by_tests true false e f rest more = sym (cc) ∙ rest
       by_tests false true e f rest more = more rest
-      by_tests false false e f rest more =
-          more (sym (ap (λ b. b || is_told w (differing before words changed)) e) ∙ rest)
+      by_tests false false e f rest more = more (sym (cc) ∙ rest)
 
   -- the words agree outside those that differ
   pub agree_elsewhere : (changed : List ℕ) → AgreeElsewhere before words changed

@@ -29,11 +29,8 @@ pub fresh_marked : (size : ℕ) (words : List ℕ) (marks : List Bool) (pairs no
     → get_or now (4 * (word / 12) + j) (0, 0) ≡ entry_pair words (word / 12) j)
     → ((m : ℕ) → 4 * (word / 12) + 4 ≤ m → get_or now m (0, 0) ≡ get_or pairs m (0, 0))
     → AreNodesFresh size words marks pairs (word ∷ left) → AreNodesFresh size words marks now left
-fresh_marked size words marks pairs now word left marked below inside above fresh m within rest =
-    by_test (word / 12 == m / 4) refl
-  where
-    by_test : (b : Bool) → (word / 12 == m / 4) ≡ b → get_or now m (0, 0) ≡ node_pair words marks m
-    by_test b e = search (same_of, within, stale_rest, left, arith)
+fresh_marked size words marks pairs now word left marked below inside above fresh = search
+    (same_of, stale_rest, arith)
 
 -- a marked node is within the marks
 pub marked_within : (marks : List Bool) (n : ℕ) → get_or marks n false ≡ true → n < length marks

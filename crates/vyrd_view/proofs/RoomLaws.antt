@@ -62,11 +62,10 @@ padded_length count words few = grind (arith, count, few, length-append, length-
 pub padded_again : (n count : ℕ) (words : List ℕ) → length words ≤ n → n ≤ count
     → padded count (padded n words) ≡ padded count words
 padded_again n count words few less =
-    let inner : length (padded n words) ≡ n = padded_length n words few in
-    ext_get_or 0 (padded count (padded n words)) (padded count words)
-    (padded_length count (padded n words) (omega (arith, inner, less))
-    ∙ sym (padded_length count words (omega (arith, few, less))))
-    (λ w low. padded_index count (padded n words) w ∙ padded_index n words w
+    let inner : length (padded n words) ≡ n = padded_length n _ few in
+    ext_get_or 0 _ _ (padded_length _ (padded n _) (omega (arith, inner, less))
+    ∙ sym (padded_length _ words (omega (arith, few, less))))
+    (λ w low. padded_index count (padded n _) w ∙ padded_index n words w
     ∙ sym (padded_index count words w))
 
 -- zeroes alone
@@ -106,12 +105,10 @@ module _ (width places part : ℕ) (gives : Gives) (first s t : List (ℕ × ℕ
   own = gives part (replicate width 0)
 
   pub quiet_count : length t ≡ part * places + places
-  quiet_count = ap length now ∙ length-append s (map own (numbers_below places))
-      ∙ omega (arith, count, length_below own places)
+  quiet_count = cc (length-append s (map own (numbers_below places)), length_below own places)
 
   pub quiet_old : (m : ℕ) → m < length s → get_or t m (0, 0) ≡ get_or s m (0, 0)
-  quiet_old m low = ap (λ xs. get_or xs m (0, 0)) now
-      ∙ get_or_append_left s (map own (numbers_below places)) (0, 0) m low
+  quiet_old m low = cc (get_or_append_left s (map own (numbers_below places)) (0, 0) m low)
 
   pub quiet_new : ((m : ℕ) → length first ≤ m → m < length s
       → get_or s m (0, 0) ≡ gives (m / places) (replicate width 0) (m % places))
@@ -121,23 +118,19 @@ module _ (width places part : ℕ) (gives : Gives) (first s t : List (ℕ × ℕ
     where
       by_place : (b : Bool) → nat_lt m (length s) ≡ b
           → get_or t m (0, 0) ≡ gives (m / places) (replicate width 0) (m % places)
-      by_place true e =
-          let inside : m < length s = below_of m (length s) e in
-          quiet_old m inside ∙ before m past inside
+      by_place true e = search (below_of, quiet_old, arith)
       by_place false e =
           let high : length s ≤ m = not_below_of m (length s) e in
           let j : ℕ = m - length s in
           let inside : j < places = omega (arith, low, high, quiet_count, count) in
           let at : m ≡ part * places + j = omega (arith, high, count) in
-          let quotient : m / places ≡ part =
-          ap (λ k. k / places) at ∙ div-mul-add part places j inside in
-          let remainder : m % places ≡ j =
-          ap (λ k. k % places) at ∙ mod-mul-add part places j inside in
-          ap (λ xs. get_or xs m (0, 0)) now
-          ∙ get_or-append_right s (map own (numbers_below places)) (length s) m (0, 0) refl high
-          ∙ element_below own places j (0, 0) inside
-          ∙ ap (λ p. gives p (replicate width 0) j) (sym quotient)
-          ∙ ap (gives (m / places) (replicate width 0)) (sym remainder)
+          let quotient : m / places ≡ part = cc (div-mul-add part places j inside) in
+          let remainder : m % places ≡ j = cc (mod-mul-add part places j inside) in
+          cc (
+            get_or-append_right s (map own (numbers_below places)) (length s) m
+                (0, 0) refl high,
+            element_below own places j (0, 0) inside,
+          )
 
 -- ---- words that change
 
@@ -158,17 +151,15 @@ module _ (count : ℕ) (before words changed : List ℕ) (all : length words ≡
 
   -- the words that have room agree too, elsewhere
   pub front_agrees : AgreeElsewhere before (take (length before) words) changed
-  front_agrees w other = by_place (nat_lt w (length before)) refl
+  front_agrees w other = by_place (nat_lt w _) refl
     where
       by_place : (b : Bool) → nat_lt w (length before) ≡ b
           → slice_index (take (length before) words) w ≡ slice_index before w
-      by_place true e =
-          get_or-take (length before) words w 0 (below_of w (length before) e)
-          ∙ elsewhere w other ∙ padded_index count before w
+      by_place true e = get_or-take _ _ w 0 (below_of w _ e) ∙ elsewhere w other
+          ∙ padded_index _ _ w
       by_place false e =
-          let past : length before ≤ w = not_below_of w (length before) e in
-          get_or_past (take (length before) words) w 0 (omega (arith, past, front_length))
-          ∙ sym (get_or_past before w 0 past)
+          let past : length before ≤ w = not_below_of w _ e in
+          get_or_past _ w 0 (omega (arith, past, front_length)) ∙ sym (get_or_past _ w 0 past)
 
   -- and are all words, if no other one has changed
   pub front_is_all : All (λ w. w < length before) changed
@@ -196,18 +187,16 @@ pub own_padded : (width part parts held : ℕ) (words : List ℕ) → part < par
     → length words ≡ held * width
     → words_of width part (padded (parts * width) words) ≡ replicate width 0
 own_padded width part parts held words low past count =
-    let before : held * width ≤ part * width = mul-le-mul_right width past in
-    let inside : part * width + width ≤ parts * width = part_within part parts width low in
-    let all : length (padded (parts * width) words) ≡ parts * width =
-    padded_length (parts * width) words (omega (arith, before, inside, count)) in
-    let own : length (words_of width part (padded (parts * width) words)) ≡ width =
-    own_length width part parts (padded (parts * width) words) low all in
-    ext_get_or 0 (words_of width part (padded (parts * width) words)) (replicate width 0)
-    (own ∙ sym (length-replicate width 0))
+    let before : held * width ≤ part * width = mul-le-mul_right _ past in
+    let inside : part * width + width ≤ parts * width = part_within _ _ _ low in
+    let all : length (padded (parts * width) words) ≡ parts * width = padded_length _ _
+    (omega (arith, before, inside, count)) in
+    let own : length (words_of width part (padded (parts * width) words))
+    ≡ width = own_length _ _ parts _ low all in
+    ext_get_or 0 _ _ (own ∙ sym (length-replicate _ 0))
     (λ i inner. own_word width part (padded (parts * width) words) i (omega (arith, inner, own))
-    ∙ padded_index (parts * width) words (part * width + i)
-    ∙ get_or_past words (part * width + i) 0 (omega (arith, before, count))
-    ∙ sym (zeroed width i))
+    ∙ padded_index (parts * width) words (part * width + i) ∙ get_or_past words (part * width + i) 0
+    (omega (arith, before, count)) ∙ sym (zeroed _ i))
 
 module _ (width places parts held : ℕ) (gives : Gives) (words : List ℕ) (some : 1 ≤ places)
     (few : held ≤ parts) (quiet : (part j : ℕ) → (gives part (replicate width 0) j).1 ≡ 0)
@@ -216,18 +205,13 @@ module _ (width places parts held : ℕ) (gives : Gives) (words : List ℕ) (som
   -- a place of a part of zeroed words
   zero_place : (m : ℕ) → held * places ≤ m → m < parts * places
       → (pair_at width places gives words m).1 ≡ 0
-  zero_place m past low =
-      let part : m / places < parts = part_of_within m parts places low in
-      let high : held ≤ m / places = (le-div_iff_mul-le (omega (arith, some))).1 past in
-      ap (λ own. (gives (m / places) own (m % places)).1) (zeros (m / places) part high)
-      ∙ quiet (m / places) (m % places)
+  zero_place m past low = grind arith
 
   given_more : (q k : ℕ) → held * places + k ≤ parts * places
       → given q (map (pair_at width places gives words) (numbers_below (held * places + k)))
       ≡ given q (pairs_by width places held gives words)
   given_more q zero low =
-      let none : held * places + 0 ≡ held * places = omega arith in
-      ap (λ n. given q (map (pair_at width places gives words) (numbers_below n))) none
+      grind arith
   given_more q (suc k) low =
       let f : ℕ → ℕ × ℕ = pair_at width places gives words in
       let m : ℕ = held * places + k in
@@ -295,14 +279,7 @@ room_pairs width places parts held more gives words before now some few zeros ar
 module _ (width places parts : ℕ) (gives : Gives) (some : 1 ≤ places) where
   -- no part has room
   pub no_room : HaveRoom width places parts 0 gives [] []
-  no_room =
-      let none : 0 * places ≡ 0 = omega arith in
-      record {
-        few = omega arith;
-        count = omega arith;
-        given = sym (ap (λ n. map (pair_at width places gives (padded (parts * width) []))
-            (numbers_below n)) none);
-      }
+  no_room = search (given, padded, arith)
 
   -- more parts get it, with zeroed words
   pub more_room : (held more : ℕ) (before words : List ℕ) (pairs now : List (ℕ × ℕ))
@@ -317,13 +294,11 @@ module _ (width places parts : ℕ) (gives : Gives) (some : 1 ≤ places) where
     same,
     record {
       few = few;
-      count = ap length are ∙ padded_length (more * width) before less;
-      given = room_pairs width places parts held more gives (padded (parts * width) before) pairs
-          now
-          some few
+      count = ap length are ∙ padded_length _ _ less;
+      given =
+          room_pairs width _ parts held _ gives (padded (parts * width) before) pairs _ some few
           (λ part low past. own_padded width part parts held before low past room.count) room.given
-          count old new
-          ∙ ap (pairs_by width places more gives) (sym same);
+          count old new ∙ ap (pairs_by width _ _ gives) (sym same);
     },
   )
     where
@@ -331,8 +306,8 @@ module _ (width places parts : ℕ) (gives : Gives) (some : 1 ≤ places) where
       less = omega (arith, mul-le-mul_right width up, room.count)
 
       same : padded (parts * width) words ≡ padded (parts * width) before
-      same = ap (padded (parts * width)) are
-          ∙ padded_again (more * width) (parts * width) before less (mul-le-mul_right width few)
+      same = cc (padded_again (more * width) (parts * width) before less
+          (mul-le-mul_right width few))
 
 -- ---- changed words of parts that have room
 
@@ -348,16 +323,14 @@ module _ (width places parts held : ℕ) (gives : Gives) (before words changed :
   inner = subst (λ n. All (λ w. w < n) changed) (sym room.count) within
 
   pub room_places : length pairs ≡ held * places
-  room_places = ap length room.given
-      ∙ length_below (pair_at width places gives (padded (parts * width) before)) (held * places)
+  room_places = search (length_below, padded, arith)
 
   pub room_agrees : AgreeElsewhere before (take (length before) words) changed
   room_agrees = front_agrees (parts * width) before words changed all less elsewhere
 
   pub room_others : (m : ℕ) → m < length pairs → is_touched width (m / places) changed ≡ false
       → get_or pairs m (0, 0) ≡ pair_at width places gives words m
-  room_others = kept_others width places parts held gives (padded (parts * width) before) pairs
-      room.given room.few (padded_length (parts * width) before less) words changed all elsewhere
+  room_others = search (kept_others, padded, padded_length, less, arith)
 
   -- what they have room for is up to date again
   pub room_whole : padded (parts * width) (take (length before) words) ≡ words
@@ -390,6 +363,4 @@ pub room_shows : (width places parts held : ℕ) (gives : Gives) (words : List �
     → ((part j : ℕ) → (gives part (replicate width 0) j).1 ≡ 0)
     → collected pairs ≡ collected (pairs_by width places parts gives (padded (parts * width) words))
 room_shows width places parts held gives words pairs room some quiet =
-    ap collected room.given
-    ∙ held_shows width places parts held gives (padded (parts * width) words) some room.few quiet
-    (λ part low past. own_padded width part parts held words low past room.count)
+    search (collected, held_shows, padded, own_padded, arith)

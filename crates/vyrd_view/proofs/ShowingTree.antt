@@ -36,8 +36,7 @@ first_entries q words n (suc k) = first_entries q words n k + part_given q (entr
 entries_give : (q : ℕ) (words : List ℕ) (n k : ℕ) → first_entries q words n k
     ≡ given q (flat_map (place_parts words n) (numbers_below (min (count_of words n) k)))
 entries_give q words n zero = grind arith
-entries_give q words n (suc k) = by_test (nat_lt k (count_of words n)) refl
-    (entries_give q words n k)
+entries_give q words n (suc k) = by_test (nat_lt k _) refl (entries_give q words n k)
   where
     by_test : (b : Bool) → nat_lt k (count_of words n) ≡ b
         → first_entries q words n k
@@ -183,15 +182,9 @@ module _ (q size : ℕ) (words : List ℕ) where
 
   sums : (left : ℕ) (seen : List ℕ) (n : ℕ) → n < size → list_any (λ m. m == n) seen ≡ false
       → Sums left seen n
-  sums zero seen n low new =
-      omega (
-        arith,
-        same_marks q words (λ i. list_any (λ m. m == i) seen || false)
-            (λ i. list_any (λ m. m == i) seen) size (λ i. or-false (list_any (λ m. m == i) seen)),
-        ends_give q,
-      )
-  sums (suc left) seen n low new = step left seen n low new (sums left) (right_of words n == 0)
-      (nat_le size (right_of words n) || list_any (λ m. m == right_of words n) (n ∷ seen)) refl
+  sums zero seen n low new = search (same_marks, ends_give, arith)
+  sums (suc left) seen n low new = step left _ n low new (sums left) (right_of words n == 0)
+      (nat_le size (right_of _ n) || list_any (λ m. m == right_of words n) (n ∷ seen)) refl
 
   -- the marks of the chain's nodes, with its end, are what the chain gives
   chain_gives : 0 < size → marked_sum q words (is_on_chain size words) size + part_given q
@@ -201,29 +194,11 @@ module _ (q size : ℕ) (words : List ℕ) where
 
   at_node : (n j : ℕ) → j < 4 → n < size → part_given q (tree_pair size words (4 * n + j))
       ≡ cond (is_on_chain size words n) (part_given q (entry_pair words n j)) 0
-  at_node n j low inside =
-      let part : (4 * n + j) / 4 ≡ n = omega arith in
-      let place : (4 * n + j) % 4 ≡ j = omega arith in
-      ap (λ (b : Bool). part_given q (cond {A = ℕ × ℕ} b (end_pair (is_broken size words))
-      (cond {A = ℕ × ℕ} (is_on_chain size words ((4 * n + j) / 4))
-      (entry_pair words ((4 * n + j) / 4) ((4 * n + j) % 4)) (0, 0))))
-      (isnt_same (4 * n + j) (4 * size) (λ e. absurd (omega (arith, e, low, inside))))
-      ∙ ap (λ (k : ℕ). part_given q
-      (cond {A = ℕ × ℕ} (is_on_chain size words k) (entry_pair words k ((4 * n + j) % 4)) (0, 0)))
-      part
-      ∙ ap (λ (k : ℕ). part_given q
-      (cond {A = ℕ × ℕ} (is_on_chain size words n) (entry_pair words n k) (0, 0))) place
-      ∙ by_mark (is_on_chain size words n)
-    where
-      by_mark : (b : Bool) → part_given q (cond {A = ℕ × ℕ} b (entry_pair words n j) (0, 0))
-          ≡ cond b (part_given q (entry_pair words n j)) 0
-      by_mark true = refl
-      by_mark false = nothing_given q 0
+  at_node n j low inside = search (isnt_same, nothing_given, arith)
 
   four_of : (b : Bool) (w x y z t : ℕ) → 0 + w + x + y + z ≡ t → cond b w 0 + cond b x 0
       + cond b y 0 + cond b z 0 ≡ cond b t 0
-  four_of true w x y z t e = omega arith
-  four_of false w x y z t e = refl
+  four_of b w x y z t e = search arith
 
   nodes_give : (n : ℕ) → n ≤ size → given q (map (tree_pair size words) (numbers_below (4 * n)))
       ≡ marked_sum q words (is_on_chain size words) n
@@ -258,11 +233,4 @@ module _ (q size : ℕ) (words : List ℕ) where
   -- all places of a tree
   pub places_give : 0 < size → given q (map (tree_pair size words) (numbers_below (4 * size + 1)))
       ≡ given q (chain_parts size words)
-  places_give some =
-      omega (
-        arith,
-        given_map_push q (tree_pair size words) (4 * size),
-        nodes_give size (omega arith),
-        ap (part_given q) (tree_pair_end size words),
-        chain_gives some,
-      )
+  places_give some = search (given_map_push, nodes_give, tree_pair_end, chain_gives, arith)

@@ -136,8 +136,7 @@ count_put : (es : List (ℕ × Both)) (k : ℕ) (v : Both) → T (is_sorted nat_
     → apart_in (put nat_cmp k v es) + apart_once (value_of neither es k)
     ≡ apart_in es + apart_once v
 count_put [] k v rising = before_all _ _ _ _ (apart_cons (k, v) []) refl
-count_put (e ∷ es) k v rising =
-    by_cmp (nat_cmp k e.0) refl
+count_put (e ∷ es) k v rising = by_cmp (nat_cmp k e.0) refl
     (count_put es k v (second_of_and (below_all nat_cmp e.0 es) _ rising))
   where
     tied : (o : Ordering) → nat_cmp k e.0 ≡ o → (k == e.0) ≡ is_eq o
@@ -149,16 +148,13 @@ count_put (e ∷ es) k v rising =
         → apart_in (by_order o ((k, v) ∷ e ∷ es) ((e.0, v) ∷ es) (e ∷ put nat_cmp k v es))
         + apart_once (value_of neither (e ∷ es) k) ≡ apart_in (e ∷ es) + apart_once v
     by_cmp Less is rest =
-        let low : k < e.0 = is_greater k e.0 (subst (λ o. T (is_lt o)) (sym is) tt) in
-        before_all _ _ _ _ (apart_cons (k, v) (e ∷ es))
-        (once_cons e es k false (tied Less is)
+        let low : k < e.0 = is_greater k e.0 (rw is tt) in
+        before_all _ _ _ _ (apart_cons (k, v) (e ∷ es)) (once_cons e es k false (tied Less is)
         ∙ once_low e.0 k es (first_of_and _ _ rising) (omega (arith, low)))
-    by_cmp Equal is rest =
-        in_place _ _ _ _ _ _ (apart_cons (e.0, v) es) (apart_cons e es)
+    by_cmp Equal is rest = in_place _ _ _ _ _ _ (apart_cons (e.0, v) es) (apart_cons e es)
         (once_cons e es k true (tied Equal is))
-    by_cmp Greater is rest =
-        further_on _ _ _ _ _ _ _ _ (apart_cons e (put nat_cmp k v es)) (apart_cons e es) rest
-        (once_cons e es k false (tied Greater is))
+    by_cmp Greater is rest = further_on _ _ _ _ _ _ _ _ (apart_cons e (put nat_cmp k v es))
+        (apart_cons e es) rest (once_cons e es k false (tied Greater is))
 
 -- so many differ once a key has other amounts
 count_with : (es : List (ℕ × Both)) (k : ℕ) (v : Both) → T (is_sorted nat_cmp es)
@@ -178,11 +174,7 @@ some_apart es k rising apart =
 -- and where they are none, none differs
 none_apart : (es : List (ℕ × Both)) (q : ℕ) → T (is_sorted nat_cmp es) → apart_in es ≡ 0
     → is_apart (value_of neither es q) ≡ false
-none_apart es q rising none = by_test (is_apart (value_of neither es q)) refl
-  where
-    by_test : (b : Bool) → is_apart (value_of neither es q) ≡ b
-        → is_apart (value_of neither es q) ≡ false
-    by_test b apart = search (apart, some_apart, rising, arith)
+none_apart es q rising none = search (value_of, neither, some_apart, arith)
 
 -- ---- the amounts of a key
 
@@ -193,9 +185,7 @@ shown_is s q = refl
 pub specified_is : (s : Sides) (q : ℕ) → IsEntries is_neither s.table.entries
     → amount_of (specified_of s) q ≡ (value_of neither s.table.entries q).specified
 unfolding specified_of
-specified_is s q formed =
-    amount_of-collected (specified_pairs s.table.entries) q
-    ∙ given_value s.table.entries q formed.rising
+specified_is s q formed = search (amount_of-collected, given_value, arith)
 
 specified_formed : (s : Sides) → IsAmounts (specified_of s)
 unfolding specified_of
@@ -210,10 +200,7 @@ with_same_amount s q a settled same = cc (same_amount (specified_of s) q (specif
 
 module _ (s : Sides) (none : s.table.entries ≡ []) where
   pub fresh_settled : s.apart ≡ 0 → AreSettled s
-  fresh_settled zero = record {
-    formed = subst (IsEntries is_neither) (sym none) (no_entries is_neither);
-    counted = λ low. zero ∙ sym (ap apart_in none);
-  }
+  fresh_settled zero = search (no_entries, arith)
 
   pub fresh_shown : (q : ℕ) → shown_at s q ≡ 0
   fresh_shown q = shown_is s q ∙ ap (λ es. (value_of neither es q).shown) none
@@ -227,13 +214,11 @@ module _ (s : Sides) (none : s.table.entries ≡ []) where
 module _ (s s' : Sides) (q : ℕ) (both : Both) (settled : AreSettled s)
     (is : s'.table.entries ≡ with_value is_neither s.table.entries q both) where
   put_formed : IsEntries is_neither s'.table.entries
-  put_formed = subst (IsEntries is_neither) (sym is)
-      (IsEntries-with_value is_neither s.table.entries q both settled.formed)
+  put_formed = grind (arith, IsEntries-with_value is_neither s.table.entries q both settled.formed)
 
   put_value : (r : ℕ) → value_of neither s'.table.entries r
       ≡ cond (r == q) both (value_of neither s.table.entries r)
-  put_value r = ap (λ es. value_of neither es r) is
-      ∙ value_of-with_value is_neither neither only_neither s.table.entries q both r
+  put_value r = cc (value_of-with_value is_neither neither only_neither s.table.entries q both r)
 
   pub put_settles : (before : Both) → before ≡ value_of neither s.table.entries q
       → ((others : ℕ) → IsCount s.apart (others + apart_once before)
@@ -241,24 +226,16 @@ module _ (s s' : Sides) (q : ℕ) (both : Both) (settled : AreSettled s)
   put_settles before was recounted = record {
     formed = put_formed;
     counted =
-        let others : ℕ = apart_in (without q s.table.entries) in
+        let others : ℕ = apart_in (without q _) in
         let old : apart_in s.table.entries ≡ others + apart_once before =
-        sym (count_without s.table.entries q settled.formed.rising)
-        ∙ ap (λ v. others + apart_once v) (sym was) in
-        let new : apart_in s'.table.entries ≡ others + apart_once both =
-        ap apart_in is ∙ count_with s.table.entries q both settled.formed.rising in
-        subst (IsCount s'.apart) (sym new)
-        (recounted others (subst (IsCount s.apart) old settled.counted));
+        cc (count_without s.table.entries q settled.formed.rising) in
+        let new : apart_in s'.table.entries ≡ others + apart_once both = ap apart_in is
+        ∙ count_with s.table.entries q both settled.formed.rising in
+        subst (IsCount _) (sym new) (recounted _ (subst (IsCount _) old settled.counted));
   }
 
   pub put_shows : (r : ℕ) → shown_at s' r ≡ cond (r == q) both.shown (shown_at s r)
-  put_shows r = shown_is s' r ∙ ap (λ (v : Both). v.shown) (put_value r) ∙ by_key (r == q)
-      ∙ ap (cond (r == q) both.shown) (sym (shown_is s r))
-    where
-      by_key : (b : Bool) → (cond b both (value_of neither s.table.entries r)).shown
-          ≡ cond b both.shown (value_of neither s.table.entries r).shown
-      by_key true = refl
-      by_key false = refl
+  put_shows r = search (shown_is, put_value, value_of, neither, arith)
 
   pub put_specifies : specified_of s' ≡ with_amount (specified_of s) q both.specified
   put_specifies = amounts_are (specified_of s) (specified_of s') q both.specified
@@ -275,8 +252,7 @@ module _ (s s' : Sides) (q : ℕ) (both : Both) (settled : AreSettled s)
 -- a key that differs is counted
 pub before_counted : (s : Sides) (q : ℕ) (before : Both) → AreSettled s
     → before ≡ value_of neither s.table.entries q → is_apart before ≡ true → 0 < s.apart
-before_counted s q before settled was apart =
-    grind (arith, settled, apart, some_apart, below_of, not_below_of)
+before_counted s q before settled was apart = search (some_apart, below_of, not_below_of, arith)
 
 -- ---- where the sides differ
 
@@ -289,28 +265,15 @@ amounts_same v e = grind (arith, same_of)
 module _ (s : Sides) (settled : AreSettled s) where
   agree_at : (q : ℕ) → is_apart (value_of neither s.table.entries q) ≡ false
       → shown_at s q ≡ amount_of (specified_of s) q
-  agree_at q same = shown_is s q ∙ amounts_same (value_of neither s.table.entries q) same
-      ∙ sym (specified_is s q settled.formed)
+  agree_at q same = search (shown_is, amounts_same, value_of, neither, specified_is, arith)
 
   differ_at : (q : ℕ) → is_apart (value_of neither s.table.entries q) ≡ true
       → shown_at s q ≢ amount_of (specified_of s) q
-  differ_at q apart same = amounts_apart (value_of neither s.table.entries q) apart
-      (sym (shown_is s q) ∙ same ∙ specified_is s q settled.formed)
+  differ_at q apart same = search (amounts_apart, value_of, neither, shown_is, specified_is, arith)
 
   pub none_differs : s.apart ≡ 0 → IsLeastApart (shown_at s) (amount_of (specified_of s)) None
-  none_differs zero = λ q. agree_at q
-      (none_apart s.table.entries q settled.formed.rising
-      (sym (settled.counted (omega (arith, zero))) ∙ zero))
+  none_differs zero = search (agree_at, none_apart, arith)
 
   pub first_differs : (o : Option ℕ) → IsFirst neither is_apart s.table.entries o
       → IsLeastApart (shown_at s) (amount_of (specified_of s)) o
-  first_differs None first = λ q. agree_at q (first q)
-  first_differs (Some k) first = (differ_at k first.0, λ q low. agree_at q (below q low))
-    where
-      below : (q : ℕ) → q < k → is_apart (value_of neither s.table.entries q) ≡ false
-      below q low = by_test (is_apart (value_of neither s.table.entries q)) refl
-        where
-          by_test : (b : Bool) → is_apart (value_of neither s.table.entries q) ≡ b
-              → is_apart (value_of neither s.table.entries q) ≡ false
-          by_test true apart = absurd (omega (arith, low, first.1 q apart))
-          by_test false same = same
+  first_differs o first = search (agree_at, differ_at, value_of, neither, arith)

@@ -33,13 +33,7 @@ fresh_sum s none bare q = omega (arith, sum_is s q, none q, bare q)
 -- where the carries stay, the sums are in order if the sides are
 pub sides_settle : (s : Sums) (sides : Sides) → IsSettled s → sided.IsSettled sides
     → IsSettled (record { sides = sides; carries = s.carries })
-sides_settle s sides settled now =
-    let kept = settled_sums s settled in
-    sums_settled (record { sides = sides; carries = s.carries }) (record {
-      sides = now;
-      carries = kept.carries;
-      alone = kept.alone;
-    })
+sides_settle s sides settled now = search (settled_sums, sums_settled, arith)
 
 pub sum_stays : (s : Sums) (sides : Sides) → ((q : ℕ) → shown_at sides q ≡ shown_at s.sides q)
     → (q : ℕ) → sum_at (record { sides = sides; carries = s.carries }) q ≡ sum_at s q
@@ -63,15 +57,7 @@ pub sum_moves : (s : Sums) (sides : Sides) (k less more low : ℕ) → less ≤ 
     → sum_at (record { sides = sides; carries = s.carries }) q
     ≡ cond (q == k) (sum_at s k - less + more) (sum_at s q)
 unfolding sum_at
-sum_moves s sides k less more low enough is now q =
-    ap (λ n. n + 2 ^ 64 * shown_at s.carries q) (now q) ∙ by_key (q == k) refl
-  where
-    by_key : (b : Bool) → (q == k) ≡ b
-        → cond b low (shown_at s.sides q) + 2 ^ 64 * shown_at s.carries q
-        ≡ cond b (shown_at s.sides k + 2 ^ 64 * shown_at s.carries k - less + more)
-        (shown_at s.sides q + 2 ^ 64 * shown_at s.carries q)
-    by_key true e = omega (arith, is, enough, ap (shown_at s.carries) (same_of q k e))
-    by_key false e = refl
+sum_moves s sides k less more low enough is now q = search (shown_at, same_of, arith)
 
 -- and both change
 pub sum_carries : (s : Sums) (sides : Sides) (carries : Sides) (k sum : ℕ)
@@ -79,17 +65,7 @@ pub sum_carries : (s : Sums) (sides : Sides) (carries : Sides) (k sum : ℕ)
     → ((q : ℕ) → shown_at sides q ≡ cond (q == k) (sum % 2 ^ 64) (shown_at s.sides q)) → (q : ℕ)
     → sum_at (record { sides = sides; carries = carries }) q ≡ cond (q == k) sum (sum_at s q)
 unfolding sum_at
-sum_carries s sides carries k sum is now q =
-    ap (λ n. n + 2 ^ 64 * shown_at carries q) (now q)
-    ∙ ap (λ n. cond (q == k) (sum % 2 ^ 64) (shown_at s.sides q) + 2 ^ 64 * n)
-    (is q)
-    ∙ by_key (q == k)
-  where
-    by_key : (b : Bool) → cond b (sum % 2 ^ 64) (shown_at s.sides q)
-        + 2 ^ 64 * cond b (sum / 2 ^ 64) (shown_at s.carries q)
-        ≡ cond b sum (shown_at s.sides q + 2 ^ 64 * shown_at s.carries q)
-    by_key true = omega arith
-    by_key false = refl
+sum_carries s sides carries k sum is now q = search (shown_at, arith)
 
 -- ---- the least key that differs
 
@@ -97,11 +73,7 @@ module _ (s : Sums) (g : ℕ → ℕ) where
   -- where no key has a carry
   pub apart_uncarried : (o : Option ℕ) → ((q : ℕ) → shown_at s.carries q ≡ 0)
       → IsLeastApart (shown_at s.sides) g o → IsLeastApart (sum_at s) g o
-  apart_uncarried None none is = λ q. omega (arith, sum_is s q, none q, is q)
-  apart_uncarried (Some k) none is = (
-    λ same. is.0 (omega (arith, sum_is s k, none k, same)),
-    λ q low. omega (arith, sum_is s q, none q, is.1 q low),
-  )
+  apart_uncarried o none is = search (sum_is, arith)
 
   -- a key with a carry differs from what is below 2^64
   carry_differs : (k : ℕ) → shown_at s.carries k ≢ 0 → g k < 2 ^ 64 → sum_at s k ≢ g k
@@ -110,36 +82,11 @@ module _ (s : Sums) (g : ℕ → ℕ) where
   -- where the least of those with a carry is the only one that differs
   pub apart_carried : (k : ℕ) → IsLeastApart (shown_at s.carries) (λ q. 0) (Some k)
       → g k < 2 ^ 64 → IsLeastApart (shown_at s.sides) g None → IsLeastApart (sum_at s) g (Some k)
-  apart_carried k carried small is = (
-    carry_differs k carried.0 small,
-    λ q low. omega (arith, sum_is s q, carried.1 q low, is q),
-  )
+  apart_carried k carried small is = search (carry_differs, sum_is, arith)
 
   -- and where there are both
   pub apart_either : (m k l : ℕ) → IsLeastApart (shown_at s.sides) g (Some m)
       → IsLeastApart (shown_at s.carries) (λ q. 0) (Some k) → g k < 2 ^ 64 → l ≡ min m k
       → IsLeastApart (sum_at s) g (Some l)
-  apart_either m k l is carried small least = (
-    by_order (nat_le k m) refl,
-    λ q low. omega (
-      arith,
-      sum_is s q,
-      carried.1 q (omega (arith, low, least)),
-      is.1 q (omega (arith, low, least)),
-    ),
-  )
-    where
-      by_order : (b : Bool) → nat_le k m ≡ b → sum_at s l ≢ g l
-      by_order true e =
-          let second : l ≡ k = omega (arith, least, at_most_of k m e) in
-          λ same. carry_differs k carried.0 small
-          (ap (sum_at s) (sym second) ∙ same ∙ ap g second)
-      by_order false e =
-          let below : m < k = above_of k m e in
-          let first : l ≡ m = omega (arith, least, below) in
-          λ same. is.0 (omega (
-            arith,
-            sum_is s m,
-            carried.1 m below,
-            ap (sum_at s) (sym first) ∙ same ∙ ap g first,
-          ))
+  apart_either m k l is carried small least = search
+      (sum_is, sum_at, at_most_of, carry_differs, above_of, arith)

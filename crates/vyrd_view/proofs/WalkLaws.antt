@@ -69,24 +69,11 @@ module _ (size : ℕ) (words : List ℕ) (flags : List Bool) (left n : ℕ)
       → (list_any (λ m. m == q) (n ∷ walk.seen) || list_any (λ m. m == q)
       (nodes_after size words left walk.seen n ends back))
       ≡ list_any (λ m. m == q) (chain_nodes_from size words size [] 0)
-  onward_nodes q =
-      or_swap (list_any (λ m. m == q) walk.seen) (n == q)
-      (list_any (λ m. m == q) (nodes_after size words left walk.seen n ends back))
-      ∙ ap (λ rest. list_any (λ m. m == q) walk.seen || ((n == q) || list_any (λ m. m == q) rest))
-      (sym (ap (λ e. nodes_after size words left walk.seen n e
-      (nat_le size (right_of words n) || list_any (λ m. m == right_of words n) (n ∷ walk.seen)))
-      is_end
-      ∙ ap (nodes_after size words left walk.seen n ends) test_is))
-      ∙ walk.nodes q
+  onward_nodes q = search (or_swap, test_is, arith)
 
   onward_breaks : breaks_after size words left walk.seen n ends back
       ≡ chain_breaks_from size words size [] 0
-  onward_breaks =
-      sym (ap (λ e. breaks_after size words left walk.seen n e
-      (nat_le size (right_of words n) || list_any (λ m. m == right_of words n) (n ∷ walk.seen)))
-      is_end
-      ∙ ap (breaks_after size words left walk.seen n ends) test_is)
-      ∙ walk.breaks
+  onward_breaks = search (test_is, arith)
 
 -- the marks of a walk whose chain has been seen
 seen_all : (size : ℕ) (words : List ℕ) (flags : List Bool) (seen : List ℕ) → length flags ≡ size
@@ -102,9 +89,8 @@ seen_all size words flags seen count marks all n low =
 pub walk_over : (size : ℕ) (words : List ℕ) (flags : List Bool) (n : ℕ) → length flags ≡ size
     → Walks size words flags 0 n
     → (q : ℕ) → q < size → get_or flags q false ≡ is_on_chain size words q
-walk_over size words flags n count walk q low =
-    seen_all size words flags walk.seen count walk.marks
-    (λ k. sym (or-false (list_any (λ m. m == k) walk.seen)) ∙ walk.nodes k) q low
+walk_over size words flags n count walk q low = seen_all _ _ _ walk.seen count walk.marks
+    (λ k. sym (or-false _) ∙ walk.nodes k) q low
 
 pub unbroken_over : (size : ℕ) (words : List ℕ) (flags : List Bool) (n : ℕ)
     → Walks size words flags 0 n → false ≡ is_broken size words
@@ -116,42 +102,35 @@ pub walk_stops : (size : ℕ) (words : List ℕ) (flags : List Bool) (left n : �
     → n < length flags → right_of words n ≡ 0 → (q : ℕ) → q < size
     → get_or (set flags n true) q false ≡ is_on_chain size words q
 walk_stops size words flags left n count walk within ends q low =
-    let is_end = is_same (right_of words n) 0 ends in
+    let is_end = is_same (right_of _ n) 0 ends in
     let back : Bool = get_or (set flags n true) (right_of words n) true in
-    seen_all size words (set flags n true) (n ∷ walk.seen) (length-set flags n true ∙ count)
-    (marked size n flags walk.seen within walk.marks)
-    (λ k. sym (or-false (list_any (λ m. m == k) (n ∷ walk.seen)))
-    ∙ onward_nodes size words flags left n walk true back within is_end refl k) q low
+    seen_all _ _ _ (n ∷ walk.seen) (length-set _ n _ ∙ count) (marked _ n _ _ within walk.marks)
+    (λ k. sym (or-false _) ∙ onward_nodes _ _ flags left n walk true back within is_end refl k) q
+    low
 
 pub unbroken_stops : (size : ℕ) (words : List ℕ) (flags : List Bool) (left n : ℕ)
     → Walks size words flags (suc left) n
     → n < length flags → right_of words n ≡ 0 → false ≡ is_broken size words
 unfolding is_broken
-unbroken_stops size words flags left n walk within ends =
-    onward_breaks size words flags left n walk true
-    (get_or (set flags n true) (right_of words n) true) within (is_same (right_of words n) 0 ends)
-    refl
+unbroken_stops size words flags left n walk within ends = search (onward_breaks, is_same, arith)
 
 pub walk_breaks_off : (size : ℕ) (words : List ℕ) (flags : List Bool) (left n : ℕ) → length flags
     ≡ size → Walks size words flags (suc left) n
     → n < length flags → right_of words n ≢ 0 → get_or (set flags n true) (right_of words n) true
     ≡ true
     → (q : ℕ) → q < size → get_or (set flags n true) q false ≡ is_on_chain size words q
-walk_breaks_off size words flags left n count walk within on back q low =
-    seen_all size words (set flags n true) (n ∷ walk.seen) (length-set flags n true ∙ count)
-    (marked size n flags walk.seen within walk.marks)
-    (λ k. sym (or-false (list_any (λ m. m == k) (n ∷ walk.seen)))
-    ∙ onward_nodes size words flags left n walk false true within
-    (isnt_same (right_of words n) 0 on) back k) q low
+walk_breaks_off size words flags left n count walk within on back q low = seen_all _ _ _
+    (n ∷ walk.seen) (length-set _ n _ ∙ count) (marked _ n _ _ within walk.marks)
+    (λ k. sym (or-false _) ∙ onward_nodes _ _ flags left n walk false true within
+    (isnt_same _ 0 on) back k) q low
 
 pub broken_off : (size : ℕ) (words : List ℕ) (flags : List Bool) (left n : ℕ)
     → Walks size words flags (suc left) n
     → n < length flags → right_of words n ≢ 0 → get_or (set flags n true) (right_of words n) true
     ≡ true → true ≡ is_broken size words
 unfolding is_broken
-broken_off size words flags left n walk within on back =
-    onward_breaks size words flags left n walk false true within (isnt_same (right_of words n) 0 on)
-    back
+broken_off size words flags left n walk within on back = onward_breaks size words flags left n walk
+    false true within (isnt_same _ 0 on) back
 
 pub walk_on : (size : ℕ) (words : List ℕ) (flags : List Bool) (left n : ℕ)
     → Walks size words flags (suc left) n

@@ -67,9 +67,7 @@ at_place : (r : Rules) (starting : List StartWord) (front : List Entry) (at : �
     → words_at r.header starting (place_of e (newest_first (take at front)) (drop (at + 1) front))
     ≡ words_then r.header starting front (at + 1)
 unfolding words_at
-at_place r starting front at e here =
-    ap (λ es. words_with r.header starting (effects es (drop (at + 1) front)))
-    (sym (newest_at front at e here))
+at_place r starting front at e here = cc (newest_at front at e here)
 
 none_of : (o : Option ℕ) → option_map View o ≡ None → o ≡ None
 none_of None is = refl
@@ -107,6 +105,5 @@ differs r starting front at e states s t key here commits before after fault =
     let place = place_of e (newest_first (take at front)) (drop (at + 1) front) in
     let view = r.view (words_at r.header starting place) in
     let apart = (first_difference_some view (r.shown t) key
-    (some_of (first_difference view (r.shown t)) key
-    (sym (fault_is r starting states place s t commits before after) ∙ fault))).0 in
-    λ same. apart (ap (λ ws. amount_shown r ws key) (at_place r starting front at e here) ∙ same)
+    (some_of _ _ (sym (fault_is r _ _ _ s t commits before after) ∙ fault))).0 in
+    λ same. apart (cc (at_place r starting front at e here))

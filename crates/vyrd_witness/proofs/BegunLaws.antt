@@ -75,8 +75,7 @@ pub back_quiet : (c : ℕ) (log : List Entry) (i n : ℕ) (e : Entry) → i < le
     → ((reply : ℕ) → e.kind ≡ Return reply → ⊥)
     → LeavesBegun c log (length log - i) → LeavesBegun c log (length log - (i + 1))
 back_quiet c log i n e low place here same calls returns =
-    goes_back c log i n low place (own_before c log n e here same
-    ∙ quiet_with e.kind c (newest_first (take n log)) calls returns)
+    goes_back c _ i n low place (own_before c _ n e here same ∙ quiet_with _ c _ calls returns)
 
 -- at the call, at a return, and with no entry left
 found_back : (c : ℕ) (log : List Entry) (i n : ℕ) (e : Entry) → i < length log

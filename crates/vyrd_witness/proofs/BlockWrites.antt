@@ -36,8 +36,7 @@ back_here log at c n e here = cc (behind_next log n e here)
 looks_back : (log : List Entry) (at c i n : ℕ) (found more own : List Effect) → i < at
     → n ≡ at - 1 - i → back log at c (n + 1) ≡ own ++ back log at c n → more ≡ found ++ own
     → LooksBack log at c found (at - i) → LooksBack log at c more (at - (i + 1))
-looks_back log at c i n found more own low place step push so =
-    grind (arith, append_assoc found own (back log at c n))
+looks_back log at c i n found more own low place step push so = search (append_assoc, arith)
 
 pub back_write : (log : List Entry) (at c i n word value : ℕ) (e : Entry)
     (found more : List Effect) → i < at → n ≡ at - 1 - i → slice_get log n ≡ Some e
@@ -167,8 +166,7 @@ ahead_done log at c n e found here same ends =
     by_kind e0 = search arith
 
 none_of : {A B : Type 0} (f : A → B) (o : Option A) → option_map f o ≡ None → o ≡ None
-none_of f None is = refl
-none_of f (Some x) is = cc
+none_of f o is = search arith
 
 pub ahead_returns : (log : List Entry) (at c n reply : ℕ) (e : Entry) (old found : List Effect)
     → slice_get log n ≡ Some e → e.caller ≡ c → e.kind ≡ Return reply

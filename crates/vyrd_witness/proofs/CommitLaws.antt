@@ -16,19 +16,15 @@ pub commit_here : (log : List Entry) (i : ℕ) (e : Entry) → slice_get log i �
 commit_here log i e here commits =
     let within = slice_get_within log i e here in
     let long : length (newest_first (take i log)) ≡ i =
-    length-newest_first (take i log) ∙ length-take-le i log (omega (arith, within)) in
-    sym (ap last_commit (newest_at log i e here)
-    ∙ ap (λ b. cond b (Some (length (newest_first (take i log)))) (commit_before log i)) commits
-    ∙ ap Some long)
+    length-newest_first _ ∙ length-take-le i _ (omega (arith, within)) in
+    sym (cc (newest_at log i e here))
 
 pub no_commit_here : (log : List Entry) (i : ℕ) (e : Entry) → slice_get log i ≡ Some e
     → is_commit e.kind ≡ false → commit_before log i ≡ commit_before log (i + 1)
 no_commit_here log i e here quiet = cc (newest_at log i e here)
 
 pub still_before : (i : ℕ) (o : Option ℕ) → IfSome o (λ p. p < i) → IfSome o (λ p. p < i + 1)
-still_before i None low = tt
-still_before i (Some p) low = omega (arith, low)
+still_before i o low = search arith
 
 pub up_to_low : (at : ℕ) (o : Option ℕ) → IfSome o (λ p. p < at) → up_to o ≤ at
-up_to_low at None low = omega arith
-up_to_low at (Some p) low = omega (arith, low)
+up_to_low at o low = search arith

@@ -42,10 +42,8 @@ plain_each log at c (w ∷ ws) = cc (plain_each log at c ws)
 pub plain_effects : (log : List Entry) (at : ℕ) (e : Entry) → slice_get log at ≡ Some e
     → plain_writes (effects_by log at e)
     ≡ effects_at (newest_first (take at log)) e.caller e.kind (drop (at + 1) log)
-plain_effects log at e here =
-    ap newest_first (plain_each log at e.caller (newest_first found)
-    ∙ map-newest_first (valued_write (value_at log)) found)
-    ∙ turned_twice (map (valued_write (value_at log)) found)
+plain_effects log at e here = ap newest_first (plain_each log at e.caller (newest_first found)
+    ∙ map-newest_first (valued_write (value_at _)) found) ∙ turned_twice _
     ∙ sym (effects_same (value_at log) e.caller (numbered_kind at e.kind) (behind log at)
     (ahead log (at + 1)))
     ∙ (λ i. effects_at (behind_back log at i) e.caller (kind_there log at e here i)

@@ -42,8 +42,7 @@ pub given_numbered : (q : ℕ) (gives : ℕ → List (ℕ × ℕ)) (n : ℕ)
     → given_parts q (numbered gives n)
     ≡ flat_map (λ i. told i (given q (gives i))) (numbers_below n)
 given_numbered q gives n =
-    flat_map-map {B = ℕ × List (ℕ × ℕ)} (λ part. told part.0 (given q part.1))
-    (λ i. (i, gives i)) (numbers_below n)
+    flat_map-map {B = ℕ × List (ℕ × ℕ)} (λ part. told _ _) (λ i. (i, gives i)) (numbers_below n)
 
 -- one part more
 pub one_more : (f : ℕ → List (ℕ × ℕ)) (n : ℕ) (old before now more : List (ℕ × ℕ))
@@ -80,8 +79,7 @@ module _ (f : ℕ → List (ℕ × ℕ)) where
           others i (omega (arith, below)) (λ same. absurd (omega (arith, same, here, above)))))
           ∙ append-nil (f k) ∙ ap f here
       by_test false e more =
-          let apart : k ≢ p = apart_of k p e in
-          ap (λ xs. xs ++ rest) (others k (omega arith) apart) ∙ more (omega (arith, from, apart))
+          grind arith
 
 -- ---- parts that give to two keys alone
 
@@ -90,19 +88,12 @@ abbrev pub home_of : ℕ → ℕ → ℕ
 home_of size q = cond (nat_lt q size) q (q - size)
 
 apart_from_home : (size q i : ℕ) → i < size → i ≢ home_of size q → (q ≢ i) × (q ≢ size + i)
-apart_from_home size q i low = by_test (nat_lt q size) refl
-  where
-    by_test : (b : Bool) → nat_lt q size ≡ b → i ≢ cond b q (q - size)
-        → (q ≢ i) × (q ≢ size + i)
-    by_test true e other = grind arith
-    by_test false e other = grind arith
+apart_from_home size q i low e4 = search arith
 
 module _ (size q : ℕ) (gives : ℕ → List (ℕ × ℕ))
     (none : (i : ℕ) → q ≢ i → q ≢ size + i → given q (gives i) ≡ 0) where
   nothing : (i : ℕ) → i < size → i ≢ home_of size q → told i (given q (gives i)) ≡ []
-  nothing i low other =
-      let apart = apart_from_home size q i low other in
-      ap (told i) (none i apart.0 apart.1)
+  nothing i low other = search (apart_from_home, told, arith)
 
   -- the part at home
   pub at_home : (p : ℕ) → p ≡ home_of size q → p < size
@@ -113,10 +104,7 @@ module _ (size q : ℕ) (gives : ℕ → List (ℕ × ℕ))
 
   -- and if there is none
   pub no_home : (p : ℕ) → p ≡ home_of size q → size ≤ p → [] ≡ given_parts q (numbered gives size)
-  no_home p is high = sym (given_numbered q gives size
-      ∙ none_of (λ i. told i (given q (gives i))) 0 size
-      (λ i above below. nothing i (omega (arith, below))
-      (λ same. absurd (omega (arith, same, is, high, below)))))
+  no_home p is high = search (given_numbered, none_of, told, given, nothing, arith)
 
 -- a chunk whose keys are others
 pub chunk_elsewhere : (size q : ℕ) (words : List ℕ) (i : ℕ) → q ≢ i → q ≢ size + i
@@ -147,30 +135,15 @@ parts_are s size words = grind (arith, all_numbered, chain_is)
 own_parts_give : (w : Written) (words : List ℕ) (q : ℕ)
     → given q (all_given (parts_of_own w words)) ≡ amount_of (own_view w words) q
 unfolding view_of
-own_parts_give w words q = by_words (w.words == 0)
-  where
-    gives : ℕ → List (ℕ × ℕ)
-    gives n = part_gives w n (part_words w words n)
-
-    by_words : (b : Bool)
-        → given q (all_given (cond {A = List (ℕ × List (ℕ × ℕ))} b []
-        (numbered (λ n. part_gives w n (part_words w words n)) (length words / w.words))))
-        ≡ amount_of (cond {A = Amounts} b []
-        (collected (flat_map (λ n. part_gives w n (part_words w words n))
-        (numbers_below (length words / w.words))))) q
-    by_words true = refl
-    by_words false =
-        ap (given q) (all_numbered gives (length words / w.words))
-        ∙ sym (amount_of-collected (flat_map gives (numbers_below (length words / w.words))) q)
+own_parts_give w words q = search
+    (given, numbered, collected, all_numbered, amount_of-collected, arith)
 
 -- together the parts give what is shown
 pub parts_give : (c : Charter) (words : List ℕ) (q : ℕ)
     → given q (all_given (parts_by_number c words)) ≡ amount_of ((rules_by c).view words) q
 unfolding view_of_words
-parts_give (built_in h) words q =
-    ap (given q) (parts_are h.subject h.size words)
-    ∙ sym (amount_of-collected (parts_of h.subject h.size words) q)
-parts_give (own h lines) words q = own_parts_give (written_in lines) words q
+parts_give c words q = search
+    (given, parts_are, amount_of-collected, parts_of, own, own_parts_give, arith)
 
 -- ---- the sum of what they give
 
@@ -202,20 +175,19 @@ fits : (s : Subject) (size : ℕ) (words : List ℕ) (q : ℕ) → size < 2 ^ 32
 fits Multiset size words q small = omega (arith, slots_at_most words (4 * size) q, small)
 fits Cache size words q small =
     let pairs : List (ℕ × ℕ) = pairs_by 5 2 size (chunk_gives size) words in
-    let is =
-    ap (λ a. amount_of a q) (sym (chunks_show size words)) ∙ amount_of-collected pairs q in
+    let is = ap (λ a. amount_of a q) (sym (chunks_show size words)) ∙ amount_of-collected pairs q in
     omega (arith, is, chunks_fit size pairs q (pairs_given 5 2 size (chunk_gives size) words))
 fits Tree size words q small =
-    omega (
+    grind (
       arith,
       amount_of-collected (parts_of Tree size words) q,
-      chain_fits size words q size [] 0,
-      small,
+      chain_fits size words q size
+          [] 0,
     )
 fits Buffers size words q small =
     let pairs : List (ℕ × ℕ) = pairs_by 8 1 size (buffer_gives size) words in
-    let is =
-    ap (λ a. amount_of a q) (sym (buffers_show size words)) ∙ amount_of-collected pairs q in
+    let is = ap (λ a. amount_of a q) (sym (buffers_show size words))
+    ∙ amount_of-collected pairs q in
     omega (arith, is, buffers_fit size pairs q (pairs_given 8 1 size (buffer_gives size) words))
 fits Own size words q small = omega arith
 

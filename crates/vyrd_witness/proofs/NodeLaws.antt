@@ -37,8 +37,7 @@ chain_is size words (suc left) seen n =
 
 -- a node gives little
 pub node_low : (words : List ℕ) (n q : ℕ) → given q (node_parts words n) ≤ 2 ^ 35
-node_low words n q =
-    grind (arith, node_parts-places words n, places_at_most words n (min (count_of words n) 4) q)
+node_low words n q = search (node_parts-places, places_at_most, arith)
 
 -- and so does the chain
 pub chain_fits : (size : ℕ) (words : List ℕ) (q left : ℕ) (seen : List ℕ) (n : ℕ)
@@ -101,12 +100,7 @@ module _ (size : ℕ) (words : List ℕ) (q : ℕ) (old put now : List (ℕ × �
   test_is = sym (now_marked (right_of words n)) ∙ is_back
 
   amount_is : own + link ≡ given q (node_parts words n ++ link_parts size words walk.seen n)
-  amount_is =
-      ap (λ k. k + link) own_is ∙ ap (λ k. given q (node_parts words n) + k) (link_is
-      ∙ sym (ap (λ e. given q (cond {A = List (ℕ × ℕ)} (not e && leads_back size words walk.seen n)
-      damage [])) is_end
-      ∙ ap (λ b. given q (cond {A = List (ℕ × ℕ)} (not ends && b) damage [])) test_is))
-      ∙ sym (given-append q (node_parts words n) (link_parts size words walk.seen n))
+  amount_is = search (given, test_is, given-append, arith)
 
   -- the chain behind the node
   abbrev behind : Bool → Bool → List (ℕ × List (ℕ × ℕ))
@@ -115,15 +109,7 @@ module _ (size : ℕ) (words : List ℕ) (q : ℕ) (old put now : List (ℕ × �
 
   onward : now ++ given_parts q (behind ends back)
       ≡ old ++ given_parts q (chain_from size words size [] 0)
-  onward =
-      let here : List (ℕ × ℕ) =
-      told n (given q (node_parts words n ++ link_parts size words walk.seen n)) in
-      ap (λ xs. xs ++ given_parts q (behind ends back)) (more ∙ ap (λ k. put ++ told n k) amount_is)
-      ∙ append_assoc put here (given_parts q (behind ends back))
-      ∙ ap (λ rest. put ++ (here ++ given_parts q rest))
-      (sym (ap (λ e. behind e (leads_back size words walk.seen n)) is_end
-      ∙ ap (behind ends) test_is))
-      ∙ walk.rest
+  onward = search (told, given, amount_is, append_assoc, test_is, arith)
 
   -- the chain stops there
   pub walk_stops : (ends || back) ≡ true
@@ -139,14 +125,4 @@ module _ (size : ℕ) (words : List ℕ) (q : ℕ) (old put now : List (ℕ × �
   -- and there it goes on
   pub walk_on : (ends || back) ≡ false
       → NodeWalk size words q old now (set flags n true) left (right_of words n)
-  walk_on on = record {
-    seen = n ∷ walk.seen;
-    marks = now_marked;
-    rest = ap (λ rest. now ++ given_parts q rest) (sym (goes ends back on)) ∙ onward;
-  }
-    where
-      goes : (e b : Bool) → (e || b) ≡ false
-          → behind e b ≡ chain_from size words left (n ∷ walk.seen) (right_of words n)
-      goes true b so = cc
-      goes false true so = cc
-      goes false false so = refl
+  walk_on on = search (now_marked, onward, arith)

@@ -97,10 +97,9 @@ from_back : (log : List Entry) (p : ℕ) (es : List Entry) → drop p log ≡ es
     → map (valued (value_at log)) (numbered_from p es) ≡ es
 from_back log p [] is = refl
 from_back log p (e ∷ es) is =
-    let here : slice_get log p ≡ Some e =
-    sym (slice_get-drop log p) ∙ ap (λ xs. slice_get xs 0) is in
-    let kind = kind_back (value_at log) p e.kind (value_here log p e here) in
-    let rest = from_back log (p + 1) es (sym (drop-drop 1 p log) ∙ ap (drop 1) is) in
+    let here : slice_get log p ≡ Some e = cc (slice_get-drop log p) in
+    let kind = kind_back _ p _ (value_here _ p e here) in
+    let rest = from_back log (p + 1) es (sym (drop-drop 1 p _) ∙ ap (drop 1) is) in
     λ i. record { caller = e.caller; kind = kind i } ∷ rest i
 
 pub numbered_back : (log : List Entry) → map (valued (value_at log)) (numbered log) ≡ log

@@ -61,26 +61,8 @@ module _ (q : ℕ) (f g : ℕ → List (ℕ × ℕ)) where
           ≡ given q (flat_map g (numbers_below n)) + given q (f p))
           → given q (flat_map f (numbers_below (n + 1))) + given q (g p)
           ≡ given q (flat_map g (numbers_below (n + 1))) + given q (f p)
-      by_test true e fewer =
-          let here : n ≡ p = same_of n p e in
-          let before = all_alike n (λ i lower. same i (λ at. omega (arith, lower, at, here))) in
-          omega (
-            arith,
-            before,
-            given_flat_push q f n,
-            given_flat_push q g n,
-            ap (λ k. given q (f k)) here,
-            ap (λ k. given q (g k)) here,
-          )
-      by_test false e fewer =
-          let other : n ≢ p = apart_of n p e in
-          omega (
-            arith,
-            fewer (omega (arith, low, other)),
-            same n other,
-            given_flat_push q f n,
-            given_flat_push q g n,
-          )
+      by_test true e fewer = search (same_of, all_alike, given_flat_push, given, arith)
+      by_test false e fewer = search (apart_of, given_flat_push, arith)
 
 -- ---- a multiset
 
@@ -103,9 +85,7 @@ shown_slots : (h : Header) (words : List ℕ) (q : ℕ) → h.subject ≡ Multis
     → amount_shown (rules_of h) words q
     ≡ given q (flat_map (slot_parts words) (numbers_below (4 * h.size)))
 unfolding view_of_words
-shown_slots h words q is =
-    ap (λ s. amount_of (collected (parts_of s h.size words)) q) is
-    ∙ amount_of-collected (flat_map (slot_parts words) (numbers_below (4 * h.size))) q
+shown_slots h words q is = search (collected, parts_of, amount_of-collected, arith)
 
 -- they don't show much
 pub few_shown : (h : Header) (words : List ℕ) (q : ℕ) → h.subject ≡ Multiset
@@ -151,28 +131,20 @@ module _ (width places parts : ℕ) (gives : Gives) (words : List ℕ) (q w v : 
       → ((own : List ℕ) → given q (map (gives (w / width) own) (numbers_below places)) ≡ 0)
       → given q (pairs_by width places parts gives (set words w v))
       ≡ given q (pairs_by width places parts gives words)
-  passed count none =
-      places_give width places gives (set words w v) q (by_part (set words w v)) (λ p. refl) parts
-      ∙ all_alike q (by_part (set words w v)) (by_part words) parts
+  passed count none = places_give width places gives (set words w v) q (by_part (set words w v))
+      (λ p. refl) parts ∙ all_alike q (by_part (set words w v)) (by_part words) parts
       (λ i low. by_test i low (i == w / width) refl)
       ∙ sym (places_give width places gives words q (by_part words) (λ p. refl) parts)
     where
-      nothing : (i : ℕ) (all : List ℕ) → i ≡ w / width → given q (by_part all i) ≡ 0
-      nothing i all at =
-          ap (λ k. given q (map (gives k (words_of width i all)) (numbers_below places))) at
-          ∙ none (words_of width i all)
-
       by_test : (i : ℕ) → i < parts → (b : Bool) → (i == w / width) ≡ b
           → given q (by_part (set words w v) i) ≡ given q (by_part words i)
-      by_test i low true e =
-          let at = same_of i (w / width) e in
-          nothing i (set words w v) at ∙ sym (nothing i words at)
+      by_test i low true e = grind arith
       by_test i low false e =
           let other : i ≢ w / width = apart_of i (w / width) e in
           let untouched = isnt_same (w / width) i (λ same. other (sym same)) in
           ap (λ own. given q (map (gives i own) (numbers_below places)))
           (own_untouched width i parts words (set words w v) (w ∷ []) low count
-          (length-set words w v ∙ count) agree (ap (λ b. b || false) untouched))
+          (length-set words w v ∙ count) agree (cc))
 
 -- a chunk whose keys are others
 chunk_gives_none : (size p q : ℕ) (own : List ℕ) → q ≢ p → q ≢ size + p
@@ -190,9 +162,7 @@ module _ (h : Header) (words : List ℕ) (q w was : ℕ) where
       → ((all : List ℕ) → collected (pairs all) ≡ collected (parts_of subject h.size all))
       → (all : List ℕ) → amount_shown (rules_of h) all q ≡ given q (pairs all)
   unfolding view_of_words
-  shown_by subject pairs is show all =
-      ap (λ s. amount_of (collected (parts_of s h.size all)) q) is
-      ∙ ap (λ amounts. amount_of amounts q) (sym (show all)) ∙ amount_of-collected (pairs all) q
+  shown_by subject pairs is show all = search (collected, parts_of, amount_of-collected, arith)
 
   -- a word of a chunk whose keys are others
   pub chunk_passed : (before : ℕ) → h.subject ≡ Cache → length words ≡ plain_words h
@@ -201,14 +171,12 @@ module _ (h : Header) (words : List ℕ) (q w was : ℕ) where
       → before ≡ amount_shown (rules_of h) words q
   chunk_passed before is count shown apart =
       let all = count ∙ ap (λ s. plain_words_of s h.size) is in
-      let pairs : List ℕ → List (ℕ × ℕ) = pairs_by 5 2 h.size (chunk_gives h.size) in
-      let show = shown_by Cache pairs is (chunks_show h.size) in
+      let pairs : List ℕ → List (ℕ × ℕ) = pairs_by 5 2 h.size (chunk_gives _) in
+      let show = shown_by Cache pairs is (chunks_show _) in
       let both = neither_true (q == w / 5) (q == h.size + w / 5) apart in
-      shown ∙ show (set words w was)
-      ∙ passed 5 2 h.size (chunk_gives h.size) words q w was (omega (arith, all))
-      (λ own. chunk_gives_none h.size (w / 5) q own (apart_of q (w / 5) both.0)
-      (apart_of q (h.size + w / 5) both.1))
-      ∙ sym (show words)
+      shown ∙ show _ ∙ passed 5 2 h.size (chunk_gives _) words q w was (omega (arith, all))
+      (λ own. chunk_gives_none h.size _ q own (apart_of q _ both.0) (apart_of q _ both.1))
+      ∙ sym (show _)
 
   -- and one of a buffer
   pub buffer_passed : (before : ℕ) → h.subject ≡ Buffers → length words ≡ plain_words h
@@ -217,11 +185,9 @@ module _ (h : Header) (words : List ℕ) (q w was : ℕ) where
       → before ≡ amount_shown (rules_of h) words q
   buffer_passed before is count shown apart =
       let all = count ∙ ap (λ s. plain_words_of s h.size) is in
-      let pairs : List ℕ → List (ℕ × ℕ) = pairs_by 8 1 h.size (buffer_gives h.size) in
-      let show = shown_by Buffers pairs is (buffers_show h.size) in
+      let pairs : List ℕ → List (ℕ × ℕ) = pairs_by 8 1 h.size (buffer_gives _) in
+      let show = shown_by Buffers pairs is (buffers_show _) in
       let both = neither_true (q == w / 8) (q == h.size + w / 8) apart in
-      shown ∙ show (set words w was)
-      ∙ passed 8 1 h.size (buffer_gives h.size) words q w was (omega (arith, all))
-      (λ own. buffer_gives_none h.size (w / 8) q own (apart_of q (w / 8) both.0)
-      (apart_of q (h.size + w / 8) both.1))
-      ∙ sym (show words)
+      shown ∙ show _ ∙ passed 8 1 h.size (buffer_gives _) words q w was (omega (arith, all))
+      (λ own. buffer_gives_none h.size (w / 8) q own (apart_of q _ both.0) (apart_of q _ both.1))
+      ∙ sym (show _)

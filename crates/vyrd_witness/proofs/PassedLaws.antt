@@ -40,9 +40,8 @@ commit_step n own kind since last so done = grind arith
 last_commit : (c : ℕ) (earlier : List Entry) → committed_since_open c earlier ≡ true
     → is_some (last_of c is_lone_commit earlier) ≡ true
 last_commit c [] done = cc
-last_commit c (e ∷ earlier) done = commit_step (length earlier) (e.caller == c) e.kind
-    (first_answer (by_caller c commit_or_open) earlier) (last_of c is_lone_commit earlier)
-    (last_commit c earlier) done
+last_commit c (e ∷ earlier) done = commit_step (length _) (e.caller == c) e.kind
+    (first_answer (by_caller c _) earlier) (last_of c _ _) (last_commit c earlier) done
 
 -- it stands among the entries
 last_low : (c : ℕ) (is : Kind → Bool) (earlier : List Entry) (k : ℕ)
@@ -63,8 +62,7 @@ or_swapped : (a b : Bool) → (a || b) ≡ (b || a)
 or_swapped a b = grind arith
 
 or_no : (a : Bool) → (a || false) ≡ a
-or_no true = refl
-or_no false = refl
+or_no a = search arith
 
 any_turned : {A : Type 0} (test : A → Bool) (xs : List A)
     → list_any test (newest_first xs) ≡ list_any test xs
@@ -75,12 +73,10 @@ any_turned test (x ∷ xs) = ap (list_any test) (turned-append (x ∷ []) xs)
     ∙ (λ i. or_no (test x) i || any_turned test xs i)
 
 and_yes : (a : Bool) → (a && true) ≡ a
-and_yes true = refl
-and_yes false = refl
+and_yes a = search arith
 
 and_no : (a : Bool) → (a && false) ≡ false
-and_no true = refl
-and_no false = refl
+and_no a = search arith
 
 -- the effects by one entry, of another caller and of the caller itself
 of_other : (log : List Entry) (at c d w : ℕ) (ws : List (ℕ × ℕ)) → (d == c) ≡ false
@@ -141,8 +137,8 @@ since_next : (log : List Entry) (c w k n : ℕ) (e : Entry) → slice_get log n 
     → any_along log c w (k + 1) (n + 1) ≡ given_since log c w (n + 1)
 since_next log c w k n e here so found =
     cc (
-      by_test (e.caller == c) (is_lone_commit e.kind) refl (sym (ap (last_of c is_lone_commit)
-          (newest_at log n e here)) ∙ found),
+      by_test (e.caller == c) (is_lone_commit e.kind) refl
+          (sym (ap (last_of c is_lone_commit) (newest_at log n e here)) ∙ found),
       newest_at log n e here,
     )
   where
@@ -176,9 +172,8 @@ since_next log c w k n e here so found =
     by_test true false own last = more_along log c w (k + 1) n (order last)
         ∙ (λ i. before last i || here_own log n c w e here own i) ∙ or_no (gives w others)
     by_test false lone other last = more_along log c w (k + 1) n (order last)
-        ∙ (λ i. before last i || here_other log n c w e here other i)
-        ∙ or_swapped (gives w others) (gives w here_writes)
-        ∙ sym (list_any-append (λ write. write.0 == w) here_writes others)
+        ∙ (λ i. before last i || here_other log n c w e here other i) ∙ or_swapped (gives w others)
+        (gives w here_writes) ∙ sym (list_any-append (λ write. write.0 == w) here_writes others)
 
 same_since : (log : List Entry) (c w k n : ℕ) → n ≤ length log → commit_then log c n ≡ Some k
     → any_along log c w (k + 1) n ≡ given_since log c w n
@@ -186,10 +181,9 @@ same_since log c w k zero within found = cc
 same_since log c w k (suc n) within found =
     let there = entry_there log n (omega (arith, within)) in
     let one : n + 1 ≡ suc n = omega arith in
-    ap (any_along log c w (k + 1)) (sym one)
-    ∙ since_next log c w k n there.0 there.1 (same_since log c w k n (omega (arith, within)))
-    (ap (commit_then log c) one ∙ found)
-    ∙ ap (given_since log c w) one
+    ap (any_along _ c w _) (sym one) ∙ since_next _ c w k n there.0 there.1
+    (same_since log c w k n (omega (arith, within))) (ap (commit_then _ c) one ∙ found)
+    ∙ ap (given_since _ c w) one
 
 -- there is no item exactly where no effect is such a one
 none_kept : {A B : Type 0} (f : A → B) (test : A → Bool) (xs : List A)

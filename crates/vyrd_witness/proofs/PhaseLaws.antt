@@ -43,22 +43,17 @@ pub phase_own : (c : ℕ) (kind : Kind) (earlier : List Entry)
     → phase_of c (entry c kind ∷ earlier) ≡ phase_after kind (phase_of c earlier)
 phase_own c (Call method args) earlier =
     let kind = Call method args in
-    own_parts c kind earlier (phase_of c earlier) (own_block c kind earlier)
-    (own_inner c kind earlier)
+    own_parts c kind earlier _ (own_block c kind earlier) (own_inner c kind earlier)
 phase_own c (Return reply) earlier =
     let kind = Return reply in
-    own_parts c kind earlier (phase_of c earlier) (own_block c kind earlier)
-    (own_inner c kind earlier)
+    own_parts c kind earlier _ (own_block c kind earlier) (own_inner c kind earlier)
 phase_own c (Write word value) earlier =
     let kind = Write word value in
-    own_parts c kind earlier (phase_of c earlier) (own_block c kind earlier)
-    (own_inner c kind earlier)
-phase_own c Commit earlier =
-    own_parts c Commit earlier (phase_after Commit (phase_of c earlier))
-    (own_block c Commit earlier) (own_inner c Commit earlier ∙ and_yes (has_block c earlier))
-phase_own c BlockOpen earlier =
-    own_parts c BlockOpen earlier (record { in_block = true; has_commit = false })
-    (own_block c BlockOpen earlier) (own_inner c BlockOpen earlier)
+    own_parts c kind earlier _ (own_block c kind earlier) (own_inner c kind earlier)
+phase_own c Commit earlier = own_parts c Commit earlier _ (own_block c Commit earlier)
+    (own_inner c Commit earlier ∙ and_yes _)
+phase_own c BlockOpen earlier = own_parts c BlockOpen earlier _ (own_block c BlockOpen earlier)
+    (own_inner c BlockOpen earlier)
 phase_own c BlockClose earlier = simp (own_parts, own_block, own_inner)
 phase_own c BlockCommit earlier = simp (own_parts, own_block, own_inner)
 

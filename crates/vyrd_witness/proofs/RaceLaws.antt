@@ -39,9 +39,8 @@ write_step w n true BlockCommit since last so done = so done
 last_write : (d w : ℕ) (earlier : List Entry) → wrote d w earlier ≡ true
     → is_some (last_of d (is_write_to w) earlier) ≡ true
 last_write d w [] done = cc
-last_write d w (e ∷ earlier) done = write_step w (length earlier) (e.caller == d) e.kind
-    (first_answer (by_caller d (write_or_open w)) earlier) (last_of d (is_write_to w) earlier)
-    (last_write d w earlier) done
+last_write d w (e ∷ earlier) done = write_step w (length _) (e.caller == d) e.kind
+    (first_answer (by_caller d _) earlier) (last_of d _ _) (last_write d w earlier) done
 
 -- So there is none exactly where the test is false.
 none_if : (other block done : Bool) (last : Option ℕ) → (done ≡ true → is_some last ≡ true)
@@ -66,16 +65,10 @@ none_of_all : {A B : Type 0} (f : A → List B) (test : A → Bool)
     → (xs : List A) → (flat_map f xs ≡ []) ↔ (list_any test xs ≡ false)
 none_of_all f test each [] = (λ e. refl, λ e. refl)
 none_of_all f test each (x ∷ xs) =
-    both_none (f x) (flat_map f xs) (test x) (list_any test xs) (each x)
-    (none_of_all f test each xs)
+    both_none (f x) (flat_map f _) (test x) (list_any test xs) (each x) (none_of_all f test each xs)
 
 pub held_shown : (h : Header) (front : List Entry) (c w : ℕ)
     → (held_items h front c w ≡ []) ↔ (is_held_by_other h c w (newest_first front) ≡ false)
-held_shown h front c w = none_of_all (held_by c w earlier)
-    (λ d. not (d == c) && holds_word d w earlier)
-    (λ d. none_if (not (d == c)) (has_block d earlier) (wrote d w earlier)
-    (last_of d (is_write_to w) earlier) (last_write d w earlier))
-    (numbers_below h.callers)
-  where
-    earlier : List Entry
-    earlier = newest_first front
+held_shown h front c w = none_of_all (held_by c w _) (λ d. not _ && holds_word d w _)
+    (λ d. none_if (not _) (has_block d _) (wrote d w _) (last_of d _ _) (last_write d w _))
+    (numbers_below _)

@@ -43,10 +43,9 @@ pub start_next : (h : Header) (starting : List StartWord) (i : ℕ) (words after
 start_next h starting i words after low before next =
     grind (
       arith,
-      more_start h (get_or starting (length starting - 1 - i) no_start) (drop ((length
-          starting - 1 - i) + 1) starting),
-      drop_more starting (length starting - 1 - i) no_start (omega
-          (arith, low)),
+      more_start h (get_or starting (length starting - 1 - i) no_start)
+          (drop ((length starting - 1 - i) + 1) starting),
+      drop_more starting (length starting - 1 - i) no_start (omega (arith, low)),
     )
 
 -- a word that isn't there
@@ -55,5 +54,4 @@ pub start_passed : (h : Header) (starting : List StartWord) (i : ℕ) (words : L
     → length words ≤ (get_or starting (length starting - 1 - i) no_start).word
     → words ≡ words_at_start h (drop (length starting - (i + 1)) starting)
 start_passed h starting i words low before past =
-    let s = get_or starting (length starting - 1 - i) no_start in
-    start_next h starting i words words low before (sym (set_past words s.word s.value past))
+    start_next h _ i words _ low before (sym (set_past _ _ _ past))

@@ -108,14 +108,13 @@ pub ahead_same : (f : ℕ → ℕ) (c : ℕ) (es : List Entry)
 ahead_same f c [] = refl
 ahead_same f c (e ∷ es) =
     (λ i. cond (e.caller == c) (ahead_at (valued_kind f e.kind) (ahead_same f c es i))
-    (ahead_same f c es i))
-    ∙ by_test (e.caller == c) (writes_ahead c es)
+    (ahead_same f c es i)) ∙ by_test (e.caller == c) (writes_ahead c _)
   where
     by_test : (b : Bool) (o : Option (List (ℕ × ℕ)))
         → cond b (ahead_at (valued_kind f e.kind) (option_map (map (valued_write f)) o))
         (option_map (map (valued_write f)) o)
         ≡ option_map (map (valued_write f)) (cond b (ahead_at e.kind o) o)
-    by_test true o = ahead_step f e.kind o
+    by_test true o = ahead_step f _ o
     by_test false o = refl
 
 -- the effects at an entry
@@ -139,9 +138,8 @@ commit_same f c earlier later =
 
 end_same : (f : ℕ → ℕ) (c : ℕ) (earlier : List Entry)
     → effects_of_end (map (valued f) earlier) c ≡ map (valued_write f) (effects_of_end earlier c)
-end_same f c earlier =
-    (λ i. cond (inner_commit_same f c earlier i) [] (writes_same f c earlier i))
-    ∙ by_test (has_inner_commit c earlier)
+end_same f c earlier = (λ i. cond (inner_commit_same f c earlier i) [] (writes_same f c earlier i))
+    ∙ by_test (has_inner_commit c _)
   where
     by_test : (b : Bool) → cond b [] (map (valued_write f) (block_writes c earlier))
         ≡ map (valued_write f) (cond b [] (block_writes c earlier))

@@ -89,9 +89,8 @@ ahead_step log c n e o here same rest BlockCommit is = none_left log c
 from_stand : (log : List Entry) (c p : ℕ) (es : List Entry) → drop p log ≡ es
     → StandIfSome log c (writes_ahead c (numbered_from p es))
 from_stand log c p [] is = λ ws some. cc
-from_stand log c p (e ∷ es) is =
-    by_test (e.caller == c) refl
-    (from_stand log c (p + 1) es (sym (drop-drop 1 p log) ∙ ap (drop 1) is))
+from_stand log c p (e ∷ es) is = by_test (e.caller == c) refl
+    (from_stand log c (p + 1) es (sym (drop-drop 1 p _) ∙ ap (drop 1) is))
   where
     o : Option (List (ℕ × ℕ))
     o = writes_ahead c (numbered_from (p + 1) es)
@@ -153,16 +152,15 @@ All-newest_first P xs (y ∷ ys) all more = All-newest_first P (y ∷ xs) ys
 
 pub by_written : (log : List Entry) (at : ℕ) (e : Entry) → slice_get log at ≡ Some e
     → All (IsWritten log) (effects_by log at e)
-by_written log at e here =
-    All-map (IsWritten log) (effect_of log at e.caller) (newest_first found)
-    (All-newest_first (Stands log e.caller) [] found (All-nil (Stands log e.caller))
-    (at_stand log at e.caller e here refl low e.kind refl))
+by_written log at e here = All-map (IsWritten _) _ _
+    (All-newest_first (Stands _ _) [] found (All-nil _)
+    (at_stand log at _ e here refl low e.kind refl))
   where
     found : List (ℕ × ℕ)
     found = effects_at (behind log at) e.caller (numbered_kind at e.kind) (ahead log (at + 1))
 
     low : at ≤ length log
-    low = let within = slice_get_within log at e here in omega (arith, within)
+    low = let within = slice_get_within _ at e here in omega (arith, within)
 
 there_written : (log : List Entry) (at : ℕ) → All (IsWritten log) (effects_there log at)
 there_written log at = grind (arith, by_written)

@@ -27,8 +27,7 @@ pub word_is : (h : Header) (starting : List StartWord) (effects before : List (�
     → x < plain_words h
     → first_answer (given_to x) effects ≡ Some v
     → get_or (words_with h starting (effects ++ before)) x 0 ≡ v
-word_is h starting effects before x v low given =
-    grind (arith, starting, given, word_with, value_append)
+word_is h starting effects before x v low given = search (word_with, value_append, arith)
 
 -- what the changed words, with their values, give a word
 given-written : (words changed : List ℕ) (x : ℕ)
@@ -42,5 +41,4 @@ pub written_alike : (words changed : List ℕ) (effects : List (ℕ × ℕ))
     ≡ Some (get_or words x 0))
     → ((x : ℕ) → list_any (λ y. y == x) changed ≡ false → first_answer (given_to x) effects ≡ None)
     → ActAlike (written words changed) effects
-written_alike words changed effects there beside =
-    grind (arith, changed, there, beside, given-written)
+written_alike words changed effects there beside = search (given-written, arith)

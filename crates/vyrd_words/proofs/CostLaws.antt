@@ -34,8 +34,7 @@ seen_by_other is_open cuts commits n low = grind arith
 
 -- a lone commit holds a commit alone
 new_commit : (is_open : Bool) (commits : ℕ) → held_if is_open (suc commits) (1 + commits) ≤ 2
-new_commit false commits = omega arith
-new_commit true commits = let one : 1 + commits - commits ≡ 1 = omega arith in omega (arith, one)
+new_commit is_open commits = search arith
 
 -- a caller's part of what is held, after an entry of this caller or another
 by_same : (same : Bool) (kind : Kind) (commits n : ℕ) (answer : Option Bool) → n ≤ commits
@@ -205,8 +204,7 @@ paid_closed (Err x) e earlier writes s0 s1 is at low opened count cost = tt
 -- how many words a write has changed
 pub one_changed : (b : Bool) (changed old : List ℕ) (w : ℕ) → changed ≡ cond b old (old ++ w ∷ [])
     → old ≡ [] → length changed ≡ cond b 0 1
-one_changed true changed old w is none = ap length (is ∙ none)
-one_changed false changed old w is none = ap length is ∙ ap (λ xs. length (xs ++ w ∷ [])) none
+one_changed b changed old w is none = search arith
 
 -- and the end of a block
 pub block_changed : (changed old : List ℕ) (kept : List (ℕ × ℕ)) → changed ≡ old ++ words_of kept
@@ -220,8 +218,7 @@ block_changed changed old kept is none = cc (by_list kept)
 -- which words a write has changed, and the end of a block
 pub one_word : (b : Bool) (changed old : List ℕ) (w : ℕ) → changed ≡ cond b old (old ++ w ∷ [])
     → old ≡ [] → changed ≡ cond b [] (w ∷ [])
-one_word true changed old w is none = is ∙ none
-one_word false changed old w is none = is ∙ ap (λ xs. xs ++ w ∷ []) none
+one_word b changed old w is none = search arith
 
 pub block_words : (changed old : List ℕ) (kept : List (ℕ × ℕ)) → changed ≡ old ++ words_of kept
     → old ≡ [] → changed ≡ words_of kept

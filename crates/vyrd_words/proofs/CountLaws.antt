@@ -108,13 +108,11 @@ count_small (byte ∷ bytes) large (suc i) low small =
     ]
 
 get_nothing : (n : ℕ) → get_or [] n (just 0) ≡ just 0
-get_nothing zero = refl
-get_nothing (suc n) = refl
+get_nothing n = search arith
 
 get_first : (n : ℕ) (xs : List (ℕ × List (ℕ × ℕ))) → get_or (drop 1 xs) n (just 0)
     ≡ get_or xs (suc n) (just 0)
-get_first n [] = get_nothing n
-get_first n (x ∷ xs) = refl
+get_first n xs = search (get_nothing, arith)
 
 pub count_apart : (bytes : List ℕ) (large : List (ℕ × List (ℕ × ℕ))) (i : ℕ) → i < length bytes
     → (get_or bytes i 0 == 255) ≡ true
@@ -136,9 +134,8 @@ pub place_below : (bytes : List ℕ) (large : List (ℕ × List (ℕ × ℕ))) (
     → (get_or bytes i 0 == 255) ≡ true → apart_in bytes ≡ length large
     → apart_in (take i bytes) < length large
 place_below bytes large i low apart all =
-    let next : apart_in (drop i bytes) ≡ suc (apart_in (drop (i + 1) bytes)) =
-    ap apart_in (drop_more bytes i 0 low) ∙ apart_more (get_or bytes i 0) (drop (i + 1) bytes)
-    apart in
+    let next : apart_in (drop i bytes) ≡ suc (apart_in (drop (i + 1) bytes)) = ap apart_in
+    (drop_more _ i 0 low) ∙ apart_more (get_or _ i 0) (drop (i + 1) bytes) apart in
     omega (arith, all, next, apart_in-parts i bytes)
 
 -- the commit that was looked up
@@ -150,8 +147,7 @@ pub value_apart : (bytes : List ℕ) (large : List (ℕ × List (ℕ × ℕ))) (
 value_apart bytes large i place value all low apart place_is value_is =
     let within : place < length large =
     omega (arith, place_is, place_below bytes large i low apart all) in
-    get_or_read large place value within value_is (just 0)
-    ∙ ap (λ n. get_or large n (just 0)) place_is ∙ sym (count_apart bytes large i low apart)
+    cc (get_or_read large place value within value_is (just 0), count_apart bytes large i low apart)
 
 -- a count that is kept apart becomes another one
 pub set_apart : (bytes : List ℕ) (large : List (ℕ × List (ℕ × ℕ))) (i : ℕ)
@@ -168,15 +164,13 @@ set_apart (byte ∷ bytes) (l ∷ large) (suc i) count low apart all =
     (elim (byte == 255) as (λ b. cond b (suc (apart_in bytes)) (apart_in bytes) ≡ suc (length large)
     → cond b (get_or
     (set (l ∷ large) (cond b (suc (apart_in (take i bytes))) (apart_in (take i bytes))) count) 0
-    (just 0)
-    ∷ counts_of bytes
+    (just 0) ∷ counts_of bytes
     (drop 1 (set (l ∷ large) (cond b (suc (apart_in (take i bytes))) (apart_in (take i bytes)))
-    count)))
-    (just byte ∷ counts_of bytes
+    count))) (just byte ∷ counts_of bytes
     (set (l ∷ large) (cond b (suc (apart_in (take i bytes))) (apart_in (take i bytes))) count))
     ≡ set (cond b (l ∷ counts_of bytes large) (just byte ∷ counts_of bytes (l ∷ large)))
     (suc i) count) [
-      | true ↦ λ e. ap (λ ks. l ∷ ks)
+      | true ↦ λ e. cc
           (set_apart bytes large i count (omega (arith, low)) apart (omega (arith, e)))
       | false ↦ λ e. cc (set_apart bytes (l ∷ large) i count (omega (arith, low)) apart e)
     ]) all
@@ -213,8 +207,7 @@ set_grown (byte ∷ bytes) (l ∷ large) (suc i) count low small all =
     (insert (l ∷ large) (cond b (suc (apart_in (take i bytes))) (apart_in (take i bytes))) count))
     ≡ set (cond b (l ∷ counts_of bytes large) (just byte ∷ counts_of bytes (l ∷ large)))
     (suc i) count) [
-      | true ↦ λ e. ap (λ ks. l ∷ ks)
-          (set_grown bytes large i count (omega (arith, low)) small (omega (arith, e)))
+      | true ↦ λ e. cc (set_grown bytes large i count (omega (arith, low)) small (omega (arith, e)))
       | false ↦ λ e. cc (set_grown bytes (l ∷ large) i count (omega (arith, low)) small e)
     ]) all
 

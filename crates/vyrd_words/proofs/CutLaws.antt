@@ -55,8 +55,7 @@ length-split_at (k ∷ ks) ws = ap suc (length-split_at ks (drop k.0 ws))
 
 pub length-since_of : (ks : List (ℕ × List (ℕ × ℕ))) (ws : List (ℕ × ℕ)) → length (since_of ks ws)
     ≡ length ks
-length-since_of [] ws = refl
-length-since_of (k ∷ ks) ws = length-split_at ks (drop k.0 ws)
+length-since_of ks ws = search (length-split_at, arith)
 
 pub never_same : (n m : ℕ) → n < m → (m == n) ≡ false
 never_same n m less = flipped n m (lower_isnt n m less)
@@ -94,13 +93,11 @@ cons_rest e = cc
 pub first_next : (words : List ℕ) (ks : List (ℕ × List (ℕ × ℕ))) (ws part : List (ℕ × ℕ))
     (rest : List (List (ℕ × ℕ))) → split_at ks ws ≡ part ∷ rest
     → first_of words ks ws ≡ with_writes words part
-first_next words [] ws part rest is = ap (with_writes words) (cons_first is)
-first_next words (k ∷ ks) ws part rest is = ap (with_writes words) (cons_first is)
+first_next words ks ws part rest is = search (cons_first, arith)
 
 pub since_next : (ks : List (ℕ × List (ℕ × ℕ))) (ws part : List (ℕ × ℕ))
     (rest : List (List (ℕ × ℕ))) → split_at ks ws ≡ part ∷ rest → since_of ks ws ≡ rest
-since_next [] ws part rest is = cons_rest is
-since_next (k ∷ ks) ws part rest is = cons_rest is
+since_next ks ws part rest is = search (cons_rest, arith)
 
 -- further writes after the last commit
 split_more : (ks : List (ℕ × List (ℕ × ℕ))) (ws more : List (ℕ × ℕ)) → total ks ≤ length ws
@@ -109,13 +106,11 @@ split_more [] ws more within = refl
 split_more (k ∷ ks) ws more within =
     let long : k.0 ≤ length ws = omega (arith, within, sum-cons k ks) in
     (λ i. (take-append-le k.0 ws more long i ++ k.1) ∷ split_at ks
-    (drop-append-le k.0 ws more long i))
-    ∙ ap (λ rest. (take k.0 ws ++ k.1) ∷ rest)
+    (drop-append-le k.0 ws more long i)) ∙ ap (λ rest. (take k.0 ws ++ k.1) ∷ rest)
     (split_more ks (drop k.0 ws) more (omega (arith, within, length-drop k.0 ws, sum-cons k ks)))
     ∙ ap (λ b. cond b (((take k.0 ws ++ k.1) ++ more) ∷ split_at ks (drop k.0 ws))
     ((take k.0 ws ++ k.1) ∷ with_part 0 more (split_at ks (drop k.0 ws))))
-    (sym (never_same 0 (length (split_at ks (drop k.0 ws)))
-    (omega (arith, length-split_at ks (drop k.0 ws)))))
+    (sym (never_same 0 _ (omega (arith, length-split_at ks (drop k.0 ws)))))
 
 pub since_more : (ks : List (ℕ × List (ℕ × ℕ))) (ws more : List (ℕ × ℕ)) → total ks ≤ length ws
     → 0 < length ks
@@ -169,8 +164,7 @@ pub first_with_twice : (behind : ℕ) (xs ys : List (ℕ × ℕ)) (first : List 
     (since : List (List (ℕ × ℕ)))
     → first_with behind (xs ++ ys) first since ≡ first_with behind ys
     (first_with behind xs first since) (with_part behind xs since)
-first_with_twice behind xs ys first since =
-    grind (arith, behind, length-with_part, with_writes-append)
+first_with_twice behind xs ys first since = search (length-with_part, with_writes-append, arith)
 
 -- nothing is written
 pub with_part_nothing : (behind : ℕ) (parts : List (List (ℕ × ℕ))) → with_part behind [] parts
@@ -227,13 +221,7 @@ total-late : (ks : List (ℕ × List (ℕ × ℕ))) (i : ℕ) (new : List (ℕ �
 total-late [] i new low = absurd (omega (arith, low))
 total-late (k ∷ ks) zero new low = omega (arith, sum-cons k ks, sum-cons (with_late k new) ks)
 total-late (k ∷ ks) (suc i) new low =
-    omega (
-      arith,
-      sum-cons k ks,
-      sum-cons k (late_at ks i new),
-      total-late ks i new
-          (omega (arith, low)),
-    )
+    cc (sum-cons k ks, sum-cons k (late_at ks i new), total-late ks i new (omega (arith, low)))
 
 late_in_range : (n : ℕ) (ks : List (ℕ × List (ℕ × ℕ))) (i : ℕ) (new : List (ℕ × ℕ))
     → AreInRange n new → All (λ (commit : ℕ × List (ℕ × ℕ)). AreInRange n commit.1) ks
@@ -284,13 +272,7 @@ written_in_range n words (w ∷ changed) all low = (
 pub late_cuts : (h : Header) (words : List ℕ) (ks : List (ℕ × List (ℕ × ℕ))) (i : ℕ)
     (new ws : List (ℕ × ℕ)) (tail : ℕ) → i < length ks → AreInRange (plain_words h) new
     → AreCuts h words ks ws tail → AreCuts h words (late_at ks i new) ws tail
-late_cuts h words ks i new ws tail low fits are = record {
-  all = are.all;
-  values = are.values;
-  in_range = are.in_range;
-  late = late_in_range (plain_words h) ks i new fits are.late;
-  counted = omega (arith, are.counted, total-late ks i new low);
-}
+late_cuts h words ks i new ws tail low fits are = search (late_in_range, total-late, arith)
 
 -- the next write takes effect
 pub caught_up : (words : List ℕ) (old new : List (ℕ × ℕ)) (w v k j : ℕ) → k ≡ suc j → old ≡ (w, v)
@@ -320,13 +302,7 @@ advanced h words k ks writes tail are = record {
 pub written_cuts : (h : Header) (words : List ℕ) (ks : List (ℕ × List (ℕ × ℕ)))
     (writes : List (ℕ × ℕ)) (tail : ℕ) (late : List (ℕ × ℕ)) → AreInRange (plain_words h) late
     → AreCuts h words ks writes tail → AreCuts h (with_writes words late) ks writes tail
-written_cuts h words ks writes tail late fits are = record {
-  all = length-with_writes words late ∙ are.all;
-  values = below_with words (plain_words h) late are.values fits;
-  in_range = are.in_range;
-  late = are.late;
-  counted = are.counted;
-}
+written_cuts h words ks writes tail late fits are = search (length-with_writes, below_with, arith)
 
 -- one more commit waits;
 pub pushed_cuts : (h : Header) (words : List ℕ) (ks : List (ℕ × List (ℕ × ℕ)))
@@ -441,10 +417,9 @@ pub agree_more : (before words changed : List ℕ) (ws : List (ℕ × ℕ))
     → AgreeElsewhere before words changed
     → AgreeElsewhere before (with_writes words ws) (changed ++ map (λ write. write.0) ws)
 agree_more before words changed ws agree = λ x none.
-    let parts = neither_true (list_any (λ y. y == x) changed)
-    (list_any (λ y. y == x) (map (λ write. write.0) ws))
-    (sym (list_any-append (λ y. y == x) changed (map (λ write. write.0) ws)) ∙ none) in
-    unwritten words ws x parts.1 ∙ agree x parts.0
+    let parts = neither_true (list_any (λ y. y == x) changed) (list_any (λ y. y == x) (map _ _))
+    (sym (list_any-append (λ y. y == x) changed (map _ _)) ∙ none) in
+    unwritten _ ws x parts.1 ∙ agree x parts.0
 
 pub within_more : (n : ℕ) (changed : List ℕ) (ws : List (ℕ × ℕ)) → All (λ w. w < n) changed
     → AreInRange n ws
@@ -457,11 +432,7 @@ pub known_more : (h : Header) (words changed : List ℕ) (compared : Known) (ws 
     → AreInRange (plain_words h) ws
     → AreKnown h words changed compared → AreKnown h (with_writes words ws)
     (changed ++ map (λ write. write.0) ws) compared
-known_more h words changed compared ws in_range known = record {
-  count = known.count;
-  within = within_more (plain_words h) changed ws known.within in_range;
-  elsewhere = λ sound. agree_more compared.words words changed ws (known.elsewhere sound);
-}
+known_more h words changed compared ws in_range known = search (within_more, agree_more, arith)
 
 -- no commit waits
 pub none_waits : (ks : List (ℕ × List (ℕ × ℕ))) (writes : List (ℕ × ℕ)) → since_of ks writes ≡ []
@@ -515,10 +486,9 @@ pub at_once_both : (h : Header) (words : List ℕ) (writes : List (ℕ × ℕ)) 
     ((changed ++ map (λ write. write.0) (take tail writes)) ++ w ∷ []) compared
 at_once_both h words writes tail w v changed compared fits low both = (
   at_once h words writes tail w v low both.0,
-  known_more h (with_writes words (take tail writes))
-      (changed ++ map (λ write. write.0) (take tail writes)) compared ((w, v) ∷ []) (fits, low, tt)
-      (known_more h words changed compared (take tail writes)
-      (in_range-take (plain_words h) tail writes both.0.in_range) both.1),
+  known_more h
+      (with_writes words (take tail writes)) _ _ ((w, v) ∷ []) (fits, low, tt)
+      (known_more h words _ _ _ (in_range-take _ _ _ both.0.in_range) both.1),
 )
 
 -- where no commit waits all writes come after the last
@@ -528,8 +498,7 @@ all_tail ks tail n none counted = let e : total ks ≡ 0 = ap total none in omeg
 
 -- what holds whatever the answer
 pub always : {T E P : Type 0} (r : Result T E) → P → OnOk r P
-always (Ok x) p = p
-always (Err x) p = tt
+always r p = search arith
 
 -- the first commit was looked at, and then taken
 pub first_taken : (xs new : List (ℕ × List (ℕ × ℕ))) (n : ℕ) (late : List (ℕ × ℕ))

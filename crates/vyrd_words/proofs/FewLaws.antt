@@ -24,8 +24,7 @@ begun_push (k ∷ ks) t ws counted = refl
 -- the first commit no longer waits
 pub begun_next : (ks : List (ℕ × List (ℕ × ℕ))) (ws part : List (ℕ × ℕ))
     (rest : List (List (ℕ × ℕ))) → split_at ks ws ≡ part ∷ rest → begun_of ks ws ≡ length part
-begun_next [] ws part rest is = ap length (cons_first is)
-begun_next (k ∷ ks) ws part rest is = ap length (cons_first is)
+begun_next ks ws part rest is = search (cons_first, arith)
 
 -- further writes after the last commit
 pub begun_more : (ks : List (ℕ × List (ℕ × ℕ))) (ws more : List (ℕ × ℕ)) → total ks ≤ length ws
@@ -52,8 +51,7 @@ begun_grows behind new begun since = grind arith
 -- none are kept
 pub begun_none : {T E : Type 0} (r : Result T E) (now most : ℕ) → OnOk r (now ≡ 0)
     → OnOk r (now ≤ most)
-begun_none (Ok x) now most none = omega (arith, none)
-begun_none (Err x) now most none = tt
+begun_none r now most none = search arith
 
 -- writes in two steps
 pub begun_twice : (behind : ℕ) (xs ys : List (ℕ × ℕ)) (begun between now : ℕ)
@@ -61,8 +59,7 @@ pub begun_twice : (behind : ℕ) (xs ys : List (ℕ × ℕ)) (begun between now 
     → length then ≡ length since → now ≤ begun_with behind ys between then
     → now ≤ begun_with behind (xs ++ ys) begun since
 begun_twice behind xs ys begun between now since then first long last =
-    by_test (length since == behind) first
-    (rw (← long) last)
+    by_test (length _ == behind) first (rw (← long) last)
   where
     by_test : (b : Bool) → between ≤ cond b (begun + length xs) begun
         → now ≤ cond b (between + length ys) between
@@ -107,7 +104,7 @@ effects_behind : (behind : ℕ) (effects : List (ℕ × ℕ)) (judged left : Lis
     × (with_effects behind effects (judged ++ left) ≡ more ++ with_effects behind effects left)
 effects_behind behind effects [] left = ([], refl)
 effects_behind behind effects (part ∷ judged) left =
-    by_test (length (judged ++ left) == behind) refl (effects_behind behind effects judged left)
+    by_test (length _ == behind) refl (effects_behind behind effects judged left)
   where
     by_test : (b : Bool) → (length (judged ++ left) == behind) ≡ b
         → (more : List (List (ℕ × ℕ)))
@@ -117,11 +114,9 @@ effects_behind behind effects (part ∷ judged) left =
         (part ∷ with_effects behind effects (judged ++ left))
         ≡ more ++ with_effects behind effects left)
     by_test true here rest =
-        let same = same_of (length (judged ++ left)) behind here in
-        let past : length left ≤ behind = omega (arith, same, length-append judged left) in (
-          (effects ++ part) ∷ judged,
-          cc (effects_none behind effects left past),
-        )
+        let same = same_of _ _ here in
+        let past : length left ≤ behind = omega (arith, same, length-append judged left) in
+        ((effects ++ part) ∷ judged, cc (effects_none behind effects left past))
     by_test false apart rest = (part ∷ rest.0, cc (rest.1))
 
 -- further writes in one of the lists
@@ -149,8 +144,7 @@ all_few_more behind writes effects (old ∷ since) (part ∷ parts) few all =
 cut_behind : (cuts : Bool) (judged : List (List (ℕ × ℕ))) (part : List (ℕ × ℕ))
     (further : List (List (ℕ × ℕ)))
     → cut_if cuts (judged ++ part ∷ further) ≡ judged ++ part ∷ cut_if cuts further
-cut_behind false judged part further = refl
-cut_behind true judged part further = append_assoc judged (part ∷ further) ([] ∷ [])
+cut_behind cuts judged part further = search (append_assoc, arith)
 
 all_few_cut : (cuts : Bool) (since parts : List (List (ℕ × ℕ))) → AllFew since parts
     → AllFew (cut_if cuts since) (cut_if cuts parts)
@@ -200,8 +194,7 @@ few_more behind writes effects cuts old new since parts few begun are =
       further = cut_if cuts are.further;
       whole = whole here ∙ cut_behind cuts more.0 (effects ++ are.part) are.further;
       first_few = omega (arith, low, few, are.first_few, length-append effects are.part);
-      since_few = subst (λ s. AllFew (cut_if cuts s) (cut_if cuts are.further))
-          (sym (with_part_none behind writes since (at_most here)))
+      since_few = rw (with_part_none behind writes since (at_most here))
           (all_few_cut cuts since are.further are.since_few);
     }
       where
@@ -241,6 +234,4 @@ pub few_answered : {T E : Type 0} (r : Result T E) (old new : ℕ) (part : List 
     (rest before after parts : List (List (ℕ × ℕ))) → before ≡ part ∷ rest
     → OnOk r (after ≡ rest) → OnOk r (new ≡ length part) → AreFew old before parts
     → OnOk r (AreFew new after parts)
-few_answered (Err x) old new part rest before after parts waits goes is are = tt
-few_answered (Ok x) old new part rest before after parts waits goes is are =
-    search (parts, few_next, waits, arith)
+few_answered r old new part rest before after parts waits goes is are = search (few_next, arith)

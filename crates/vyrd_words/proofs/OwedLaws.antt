@@ -104,8 +104,7 @@ block_few : (kept : ShadowKept) (starting : List StartWord) (inner : List ℕ) (
     (c : ℕ) → HasWords kept inner starting earlier → c < kept.header.callers
     → has_block c earlier ≡ true → length (kept_writes kept c) ≤ cond (has_block c earlier)
     (length (block_writes c earlier)) 0
-block_few kept starting inner earlier c has low inside =
-    grind (arith, kept, starting, length-words_of, first_few)
+block_few kept starting inner earlier c has low inside = search (length-words_of, first_few, arith)
 
 -- the effects are those of the caller's own block
 effects_few : (kept : ShadowKept) (starting : List StartWord) (inner : List ℕ)

@@ -90,8 +90,7 @@ block_priced : (p : ℕ → ℕ) (kept : ShadowKept) (starting : List StartWord)
 block_priced p kept starting inner earlier c has low inside = search (first_priced, arith)
 
 one_price : (p : ℕ → ℕ) (b : Bool) (word : ℕ) → sum_by p (cond b [] (word ∷ [])) ≤ cond b 0 (p word)
-one_price p true word = omega arith
-one_price p false word = omega (arith, sum_by-cons p word [])
+one_price p b word = search arith
 
 -- the effects are those of the caller's own block
 prices_few : (p : ℕ → ℕ) (kept : ShadowKept) (starting : List StartWord) (inner : List ℕ)
@@ -168,10 +167,7 @@ sum_none f [] none = refl
 sum_none f (x ∷ xs) none = cc (sum_by-cons f x xs, none x, sum_none f xs none)
 
 pub owed_none : (callers : ℕ) → owed callers [] ≡ 0
-owed_none callers =
-    let work = sum_none (held []) (numbers_below callers) (λ c. refl) in
-    let back = sum_none (kept_back []) (numbers_below callers) (λ c. refl) in
-    omega (arith, work, back)
+owed_none callers = search (sum_none, held, arith)
 
 pub price_none : (p : ℕ → ℕ) (callers : ℕ) → price_kept p callers [] ≡ 0
 price_none p callers = sum_none (price_back p []) (numbers_below callers) (λ c. refl)

@@ -24,15 +24,13 @@ pub call_followed : (k : ShadowKept) (starting : List StartWord) (earlier : List
     (method : Method) (args : Args)
     → broken_rule k.header earlier (entry c (Call method args)) ≡ None
     → HasFollowed k starting earlier → HasFollowed k starting (entry c (Call method args) ∷ earlier)
-call_followed k starting earlier c method args keeps f = followed_call k starting earlier c method
-    args f keeps
+call_followed k starting earlier c method args keeps f = followed_call k _ _ c _ _ f keeps
 
 pub return_followed : (k : ShadowKept) (starting : List StartWord) (earlier : List Entry)
     (c reply : ℕ)
     → broken_rule k.header earlier (entry c (Return reply)) ≡ None → HasFollowed k starting earlier
     → HasFollowed k starting (entry c (Return reply) ∷ earlier)
-return_followed k starting earlier c reply keeps f = followed_return k starting earlier c reply f
-    keeps
+return_followed k starting earlier c reply keeps f = followed_return k _ _ c _ f keeps
 
 pub commit_followed : (k : ShadowKept) (starting : List StartWord) (earlier : List Entry) (c : ℕ)
     → broken_rule k.header earlier (entry c Commit) ≡ None → HasFollowed k starting earlier

@@ -50,8 +50,7 @@ starts_of h starting follows = starts_fit h None starting follows
 -- those that a log of version 2 may begin with keep both rules
 pub may_follow : (h : Header) (starting : List StartWord) → may_start h starting ≡ true
     → do_follow h None starting ≡ true
-may_follow h [] may = refl
-may_follow h (s ∷ starting) may = second_true (h.version == 2) _ may
+may_follow h starting may = search (second_true, arith)
 
 -- all words that have a starting value are the header's
 pub start_within : (h : Header) (starting : List StartWord) → do_follow h None starting ≡ true
@@ -69,12 +68,10 @@ rising : (h : Header) (last : StartWord) (starting : List StartWord) → last.wo
     → do_follow h (Some last) starting ≡ true → length starting + last.word < plain_words h
 rising h last [] low e = omega (arith, low)
 rising h last (s ∷ starting) low e =
-    let fits = not-true (is_out_of_range h s || nat_le s.word last.word)
-    (first_true _ (do_follow h (Some s) starting) e) in
-    let both = neither_true (is_out_of_range h s) (nat_le s.word last.word) fits in
-    let above : last.word < s.word = above_of s.word last.word both.1 in
-    let rest = rising h s starting (in_range h s both.0).word
-    (second_true (not (is_out_of_range h s || nat_le s.word last.word)) _ e) in
+    let fits = not-true (is_out_of_range h s || nat_le _ _) (first_true _ _ e) in
+    let both = neither_true (is_out_of_range h s) (nat_le _ _) fits in
+    let above : last.word < s.word = above_of _ _ both.1 in
+    let rest = rising h s starting (in_range h s both.0).word (second_true _ _ e) in
     omega (arith, above, rest)
 
 pub start_few : (h : Header) (starting : List StartWord) → do_follow h None starting ≡ true
@@ -113,8 +110,7 @@ elsewhere_zero : (starting : List StartWord) (w : ℕ)
     → value_at_start starting w ≡ 0
 elsewhere_zero [] w other = refl
 elsewhere_zero (s ∷ starting) w other =
-    let both = neither_true (s.word == w) (list_any (λ x. x == w) (map (λ s. s.word) starting))
-    other in
+    let both = neither_true _ (list_any _ (map _ starting)) other in
     cc (both.0, elsewhere_zero starting w both.1)
 
 zero_at : (f : ℕ → ℕ) (k n i : ℕ) → f (k + i) ≡ 0 → get_or (map f (numbers_from k n)) i 0 ≡ 0

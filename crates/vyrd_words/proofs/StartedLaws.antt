@@ -38,10 +38,7 @@ follows_on h o s starting follows = search (second_true, starting, arith)
 
 rises : (h : Header) (last s : StartWord) (starting : List StartWord)
     → do_follow h (Some last) (s ∷ starting) ≡ true → last.word < s.word
-rises h last s starting follows =
-    let fits = not-true (is_out_of_range h s || nat_le s.word last.word)
-    (first_true _ (do_follow h (Some s) starting) follows) in
-    above_of s.word last.word (neither_true (is_out_of_range h s) (nat_le s.word last.word) fits).1
+rises h last s starting follows = search (first_true, above_of, neither_true, arith)
 
 above_all : (h : Header) (last : StartWord) (starting : List StartWord) (i : ℕ) (d : StartWord)
     → do_follow h (Some last) starting ≡ true

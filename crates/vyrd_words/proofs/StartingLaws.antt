@@ -48,8 +48,6 @@ pub told_more : (s : Amounts) (i : ℕ) (d : ℕ × ℕ) → i < length s → Is
 told_more s i d low is =
     let e : ℕ × ℕ = get_or s i d in
     ap (λ b. cond b (filter (λ entry. not (entry.0 == e.0)) (take i s))
-    (put nat_cmp e.0 e.1 (take i s)))
-    (isnt_same e.1 0 (some_at s i d low is.some))
-    ∙ put_last e.0 e.1 (take i s) (drop (suc i) s)
-    (subst (λ es. T (is_sorted nat_cmp es)) (split_here s i d low) is.rising)
+    (put nat_cmp e.0 e.1 (take i s))) (isnt_same e.1 0 (some_at s i d low is.some))
+    ∙ put_last _ _ _ (drop (suc i) s) (rw (← split_here s i d low) is.rising)
     ∙ sym (take_more s i d low)

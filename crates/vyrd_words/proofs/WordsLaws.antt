@@ -161,8 +161,7 @@ changed_low : (n x : ℕ) (changed : List ℕ) → All (λ w. w < n) changed
     → list_any (λ y. y == x) changed ≡ true → x < n
 changed_low n x [] within e = cc
 changed_low n x (w ∷ changed) within e =
-    by_test (λ f. changed_low n x changed (All-tail (λ y. y < n) w changed within) f)
-    (w == x) refl e
+    by_test (λ f. changed_low n x changed (All-tail (λ y. y < n) w _ within) f) (w == x) refl e
   where
     by_test : (list_any (λ y. y == x) changed ≡ true → x < n) → (b : Bool) → (w == x) ≡ b
         → (b || list_any (λ y. y == x) changed) ≡ true → x < n
@@ -195,10 +194,7 @@ block_there : (k l : ShadowKept) (starting : List StartWord) (earlier : List Ent
     → list_any (λ y. y == x) l.changed ≡ true
     → (v : ℕ) × (first_answer (given_to x) (block_writes c earlier) ≡ Some v)
 block_there k l starting earlier c f unchanged low inside changed x some =
-    let given = some_given x (kept_writes k c)
-    (ap (list_any (λ y. y == x))
-    (sym (changed ∙ ap (λ ws. ws ++ words_of (kept_writes k c)) unchanged)) ∙ some) in
-    (given.0, sym (f.values c x low inside) ∙ given.1)
+    search (some_given, words_of, arith)
 
 block_beside : (k l : ShadowKept) (starting : List StartWord) (earlier : List Entry) (c : ℕ)
     → HasFollowed k starting earlier → k.changed ≡ [] → c < k.header.callers
@@ -232,14 +228,7 @@ pub quiet_taken : (k : ShadowKept) (inner : List ℕ) (v : Cuts) (starting : Lis
     → HasWords k inner starting earlier → HasFollowed k starting (entry c kind ∷ earlier)
     → HasTaken k inner v v starting (entry c kind) earlier
 quiet_taken k inner v starting earlier c kind isnt nothing same has f =
-    nothing_taken k inner v v starting earlier c kind nothing
-    (record {
-      followed = f;
-      unchanged = has.unchanged;
-      numbers = numbers_same k.header.callers inner
-          c kind earlier same has.numbers;
-    }) refl
-    (ap (λ b. cut_if b v.since) (sym isnt)) refl
+    search (nothing_taken, numbers_same, arith)
 
 -- a block is opened
 pub open_taken : (k l : ShadowKept) (inner : List ℕ) (v : Cuts) (starting : List StartWord)
@@ -247,9 +236,8 @@ pub open_taken : (k l : ShadowKept) (inner : List ℕ) (v : Cuts) (starting : Li
     → HasFollowed l starting (entry c BlockOpen ∷ earlier) → l.header ≡ k.header → l.changed
     ≡ k.changed → c < length inner
     → HasTaken l (set inner c 0) v v starting (entry c BlockOpen) earlier
-open_taken k l inner v starting earlier c has f header changed low =
-    nothing_taken l (set inner c 0) v v starting earlier c BlockOpen refl
-    (record {
+open_taken k l inner v starting earlier c has f header changed low = nothing_taken l _ v v _ _ c _
+    refl (record {
       followed = f;
       unchanged = changed ∙ has.unchanged;
       numbers = rw header
@@ -264,12 +252,7 @@ pub commit_taken : (k : ShadowKept) (inner : List ℕ) (v w : Cuts) (starting : 
     → w.first ≡ v.first → w.since ≡ v.since ++ [] ∷ [] → w.begun ≡ v.begun
     → HasTaken k (set inner c number) v w starting (entry c Commit) earlier
 commit_taken k inner v w starting earlier c number has f low is first since begun =
-    nothing_taken k (set inner c number) v w starting earlier c Commit refl
-    (record {
-      followed = f;
-      unchanged = has.unchanged;
-      numbers = numbers_set k.header.callers inner c Commit earlier number low is has.numbers;
-    }) first since begun
+    search (nothing_taken, numbers_set, arith)
 
 -- an entry whose effects the views were told
 acts_taken : (l m : ShadowKept) (inner : List ℕ) (v w : Cuts) (starting : List StartWord)
@@ -351,16 +334,13 @@ pub close_taken : (k l m : ShadowKept) (inner : List ℕ) (v w : Cuts) (starting
     → w.begun ≤ begun_with behind (written l.words l.changed) v.begun v.since
     → HasTaken m inner v w starting (entry c BlockClose) earlier
 close_taken k l m inner v w starting earlier c behind has low inside f header within changed is
-    parts first since begun =
-    acts_taken l m inner v w starting earlier c BlockClose f is
+    parts first since begun = acts_taken l m inner v w starting earlier c BlockClose f is
     (numbers_kept k l inner starting earlier c BlockClose (λ commits number. refl) header has)
     (changed_alike l starting earlier c BlockClose f within
     (block_there k l starting earlier c has.followed has.unchanged low inside changed)
-    (block_beside k l starting earlier c has.followed has.unchanged low inside changed))
-    (first ∙ ap (λ n. first_with n (written l.words l.changed) v.first v.since) parts)
-    (since ∙ ap (λ n. with_part n (written l.words l.changed) v.since) parts)
+    (block_beside k l starting earlier c has.followed has.unchanged low inside changed)) (cc) (cc)
     (block_few k l starting earlier c has.followed has.unchanged low inside changed)
-    (subst (λ n. w.begun ≤ begun_with n (written l.words l.changed) v.begun v.since) parts begun)
+    (rw (← parts) begun)
 
 pub block_commit_taken : (k l m : ShadowKept) (inner : List ℕ) (v w u : Cuts)
     (starting : List StartWord)
@@ -375,13 +355,12 @@ pub block_commit_taken : (k l m : ShadowKept) (inner : List ℕ) (v w u : Cuts)
     → u.first ≡ w.first → u.since ≡ w.since ++ [] ∷ [] → u.begun ≡ w.begun
     → HasTaken m inner v u starting (entry c BlockCommit) earlier
 block_commit_taken k l m inner v w u starting earlier c has low inside f header within changed is
-    first since begun same cut begun_same =
-    acts_taken l m inner v u starting earlier c BlockCommit f is
-    (numbers_kept k l inner starting earlier c BlockCommit (λ commits number. refl) header has)
+    first since begun same cut begun_same = acts_taken l m inner v u starting earlier c BlockCommit
+    f is (numbers_kept k l inner starting earlier c BlockCommit (λ commits number. refl) header has)
     (changed_alike l starting earlier c BlockCommit f within
     (block_there k l starting earlier c has.followed has.unchanged low inside changed)
     (block_beside k l starting earlier c has.followed has.unchanged low inside changed))
-    (same ∙ first) (cut ∙ ap (λ ws. ws ++ [] ∷ []) since)
+    (same ∙ first) (cc)
     (block_few k l starting earlier c has.followed has.unchanged low inside changed)
     (omega (arith, begun, begun_same))
 
@@ -396,23 +375,12 @@ pub parts_since_some : (inner : List ℕ) (c number commits : ℕ) (earlier : Li
     → slice_get inner c ≡ Some (inner_number c earlier) → number ≢ 0
     → commits ≡ commit_count earlier
     → (commits - number) + 1 ≡ parts_since (commit_count earlier) (inner_number c earlier)
-parts_since_some inner c number commits earlier here has some counted =
-    by_number number some (omega (arith, low, same)) ∙ (λ i. parts_since (counted i) (same i))
-  where
-    same : number ≡ inner_number c earlier
-    same = same_Some _ _ (sym here ∙ has)
-
-    low : number ≤ commits
-    low = omega (arith, same, counted, number_low c earlier)
-
-    by_number : (n : ℕ) → n ≢ 0 → n ≤ commits → (commits - n) + 1 ≡ parts_since commits n
-    by_number n other few = search (few, arith)
+parts_since_some inner c number commits earlier here has some counted = search (number_low, arith)
 
 -- what is seen of the words, by what is kept
 pub may_opened : {v w : WordsView} {e : Entry} {commits : ℕ} → w ≡ v
     → MayFollow v.shadow v.inner e commits → MayFollow w.shadow w.inner e commits
-may_opened {e = e} {commits = commits} is may =
-    subst (λ (x : WordsView). MayFollow x.shadow x.inner e commits) (sym is) may
+may_opened {e = e} {commits = commits} is may = rw is may
 
 pub has_opened : {v w : WordsView} {starting : List StartWord} {earlier : List Entry} → w ≡ v
     → HasWords v.shadow v.inner starting earlier
@@ -430,26 +398,22 @@ taken_closed {k = k} {inner} {n} {starting} {e} {earlier} is taken = grind arith
 
 -- answers put together
 pub ok_two : {T E P Q S : Type 0} (r : Result T E) → OnOk r P → OnOk r Q → (P → Q → S) → OnOk r S
-ok_two (Ok x) p q f = f p q
-ok_two (Err x) p q f = tt
+ok_two r p q f = search arith
 
 pub ok_three : {T E P Q R S : Type 0} (r : Result T E) → OnOk r P → OnOk r Q → OnOk r R
     → (P → Q → R → S) → OnOk r S
-ok_three (Ok x) p q u f = f p q u
-ok_three (Err x) p q u f = tt
+ok_three r p q u f = search arith
 
 pub ok_four : {T E P Q R S U : Type 0} (r : Result T E) → OnOk r P → OnOk r Q → OnOk r R → OnOk r S
     → (P → Q → R → S → U) → OnOk r U
-ok_four (Ok x) p q u v f = f p q u v
-ok_four (Err x) p q u v f = tt
+ok_four r p q u v f = search arith
 
 -- what was taken in, for the entry by its kind
 pub taken_as : {k : ShadowKept} {inner : List ℕ} {v w : Cuts} {starting : List StartWord}
     {earlier : List Entry} (e : Entry) {kind : Kind} → e.kind ≡ kind
     → HasTaken k inner v w starting (entry e.caller kind) earlier
     → HasTaken k inner v w starting e earlier
-taken_as {k} {inner} {v} {w} {starting} {earlier} e {kind} is taken =
-    subst (λ x. HasTaken k inner v w starting (entry e.caller x) earlier) (sym is) taken
+taken_as e e1 e2 = search arith
 
 pub low_caller : {h : Header} {earlier : List Entry} {e : Entry} → Keeps h earlier e
     → e.caller < h.callers

@@ -38,32 +38,19 @@ pub no_variant : (text : List ℕ) (m n : ℕ) (r t : List ℕ) → m < 2 ^ 64 �
     → text ≡ decimal m ++ 32 ∷ r
     → r ≡ decimal n ++ 32 ∷ t → IsVariantRead t None
     → AreBoundsRead text None
-no_variant text m n r t low small e g none size callers variant s c f =
-    let is = one_before_space m size r (decimal callers ++ 32 ∷ variant_name variant) low
-    (omega arith) (sym e ∙ f) in
-    let more = one_before_space n callers t (variant_name variant) small (omega arith)
-    (sym g ∙ is.1) in
-    none variant more.1
+no_variant text m n r t low small e g none = search (one_before_space, arith)
 
 -- a line that no bounds end
 pub no_bounds : (line r : List ℕ) (found : Subject) (t : List ℕ) → line ≡ codes "work " ++ r
     → r ≡ subject_name found ++ 32 ∷ t → AreBoundsRead t None
     → IsFirstRead line None
-no_bounds line r found t e g none subject size callers variant built s c f =
-    let after = append_cancel_left (codes "work ") r
-    (subject_name subject
-    ++ 32 ∷ (decimal size ++ 32 ∷ (decimal callers ++ 32 ∷ variant_name variant))) (sym e ∙ f) in
-    none size callers variant s c
-    (one_name found subject t (decimal size ++ 32 ∷ (decimal callers ++ 32 ∷ variant_name variant))
-    (sym g ∙ after))
+no_bounds line r found t e g none = search (one_name, arith)
 
 variant_read : (variant : Variant) → variant_called (variant_name variant) ≡ Some variant
-variant_read Correct = refl
-variant_read Broken = refl
+variant_read variant = search arith
 
 plain_variant : (variant : Variant) → is_plain_field (variant_name variant) ≡ true
-plain_variant Correct = refl
-plain_variant Broken = refl
+plain_variant variant = search arith
 
 -- a first line and what it names
 module _ (subject : Subject) (size callers : ℕ) (variant : Variant) (s : size < 2 ^ 64)
@@ -73,23 +60,15 @@ module _ (subject : Subject) (size callers : ℕ) (variant : Variant) (s : size 
 
   plain : list_all is_plain_field (codes "work" ∷ subject_name subject ∷ decimal size
       ∷ decimal callers ∷ variant_name variant ∷ []) ≡ true
-  plain = both_true _ _ refl (both_true _ _ (plain_subject subject)
-      (both_true _ _ (plain_number size s)
-      (both_true _ _ (plain_number callers c) (both_true _ _ (plain_variant variant) refl))))
+  plain = search (both_true, plain_subject, plain_number, plain_variant, arith)
 
   fields : fields_of (work_header_line subject size callers variant) ≡ codes "work"
       ∷ subject_name subject ∷ decimal size ∷ decimal callers ∷ variant_name variant ∷ []
-  fields = split-join 32 (codes "work") (subject_name subject ∷ decimal size ∷ decimal callers
-      ∷ variant_name variant ∷ [])
-      (plain_spaces (codes "work" ∷ subject_name subject ∷ decimal size ∷ decimal callers
-      ∷ variant_name variant ∷ []) plain)
+  fields = search (split-join, plain_spaces, plain, arith)
 
   -- it is one line
   pub first_line_whole : lacks 10 (work_header_line subject size callers variant) ≡ true
-  first_line_whole = lacks-join 10 32 (codes "work")
-      (subject_name subject ∷ decimal size ∷ decimal callers ∷ variant_name variant ∷ []) refl
-      (plain_line_feeds (codes "work" ∷ subject_name subject ∷ decimal size ∷ decimal callers
-      ∷ variant_name variant ∷ []) plain)
+  first_line_whole = search (lacks-join, plain_line_feeds, plain, arith)
 
   -- it is read as the header with its numbers, if there is one
   pub begun_known : is_built_in subject ≡ true
@@ -97,12 +76,7 @@ module _ (subject : Subject) (size callers : ℕ) (variant : Variant) (s : size 
       (header_of 1 subject size callers)
   unfolding begun_in
   begun_known built =
-      let line = work_header_line subject size callers variant in
-      ap (begun_from line) fields
-      ∙ (λ i. begun_if_spelled line (subject_read subject built i) (number_of_decimal size s i)
-      (number_of_decimal callers c i) (variant_read variant i))
-      ∙ ap (λ b. cond b (option_map (begun variant) (header_of 1 subject size callers)) None)
-      (bytes_same line)
+      search (fields, subject_read, number_of_decimal, variant_read, begun, bytes_same, arith)
 
 -- a workload's header and variant are read back from its first line
 pub begun_in-first_line : (h : Header) (variant : Variant) → h.version ≡ 1
@@ -130,32 +104,22 @@ begun_in_sound line w found = from (fields_of line) found
         → option_map (begun variant) (header_if 1 subject size callers b e) ≡ Some w
         → IsBegun line w
     of_header subject size callers variant false e same f = cc
-    of_header subject size callers variant true e same f =
-        let is : begun variant
-        (record { version = 1; subject = subject; size = size; callers = callers; within = e })
-        ≡ w = cc in record {
-          version = ap (λ (x : Workload). x.header.version) (sym is);
-          empty = sym is ∙ ap (λ x. begun x.variant x.header) is;
-          line_is = same
-              ∙ ap (λ x. work_header_line x.header.subject x.header.size x.header.callers x.variant)
-              is;
-        }
+    of_header subject size callers variant true e same f = grind arith
 
     spelled : (subject : Subject) (size callers : ℕ) (variant : Variant) (b : Bool)
         → bytes_eq (work_header_line subject size callers variant) line ≡ b
         → cond b (option_map (begun variant) (header_of 1 subject size callers)) None ≡ Some w
         → IsBegun line w
     spelled subject size callers variant false t f = cc
-    spelled subject size callers variant true t f =
-        of_header subject size callers variant (limits_of subject 1 size callers) refl
+    spelled subject size callers variant true t f = of_header subject size callers variant
+        (limits_of subject 1 size callers) refl
         (sym ((bytes_eq-Decides (work_header_line subject size callers variant) line).0 t)) f
 
     if_spelled : (subject : Option Subject) (size callers : ℕ) (variant : Option Variant)
         → begun_if_spelled line subject size callers variant ≡ Some w → IsBegun line w
     if_spelled None size callers variant f = cc
     if_spelled (Some subject) size callers None f = cc
-    if_spelled (Some subject) size callers (Some variant) f =
-        spelled subject size callers variant
+    if_spelled (Some subject) size callers (Some variant) f = spelled subject size callers variant
         (bytes_eq (work_header_line subject size callers variant) line) refl f
 
     from : (parts : List (List ℕ)) → begun_from line parts ≡ Some w → IsBegun line w
@@ -169,15 +133,14 @@ begun_in_sound line w found = from (fields_of line) found
 
 -- a line that names nothing isn't a first line
 pub no_first : (line : List ℕ) → IsFirstRead line None → None ≡ begun_in line
-no_first line none = by_answer (begun_in line) refl
+no_first line none = by_answer (begun_in _) refl
   where
     by_answer : (o : Option Workload) → begun_in line ≡ o → None ≡ o
     by_answer None e = refl
     by_answer (Some w) e =
-        let is = begun_in_sound line w e in
-        absurd (none w.header.subject w.header.size w.header.callers w.variant
-        (first_version_built_in w.header is.version)
-        (size_in_32_bits w.header) (callers_in_32_bits w.header) is.line_is)
+        let is = begun_in_sound _ w e in
+        absurd (none _ _ _ _ (first_version_built_in w.header is.version) (size_in_32_bits w.header)
+        (callers_in_32_bits w.header) is.line_is)
 
 module _ (line : List ℕ) (subject : Subject) (size callers : ℕ) (variant : Variant)
     (s : size < 2 ^ 32) (c : callers < 2 ^ 32)

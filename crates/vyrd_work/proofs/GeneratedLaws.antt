@@ -68,12 +68,4 @@ count (suc left) i x = ap suc (count left (i + 1) (next_draw x))
 -- a generated workload keeps the limits
 pub generated_keeps : (n : ℕ) → n ≤ most_ops → KeepsLimits (generated n)
 unfolding generated
-generated_keeps n h = record {
-  version = refl;
-  ops = all_fit n 0 n;
-  args = all_small n 0 n;
-  turns = tt;
-  op_count = let e = count n 0 n in omega (arith, e);
-  turn_count = omega arith;
-  turn_sum = omega arith;
-}
+generated_keeps n h = search (all_fit, all_small, count, arith)

@@ -45,16 +45,15 @@ item_in_sound subject line x found = by_guess (guessed_item subject (fields_of l
     checked y false t f = cc
     checked y true t f =
         let same : y ≡ x = cc in
-        let spelled = (bytes_eq-Decides (item_line y) line).0
-        (second_true (is_item_of subject y) _ t) in
-        (sym spelled ∙ ap item_line same, ap (is_item_of subject) (sym same) ∙ first_true _ _ t)
+        let spelled = (bytes_eq-Decides _ _).0 (second_true _ _ t) in
+        (sym spelled ∙ ap item_line same, ap (is_item_of _) (sym same) ∙ first_true _ _ t)
 
     by_guess : (o : Option Item)
         → option_and_then (λ y. cond (is_item_of subject y && bytes_eq (item_line y) line)
         (Some y) None) o ≡ Some x
         → (line ≡ item_line x) × (is_item_of subject x ≡ true)
     by_guess None f = cc
-    by_guess (Some y) f = checked y (is_item_of subject y && bytes_eq (item_line y) line) refl f
+    by_guess (Some y) f = checked y (is_item_of _ y && bytes_eq (item_line y) _) refl f
 
 pub turn_count_fits : (n : ℕ) → nat_le n most_turns ≡ true → n < 2 ^ 32
 turn_count_fits n e = grind (arith, nat_tests)
@@ -82,8 +81,7 @@ module _ (subject : Subject) (o : WorkOp) (is : is_item_of subject (item.Op o) �
   op_padded = second_true (is_named o.op.method subject) _ (first_true _ _ op_rest)
 
   pub op_small : are_small o.op.args ≡ true
-  op_small = second_true
-      (is_named o.op.method subject && are_padded (arity_of o.op.method) o.op.args) _ op_rest
+  op_small = search (second_true, op_rest, arith)
 
   pub op_a : nat_lt o.op.args.a (2 ^ 32) ≡ true
   op_a = first_true _ _ (first_true _ _ op_small)
@@ -96,8 +94,7 @@ module _ (subject : Subject) (o : WorkOp) (is : is_item_of subject (item.Op o) �
 
   -- it can be called in a log
   pub op_call : is_kind_of subject (Call o.op.method o.op.args) ≡ true
-  op_call = both_true _ _
-      (both_true _ _ (both_true _ _ (both_true _ _ op_named op_padded) op_a) op_b) op_c
+  op_call = search (both_true, op_named, op_padded, op_a, op_b, op_c, arith)
 
   op_fields_plain : list_all is_plain_field (item_fields (item.Op o)) ≡ true
   op_fields_plain =
@@ -110,18 +107,13 @@ module _ (subject : Subject) (o : WorkOp) (is : is_item_of subject (item.Op o) �
 turns_fields_plain : (subject : Subject) (t : Turn) → is_item_of subject (item.Turns t) ≡ true
     → list_all is_plain_field (item_fields (item.Turns t)) ≡ true
 turns_fields_plain subject t is =
-    let caller = below_32 t.caller (first_true _ _ is) in
-    let count = few_turns t.count
-    (second_true (nat_le 1 t.count) _ (second_true (nat_lt t.caller (2 ^ 32)) _ is)) in
-    both_true _ _ refl
-    (both_true _ _ (plain_number t.caller caller) (both_true _ _ (plain_number t.count count) refl))
+    search (below_32, first_true, few_turns, second_true, both_true, plain_number, arith)
 
 -- a later line is one line
 pub item_line_whole : (subject : Subject) (x : Item) → is_item_of subject x ≡ true
     → lacks 10 (item_line x) ≡ true
-item_line_whole subject (item.Op o) is = lacks-join 10 32 (codes "op")
-    (decimal o.caller ∷ method_name o.op.method ∷ arg_fields o.op.method o.op.args) refl
-    (plain_line_feeds (item_fields (item.Op o)) (op_fields_plain subject o is))
+item_line_whole subject (item.Op o) is = search
+    (lacks-join, plain_line_feeds, op_fields_plain, arith)
 item_line_whole subject (item.Turns t) is = simp (lacks-join, plain_line_feeds, turns_fields_plain)
 
 -- a guess at a call says what is called
@@ -133,41 +125,29 @@ guess_is o fields method args e = grind arith
 item_guess : (subject : Subject) (x : Item) → is_item_of subject x ≡ true
     → guessed_item subject (item_fields x) ≡ Some x
 item_guess subject (item.Op o) is =
-    let guess = guess_is (method_called subject (method_name o.op.method))
-    (arg_fields o.op.method o.op.args) o.op.method o.op.args
-    (call_guess subject o.op.method o.op.args (op_call subject o is)) in
-    let caller = number_of_decimal o.caller (below_32 o.caller (op_caller subject o is)) in
+    let guess = guess_is (method_called subject (method_name _)) (arg_fields o.op.method o.op.args)
+    o.op.method o.op.args (call_guess subject _ _ (op_call _ o is)) in
+    let caller = number_of_decimal o.caller (below_32 _ (op_caller subject o is)) in
     λ i. option_map
     (λ method. item.Op
     (record { caller = caller i; op = record { method = method; args = guess.1 i } })) (guess.0 i)
 item_guess subject (item.Turns t) is =
-    let caller = number_of_decimal t.caller (below_32 t.caller (first_true _ _ is)) in
-    let count = number_of_decimal t.count
-    (few_turns t.count
-    (second_true (nat_le 1 t.count) _ (second_true (nat_lt t.caller (2 ^ 32)) _ is))) in
-    λ i. Some (item.Turns (record { caller = caller i; count = count i }))
+    search (number_of_decimal, below_32, first_true, few_turns, second_true, arith)
 
 item_line_fields : (subject : Subject) (x : Item) → is_item_of subject x ≡ true
     → fields_of (item_line x) ≡ item_fields x
-item_line_fields subject (item.Op o) is = split-join 32 (codes "op")
-    (decimal o.caller ∷ method_name o.op.method ∷ arg_fields o.op.method o.op.args)
-    (plain_spaces (item_fields (item.Op o)) (op_fields_plain subject o is))
+item_line_fields subject (item.Op o) is = search (split-join, plain_spaces, op_fields_plain, arith)
 item_line_fields subject (item.Turns t) is = simp (split-join, plain_spaces, turns_fields_plain)
 
 -- what a later line says is read back from it
 pub item_in-item_line : (subject : Subject) (x : Item) → is_item_of subject x ≡ true
     → item_in subject (item_line x) ≡ Some x
 unfolding item_in
-item_in-item_line subject x is =
-    ap (option_and_then (λ y. cond (is_item_of subject y && bytes_eq (item_line y) (item_line x))
-    (Some y) None))
-    (ap (guessed_item subject) (item_line_fields subject x is) ∙ item_guess subject x is)
-    ∙ ap (λ b. cond b (Some x) None) (both_true _ _ is (bytes_same (item_line x)))
+item_in-item_line subject x is = grind (arith, item_line_fields, item_guess, both_true, bytes_same)
 
 -- and it isn't `end`
 pub item_line_isnt_end : (x : Item) → bytes_eq (item_line x) end_line ≡ false
-item_line_isnt_end (item.Op o) = refl
-item_line_isnt_end (item.Turns t) = refl
+item_line_isnt_end x = search arith
 
 -- what was found is what the line says
 pub item_is : (subject : Subject) (line : List ℕ) (o : Option Item) → IsItemRead subject line o
@@ -184,12 +164,10 @@ pub no_call : (subject : Subject) (text : List ℕ) (n : ℕ) (r : List ℕ) →
     → text ≡ decimal n ++ 32 ∷ r → IsCallRead subject r None
     → IsItemRead subject (codes "op " ++ text) None
 no_call subject text n r low e none (item.Op o) ok f =
-    let caller : o.caller < 2 ^ 64 = below_32 o.caller (op_caller subject o ok) in
-    let after = append_cancel_left (codes "op ") text
-    (decimal o.caller ++ 32 ∷ call_text o.op.method o.op.args) f in
-    let is = one_before_space n o.caller r (call_text o.op.method o.op.args) low caller
-    (sym e ∙ after) in
-    none o.op.method o.op.args (op_named subject o ok) (op_padded subject o ok)
+    let caller : o.caller < 2 ^ 64 = below_32 _ (op_caller subject o ok) in
+    let after = append_cancel_left (codes "op ") text (decimal _ ++ 32 ∷ call_text _ _) f in
+    let is = one_before_space n o.caller r (call_text _ _) low caller (sym e ∙ after) in
+    none o.op.method o.op.args (op_named _ o ok) (op_padded subject o ok)
     (below_of _ _ (op_a subject o ok)) (below_of _ _ (op_b subject o ok))
     (below_of _ _ (op_c subject o ok)) is.1
 no_call subject text n r low e none (item.Turns t) ok f = grind arith

@@ -34,8 +34,7 @@ use Rattle.vyrd_work.proofs.ItemLaws.{op_named, op_small}
 
 not_broken : (b : Bool) (rule : WorkRule) (rest : Option WorkRule) → cond b (Some rule) rest ≡ None
     → (b ≡ false) × (rest ≡ None)
-not_broken true rule rest e = cc
-not_broken false rule rest e = (refl, e)
+not_broken b rule rest e = search arith
 
 below_callers : (callers caller : ℕ) → nat_le callers caller ≡ false → nat_lt caller callers ≡ true
 below_callers callers caller e = grind (arith, nat_tests)
@@ -63,8 +62,7 @@ module _ (w : Workload) (o : WorkOp) (is : broken_by w (item.Op o) ≡ None) whe
 
   pub op_fits : same_subject (subject_of o.op.method) w.header.subject ≡ true → is_op_of w.header o
       ≡ true
-  op_fits same = both_true _ _ (below_callers w.header.callers o.caller first.0)
-      (both_true _ _ same (not-false _ second.0))
+  op_fits same = search (both_true, below_callers, arith)
 
   pub before_turns : w.turns ≡ []
   before_turns = none_of_them w.turns third.0
@@ -149,16 +147,7 @@ items_more w (item.Turns t) none = search (map-append, append_assoc, arith)
 -- an operation that fits breaks no rule if there is room for it
 pub op_unbroken : (w : Workload) (o : WorkOp) → is_op_of w.header o ≡ true → w.turns ≡ []
     → length w.ops < most_ops → broken_by w (item.Op o) ≡ None
-op_unbroken w o fits before room =
-    let caller = above_then w.header.callers o.caller (first_true _ _ fits) in
-    let args : not (are_args w.header.size o.op.method o.op.args) ≡ false =
-    ap not (second_true (same_subject (subject_of o.op.method) w.header.subject) _
-    (second_true (nat_lt o.caller w.header.callers) _ fits)) in
-    let count = isnt_at_most most_ops (length w.ops) room in
-    λ i. cond (caller i) (Some CallerRange)
-    (cond (args i) (Some ArgumentRange)
-    (cond (nat_lt 0 (length (before i))) (Some OpAfterTurn)
-    (cond (count i) (Some TooManyOps) None)))
+op_unbroken w o fits before room = grind (arith, above_then, first_true, second_true, isnt_at_most)
 
 -- and so do turns
 pub turns_unbroken : (w : Workload) (t : Turn) → is_turn_of w.header t ≡ true
@@ -174,14 +163,7 @@ small_caller callers caller h e = grind (arith, nat_tests)
 pub op_is_item : (h : Header) (o : WorkOp) → is_built_in h.subject ≡ true → is_op_of h o ≡ true
     → are_small o.op.args ≡ true → is_item_of h.subject (item.Op o) ≡ true
 op_is_item h o built fits small =
-    let rest = second_true (nat_lt o.caller h.callers) _ fits in
-    let args : are_args h.size o.op.method o.op.args ≡ true = second_true
-    (same_subject (subject_of o.op.method) h.subject) _ rest in
-    let padded : are_padded (arity_of o.op.method) o.op.args ≡ true = first_true
-    (are_padded (arity_of o.op.method) o.op.args) _ args in
-    let same : same_subject (subject_of o.op.method) h.subject ≡ true = first_true _ _ rest in
-    both_true _ _ (small_caller h.callers o.caller (callers_in_32_bits h) (first_true _ _ fits))
-    (both_true _ _ (both_true _ _ (both_true _ _ built same) padded) small)
+    search (second_true, first_true, both_true, small_caller, callers_in_32_bits, arith)
 
 pub turns_are_item : (h : Header) (t : Turn) → is_turn_of h t ≡ true
     → is_item_of h.subject (item.Turns t) ≡ true

@@ -96,8 +96,7 @@ long_first line long = by_answer (begun_in line) refl
 
 long_line : (w : Workload) (n : ℕ) (line : List ℕ) (lines : List (List ℕ)) → 64 < length line
     → lines_read w n (line ∷ lines) ≡ refused n BadLine
-long_line w n line lines long =
-    grind (arith, long, refused, long_rest, ended, long_isnt_end, long_item)
+long_line w n line lines long = search (refused, long_rest, ended, long_isnt_end, long_item, arith)
 
 -- what is read after the first line
 abbrev after_first : List ℕ → List (List ℕ) → Result Workload WorkRule → Result Workload Refusal
@@ -148,9 +147,7 @@ lines_settled : (w : Workload) (n : ℕ) (line : List ℕ) (lines : List (List �
     (qs : List (List ℕ)) → KeepsLimits w
     → Enough w (line ∷ lines)
     → lines_read w n (joined (line ∷ lines) q qs) ≡ lines_read w n (line ∷ lines)
-lines_settled w n line [] q qs keeps enough =
-    let long : 64 < length line = omega (arith, enough, keeps.op_count, keeps.turn_count) in
-    long_line w n (line ++ q) qs (longer line q long) ∙ sym (long_line w n line [] long)
+lines_settled w n line [] q qs keeps enough = search (long_line, longer, arith)
 lines_settled w n line (next ∷ lines) q qs keeps enough = by_end
     (λ u k f. lines_settled u (n + 1) next lines q qs k f) (bytes_eq line end_line) refl
   where
@@ -195,9 +192,7 @@ lines_settled w n line (next ∷ lines) q qs keeps enough = by_end
 text_settled : (line : List ℕ) (lines : List (List ℕ)) (q : List ℕ) (qs : List (List ℕ))
     → longest_input ≤ length (join_with_byte 10 (line ∷ lines))
     → text_read (joined (line ∷ lines) q qs) ≡ text_read (line ∷ lines)
-text_settled line [] q qs enough =
-    let long : 64 < length line = omega (arith, enough) in
-    long_text (line ++ q) qs (longer line q long) ∙ sym (long_text line [] long)
+text_settled line [] q qs enough = search (long_text, longer, arith)
 text_settled line (next ∷ lines) q qs enough = by_begun (begun_in line) refl
   where
     From : Result Workload WorkRule → Type 0
@@ -205,13 +200,7 @@ text_settled line (next ∷ lines) q qs enough = by_begun (begun_in line) refl
         ≡ after_first next lines r
 
     found : (w : Workload) → IsBegun line w → From (Ok w)
-    found w is =
-        let short = short_first w.header w.variant in
-        let same = ap length is.line_is in
-        let none = ap lines_in is.empty in
-        lines_settled w 2 next lines q qs
-        (subst KeepsLimits (sym is.empty) (begun_keeps w.header w.variant is.version))
-        (omega (arith, enough, length_lines line next lines, short, same, none))
+    found w is = search (short_first, lines_settled, begun_keeps, length_lines, arith)
 
     by_begun : (o : Option Workload) → begun_in line ≡ o → From (begun_or_bad o)
     by_begun o e = search (found, begun_in_sound, arith)

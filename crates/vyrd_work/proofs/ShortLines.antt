@@ -49,8 +49,7 @@ short_turns subject t is =
     omega (arith, caller, count, length-append (decimal t.caller) (32 ∷ decimal t.count))
 
 short_variant : (variant : Variant) → length (variant_name variant) ≤ 7
-short_variant Correct = omega arith
-short_variant Broken = omega arith
+short_variant variant = search arith
 
 pub short_first : (h : Header) (variant : Variant)
     → length (work_header_line h.subject h.size h.callers variant) ≤ 64

@@ -37,28 +37,24 @@ how_many f k (suc n) = ap suc (how_many f (k + 1) n)
 -- each structure's procedures are sound
 procedures_sound : (subject : Subject) (h : Header) (variant : Variant) → is_built_in subject ≡ true
     → h.subject ≡ subject → AreSound h (procedure_in subject h variant)
-procedures_sound Multiset h variant built is = λ op callable.
-    multiset_is_sound h variant op is (callable_method h op callable ∙ is)
-    (callable_args h op callable) (callable_small h op callable)
-procedures_sound Cache h variant built is = λ op callable.
-    cache_is_sound h variant op is (callable_method h op callable ∙ is)
-    (callable_args h op callable) (callable_small h op callable)
-procedures_sound Tree h variant built is = λ op callable.
-    tree_is_sound h variant op is (callable_method h op callable ∙ is) (callable_args h op callable)
-    (callable_small h op callable)
-procedures_sound Buffers h variant built is = λ op callable.
-    buffers_are_sound h variant op is (callable_method h op callable ∙ is)
-    (callable_args h op callable) (callable_small h op callable)
-procedures_sound Own h variant built is = cc
+procedures_sound subject h variant built is = search (
+  multiset_is_sound,
+  callable_method,
+  callable_args,
+  callable_small,
+  cache_is_sound,
+  tree_is_sound,
+  buffers_are_sound,
+  arith,
+)
 
 pub scripts_sound : (w : Workload) → KeepsLimits w → AreSoundScripts w.header (work_scripts w)
-scripts_sound w limits = record {
-  count = how_many (work_script w) 0 w.header.callers;
-  sound = λ c low.
-      let e : 0 + c ≡ c = omega arith in
-      subst (IsSound w.header at_rest)
-      (sym (script_at (work_script w) 0 w.header.callers c low ∙ ap (work_script w) e))
-      (operations-sound w.header (procedure_in w.header.subject w.header w.variant) (ops_of c w.ops)
-      (procedures_sound w.header.subject w.header w.variant (work_built_in w limits) refl)
-      (ops_are_callable w c limits));
-}
+scripts_sound w limits = search (
+  how_many,
+  script_at,
+  operations-sound,
+  procedures_sound,
+  work_built_in,
+  ops_are_callable,
+  arith,
+)

@@ -51,12 +51,10 @@ record Sound (w : Workload) (lines : List (List ℕ)) (v : Workload) : Type 0 wh
   limits : KeepsLimits v
 
 with_header : (w : Workload) (x : Item) → (with_item w x).header ≡ w.header
-with_header w (item.Op o) = refl
-with_header w (item.Turns t) = refl
+with_header w x = search arith
 
 with_variant : (w : Workload) (x : Item) → (with_item w x).variant ≡ w.variant
-with_variant w (item.Op o) = refl
-with_variant w (item.Turns t) = refl
+with_variant w x = search arith
 
 -- nothing follows `end`
 nothing_after : (w : Workload) (n : ℕ) (lines : List (List ℕ)) (v : Workload) → ended w n lines
@@ -84,8 +82,7 @@ lines_sound w n (line ∷ next ∷ lines) v keeps e = by_end
         record {
           more = x ∷ s.more;
           text = λ i. spelled.0 i ∷ s.text i;
-          items = s.items ∙ ap (λ xs. xs ++ s.more) (items_more w x none)
-              ∙ append_assoc (items_of w) (x ∷ []) s.more;
+          items = cc (s.items, items_more w x none, append_assoc (items_of w) (x ∷ []) s.more);
           header = s.header ∙ with_header w x;
           variant = s.variant ∙ with_variant w x;
           limits = s.limits;
@@ -108,8 +105,8 @@ lines_sound w n (line ∷ next ∷ lines) v keeps e = by_end
           more = [];
           text = λ i. end i ∷ last.0 i;
           items = ap items_of (sym last.1) ∙ sym (append-nil (items_of w));
-          header = ap (λ u. u.header) (sym last.1);
-          variant = ap (λ u. u.variant) (sym last.1);
+          header = cc last.1;
+          variant = cc last.1;
           limits = subst KeepsLimits last.1 keeps;
         }
     by_end rest false is f = by_item rest (item_in w.header.subject line) refl f
@@ -220,14 +217,10 @@ ops_read : (h : Header) (variant : Variant) → is_built_in h.subject ≡ true
 ops_read h variant built past [] next lines r n all small count on = cc (append-nil past, on n)
 ops_read h variant built past (o ∷ todo) next lines r n all small count on =
     let w = of_parts h variant past [] in
-    item_step w n (item.Op o) (map item_line (map item.Op todo) ++ next ∷ lines)
-    (some_lines (map item.Op todo) next lines)
-    (op_is_item h o built all.0 small.0)
-    (op_unbroken w o all.0 refl (omega arith))
-    ∙ ops_read h variant built (past ++ o ∷ []) todo next lines r (n + 1) all.1 small.1
-    (omega (arith, length-append past (o ∷ [])))
-    (λ m. ap (λ os. lines_read (of_parts h variant os []) m (next ∷ lines))
-    (append_assoc past (o ∷ []) todo) ∙ on m)
+    item_step w n (item.Op o) _ (some_lines _ _ _) (op_is_item h o built all.0 small.0)
+    (op_unbroken w o all.0 refl (omega arith)) ∙ ops_read h variant built (past ++ o ∷ []) todo next
+    lines r (n + 1) all.1 small.1 (omega (arith, length-append past (o ∷ [])))
+    (λ m. cc (append_assoc past (o ∷ []) todo, on m))
 
 -- the lines after a workload's first
 items_read : (w : Workload) (n : ℕ) → KeepsLimits w
@@ -246,7 +239,7 @@ items_read w n keeps = by_turns w.turns keeps.turns keeps.turn_count keeps.turn_
             ≡ map item_line (map item.Op ops)
             ++ (map item_line (map item.Turns turns) ++ end_line ∷ [] ∷ [])
         regroup [] = refl
-        regroup (o ∷ ops) = ap (λ rest. item_line (item.Op o) ∷ rest) (regroup ops)
+        regroup (o ∷ ops) = cc (regroup ops)
 
     by_turns : (turns : List Turn) → AllByRecursion (λ t. is_turn_of w.header t ≡ true) turns
         → length turns ≤ most_turn_lines → turns_in turns ≤ most_turns
@@ -259,9 +252,8 @@ items_read w n keeps = by_turns w.turns keeps.turns keeps.turn_count keeps.turn_
         (let l = keeps.op_count in omega (arith, l))
         (λ m. turns_read w.header w.variant w.ops [] [] m all (omega arith) (omega arith))
     by_turns (t ∷ turns) all count total = ap (lines_read (begun w.variant w.header) n)
-        (lines (t ∷ turns))
-        ∙ ops_read w.header w.variant (work_built_in w keeps) [] w.ops (item_line (item.Turns t))
-        (map item_line (map item.Turns turns) ++ end_line ∷ [] ∷ [])
+        (lines (t ∷ turns)) ∙ ops_read w.header w.variant (work_built_in w keeps) [] w.ops
+        (item_line (item.Turns t)) (map item_line (map item.Turns turns) ++ end_line ∷ [] ∷ [])
         (Ok (of_parts w.header w.variant w.ops (t ∷ turns))) n keeps.ops keeps.args
         (let l = keeps.op_count in omega (arith, l))
         (λ m. turns_read w.header w.variant w.ops [] (t ∷ turns) m all (omega arith) (omega arith))
@@ -284,15 +276,13 @@ items_lack h built (o ∷ ops) turns all small rest =
 
 all_lack_feeds : (w : Workload) → KeepsLimits w → all_lack 10 (lines_of w) ≡ true
 all_lack_feeds w keeps =
-    both_true _ _ (first_line_whole w.header.subject w.header.size w.header.callers w.variant
-    (let l = size_in_32_bits w.header in omega (arith, l))
+    both_true _ _ (first_line_whole _ _ _ _ (let l = size_in_32_bits w.header in omega (arith, l))
     (let l = callers_in_32_bits w.header in omega (arith, l)))
-    (items_lack w.header (work_built_in w keeps) w.ops w.turns keeps.ops keeps.args keeps.turns)
+    (items_lack w.header (work_built_in w keeps) _ _ keeps.ops keeps.args keeps.turns)
 
 -- all lines are read as the workload
 all_read : (w : Workload) → KeepsLimits w → text_read (all_lines w) ≡ Ok w
-all_read w keeps = by_rest (map item_line (items_of w) ++ end_line ∷ [] ∷ [])
-    (some_lines (items_of w) end_line ([] ∷ [])) (items_read w 2 keeps)
+all_read w keeps = by_rest (map _ _ ++ end_line ∷ [] ∷ []) (some_lines _ _ _) (items_read w 2 keeps)
   where
     first : List ℕ
     first = work_header_line w.header.subject w.header.size w.header.callers w.variant
@@ -304,6 +294,4 @@ all_read w keeps = by_rest (map item_line (items_of w) ++ end_line ∷ [] ∷ []
 -- the text of a workload is read as that workload
 pub work_reading-work_text : (w : Workload) → KeepsLimits w → work_reading (work_text w) ≡ Ok w
 unfolding work_reading work_text
-work_reading-work_text w keeps =
-    ap text_read (cut_lines (lines_of w) (all_lack_feeds w keeps) ∙ all_lines_are w)
-    ∙ all_read w keeps
+work_reading-work_text w keeps = search (cut_lines, all_lack_feeds, all_lines_are, all_read, arith)

@@ -52,8 +52,7 @@ line_found w n line more lack other =
 pub refusal_at : (n : ℕ) (fault : WorkFault) (read : Result Workload WorkRule)
     (lines : List (List ℕ)) (whole : Result Workload Refusal)
     → whole ≡ then_lines n lines read → IsRefusedAt n fault read → IsRefusal fault whole
-refusal_at n (Refused line rule) read lines whole e is = e ∙ ap (then_lines n lines) is.1
-    ∙ ap (λ m. refused m rule) (sym is.0)
+refusal_at n (Refused line rule) read lines whole e is = cc (is.1, is.0)
 refusal_at n Memory read lines whole e is = tt
 
 -- the last bytes
@@ -83,14 +82,7 @@ first_step line more lack =
 pub refusal_first : (fault : WorkFault) (line more : List ℕ) → lacks 10 line ≡ true
     → IsRefusedAt 1 fault (first_read line)
     → IsRefusal fault (work_reading (line ++ 10 ∷ more))
-refusal_first (Refused n rule) line more lack is =
-    first_step line more lack
-    ∙ ap (λ r. elim r as (λ _. Result Workload Refusal) [
-      | Ok w ↦ lines_read w 2 (cut more)
-      | Err x ↦
-          refused 1 x
-    ]) is.1
-    ∙ ap (λ m. refused m rule) (sym is.0)
+refusal_first (Refused n rule) line more lack is = cc (first_step line more lack, is.1, is.0)
 refusal_first Memory line more lack is = tt
 
 pub first_last : (bytes : List ℕ) → lacks 10 bytes ≡ true → work_reading bytes

@@ -37,44 +37,38 @@ nothing_given q k = grind (arith, given, shown, shown_by)
 
 empty_represents : (h : Header) → h.subject ≡ Buffers → Represents h (shown_by []) start.shown
 unfolding view_of_words
-empty_represents h is = record {
-  sound = subst (λ subject. is_sound subject h.size (words_in h (shown_by [])) ≡ true) (sym is)
-      (pass_all (λ j. is_buffer (buffer_at (words_in h (shown_by [])) j)) 0 h.size (λ j from to.
-      let below : j < h.size = omega (arith, to) in
-      sound_alike (buffer_at (words_in h (shown_by [])) j) (buffer_of (shown_by []) j)
-      (buffer_in h (shown_by []) j is below)));
-  free = λ lock from to. refl;
-  shows = ap (λ subject. collected (parts_of subject h.size (words_in h (shown_by [])))) is
-      ∙ collected-is (flat_map (λ k. buffer_parts h.size k (buffer_at (words_in h (shown_by [])) k))
-      (numbers_below h.size)) start.shown
-      (record { rising = tt; some = tt })
-      (λ q. given_nothing (λ k. buffer_parts h.size k (buffer_at (words_in h (shown_by [])) k)) q 0
-      h.size (λ j from to.
-      let below : j < h.size = omega (arith, to) in
-      ap (given q)
-      (gives h.size j (buffer_at (words_in h (shown_by [])) j) (buffer_of (shown_by []) j)
-      (buffer_in h (shown_by []) j is below) refl)
-      ∙ nothing_given q j));
-}
+empty_represents h is =
+    record {
+      sound = subst (λ subject. is_sound subject h.size (words_in h (shown_by [])) ≡ true) (sym is)
+          (pass_all (λ j. is_buffer (buffer_at _ j)) 0 h.size (λ j from to.
+          let below : j < h.size = omega (arith, to) in
+          sound_alike (buffer_at _ j) (buffer_of (shown_by []) j) (buffer_in h _ j is below)));
+      free = λ lock from to. refl;
+      shows = ap (λ subject. collected (parts_of subject h.size (words_in h (shown_by [])))) is
+          ∙ collected-is
+          (flat_map (λ k. buffer_parts h.size k (buffer_at _ k)) (numbers_below h.size)) _ _
+          (λ q. given_nothing (λ k. buffer_parts h.size k (buffer_at _ k)) q 0 h.size (λ j from to.
+          let below : j < h.size = omega (arith, to) in
+          ap (given q)
+          (gives h.size j (buffer_at _ j) (buffer_of (shown_by []) j) (buffer_in h _ j is below)
+          refl) ∙ nothing_given q j));
+    }
 
 -- the view of the words that the log leaves is the state that they represent
 view_is : (h : Header) (log : List Entry) (state : Amounts) → h.subject ≡ Buffers
     → Represents h (shown_by log) state
     → view_of_words h (old_words_after h log) ≡ state
 unfolding view_of_words old_words_after
-view_is h log state is s =
-    ap (λ t. collected (parts_of t h.size words)) is
+view_is h log state is s = ap (λ t. collected (parts_of t h.size words)) is
     ∙ ap collected (flat_map_alike (λ k. buffer_parts h.size k (buffer_at words k))
     (λ k. buffer_parts h.size k (buffer_at (words_in h (shown_by log)) k)) 0 h.size each)
-    ∙ ap (λ t. collected (parts_of t h.size (words_in h (shown_by log)))) (sym is)
-    ∙ s.shows
+    ∙ ap (λ t. collected (parts_of t h.size (words_in h (shown_by log)))) (sym is) ∙ s.shows
   where
     words : List ℕ
     words = map (old_value_after (old_effects log)) (numbers_below (plain_words h))
 
     word : (cell : ℕ) → cell < 8 * h.size → slice_index words cell ≡ shown_by log cell
-    word cell low = element_below (old_value_after (old_effects log)) (plain_words h) cell
-        (subst (λ s. cell < plain_words_of s h.size) (sym is) low)
+    word cell low = search (element_below, arith)
 
     alike : (k : ℕ) → k < h.size → Alike (buffer_at words k) (buffer_of (shown_by log) k)
     alike k low = record {

@@ -90,14 +90,12 @@ pub read_from_right : (h : Header) (locks : List ℕ) (called : Called) (k : Loc
 read_from_right h locks called k before b zero i n text held all few is later =
     grind (arith, later before (stays_same h locks before))
 read_from_right h locks called k before b (suc left) i n text held all few is later =
-    word_right h locks called k before b (character_cell b i)
-    (λ character. read_from h left b (i + 1) (text + (character % 255 + 1) * 256 ^ i))
-    held (omega arith) (omega (arith, all, few))
-    (λ mid first.
-    read_from_right h locks called k mid b left (i + 1) n
-    (text + (mid (character_cell b i) % 255 + 1) * 256 ^ i) held (omega (arith, all)) few
-    (one_more mid first)
-    (λ now second. later now (stays_more h locks before mid now first second)))
+    word_right h _ called k _ b _
+    (λ character. read_from h left b (i + 1) (text + (character % 255 + 1) * 256 ^ i)) held
+    (omega arith) (omega (arith, all, few))
+    (λ mid first. read_from_right h locks called k mid b left (i + 1) n
+    (text + (mid _ % 255 + 1) * 256 ^ i) held (omega (arith, all)) few (one_more mid first)
+    (λ now second. later _ (stays_more h _ _ mid _ first second)))
   where
     one_more : (mid : Memory) → Stays h locks before mid
         → text + (mid (character_cell b i) % 255 + 1) * 256 ^ i
@@ -114,17 +112,14 @@ store_from_right : (h : Header) (locks : List ℕ) (called : Called) (k : Locals
     → DoesRight (buffers h) (at locks false true called) k before (store_from characters b i later)
 store_from_right h locks called k before [] b i later held few rest = search (stays_same, arith)
 store_from_right h locks called k before (character ∷ characters) b i later held few rest =
-    block_store_right (buffers h) locks k before called (character_cell b i) character
-    (store_from characters b (i + 1) later)
-    (word_access h locks false true called b (character_cell b i) held (omega arith)
-    (omega (arith, few)))
-    (λ mid rely.
-    store_from_right h locks called (writing k ((character_cell b i, character) ∷ k.pending)) mid
-    characters b (i + 1) later held (omega (arith, few))
-    (λ now stays.
-    rest now (stays_more h locks before mid now
-    (stays_so h locks false true called (writing k ((character_cell b i, character) ∷ k.pending))
-    before mid rely) stays)))
+    block_store_right _ _ k _ called _ _ _
+    (word_access h _ _ _ called b _ held (omega arith) (omega (arith, few)))
+    (λ mid rely. store_from_right h locks called (writing k _) mid characters b (i + 1) later held
+    (omega (arith, few))
+    (λ now stays. rest _
+    (stays_more h _ _ mid _
+    (stays_so h _ false true called (writing k ((character_cell b i, character) ∷ k.pending)) _ _
+    rely) stays)))
 
 -- what follows a commit with this reply: it returns that, and gives the locks back before
 pub record Finishes (h : Header) (locks : List ℕ) (called : Called) (reply : ℕ)
@@ -146,9 +141,8 @@ pub only_commit_right : (h : Header) (locks : List ℕ) (called : Called) (k : L
     → LeadsTo h called reply now now
     → DoesRight (buffers h) (at locks false false called) k now (perform (Mark Commit) later)
 only_commit_right h locks called k now reply later none is finishes leads =
-    lone_commit_right (buffers h) locks k now called later
-    (λ state s.
-    let end = leads state s in
+    lone_commit_right _ _ k _ called _ (λ state s.
+    let end = leads _ s in
     record {
       called = called;
       is_called = is;
@@ -157,8 +151,7 @@ only_commit_right h locks called k now reply later none is finishes leads =
       next = end.0;
       allowed = end.1;
       means = end.2;
-    })
-    (λ last rely. finishes.ends k last none is)
+    }) (λ last rely. finishes.ends k _ none is)
 
 -- A block that commits stores characters of a buffer from character i on, and then its count.
 pub block_right : (h : Header) (locks : List ℕ) (called : Called) (k : Locals) (before : Memory)
@@ -172,22 +165,18 @@ pub block_right : (h : Header) (locks : List ℕ) (called : Called) (k : Locals)
 block_right h locks called k before characters b i count reply later held few is finishes leads =
     open_right (buffers h) locks k before called
     (store_from characters b i (commit_count b count later))
-    (λ m0 r0.
-    store_from_right h locks called (writing k []) m0 characters b i (commit_count b count later)
-    held few
-    (λ m1 s1.
-    block_store_right (buffers h) locks (writing k (writes_of characters b i [])) m1 called
-    (8 * b) count (perform (Mark BlockCommit) later)
-    (word_access h locks false true called b (8 * b) held (omega arith) (omega arith))
-    (λ m2 r2.
-    let stays : Stays h locks before m2 =
-    stays_more h locks before m0 m2 (stays_so h locks false true called (writing k []) before m0 r0)
+    (λ m0 r0. store_from_right h locks called (writing k []) m0 characters b i
+    (commit_count b count later) held few
+    (λ m1 s1. block_store_right (buffers h) locks (writing k (writes_of characters b i [])) m1
+    called (8 * b) count (perform (Mark BlockCommit) later)
+    (word_access h locks false true called b (8 * b) held (omega arith) (omega arith)) (λ m2 r2.
+    let stays : Stays h locks before m2 = stays_more h locks before m0 m2
+    (stays_so h locks false true called (writing k []) before m0 r0)
     (stays_more h locks m0 m1 m2 s1
     (stays_so h locks false true called (writing k pending) m1 m2 r2)) in
     commit_right (buffers h) locks (writing k pending) m2 called later
     (subst (Guarantee (buffers h) (at locks false true called) (writing k pending) m2)
-    (sym (shows m2)) (guarantee m2))
-    (λ state s.
+    (sym (shows m2)) (guarantee m2)) (λ state s.
     let end = leads m2 stays state s in
     record {
       called = called;
@@ -197,8 +186,7 @@ block_right h locks called k before characters b i count reply later held few is
       next = end.0;
       allowed = end.1;
       means = rw (shows m2) end.2;
-    })
-    (λ last rely. finishes.ends (without_slots (writing k pending) pending) last
+    }) (λ last rely. finishes.ends (without_slots (writing k pending) pending) last
     (λ slot. refl) is))))
   where
     pending : List (ℕ × ℕ)
@@ -209,24 +197,19 @@ block_right h locks called k before characters b i count reply later held few is
 
     guarantee : (memory : Memory) → Guarantee (buffers h) (at locks false true called)
         (writing k pending) memory (after_block characters b i count memory)
-    guarantee memory = record {
-      others = λ cell below free. block_leaves characters b i count memory few cell (λ same.
-          never free (rw same held.held));
-      reserved = λ slot one other. tt;
-    }
+    guarantee memory = search (block_leaves, never, arith)
 
 -- one lock is given back
 pub unlock_right : (h : Header) (called : Called) (b reply : ℕ) → is_observer called.method ≡ false
     → Finishes h (lock_of h b ∷ []) called reply (unlock h b (returns reply))
-unlock_right h called b reply mutator = record {
-  will = λ answer is. refl;
-  ends = λ k now none is.
-      give_right (buffers h) (at (lock_of h b ∷ []) true false called) k now (lock_of h b)
-      (returns reply) refl
-      (λ last rely. rw (gone (lock_of h b) [])
-      (returns_right (buffers h) k last true called reply none
-      (mutates k called reply is mutator)));
-}
+unlock_right h called b reply mutator =
+    record {
+      will = λ answer is. refl;
+      ends = λ k now none is. give_right _ _ k _ _ _ refl
+          (λ last rely. rw (gone (lock_of h b) [])
+          (returns_right (buffers h) k last true called reply none
+          (mutates k called reply is mutator)));
+    }
 
 -- two locks are given back, the last one first
 unlock_two_right : (h : Header) (called : Called) (first second reply : ℕ)
@@ -234,15 +217,14 @@ unlock_two_right : (h : Header) (called : Called) (first second reply : ℕ)
     → (lock_of h first == lock_of h second) ≡ false
     → Finishes h (lock_of h second ∷ lock_of h first ∷ []) called reply
     (unlock h second (unlock h first (returns reply)))
-unlock_two_right h called first second reply mutator apart = record {
-  will = λ answer is answer' is'. refl;
-  ends = λ k now none is.
-      give_right (buffers h) (at (lock_of h second ∷ lock_of h first ∷ []) true false called) k now
-      (lock_of h second) (unlock h first (returns reply)) refl
-      (λ last rely. rw (gone (lock_of h second) (lock_of h first ∷ []) ∙ ap (λ b. cond (not b)
-      (lock_of h first ∷ []) []) apart)
-      ((unlock_right h called first reply mutator).ends k last none is));
-}
+unlock_two_right h called first second reply mutator apart =
+    record {
+      will = λ answer is answer' is'. refl;
+      ends = λ k now none is. give_right _ _ k _ _ _
+          refl (λ last rely. rw (gone (lock_of h second) (lock_of h first ∷ [])
+          ∙ ap (λ b. cond (not b) (lock_of h first ∷ []) []) apart)
+          ((unlock_right h called first reply mutator).ends k last none is));
+    }
 
 -- one lock is taken
 pub lock_right : (h : Header) (called : Called) (k : Locals) (before : Memory) (b : ℕ)
@@ -251,8 +233,7 @@ pub lock_right : (h : Header) (called : Called) (k : Locals) (before : Memory) (
     → DoesRight (buffers h) (at (lock_of h b ∷ []) false false called) k now later)
     → DoesRight (buffers h) (at [] false false called) k before (lock h b later)
 lock_right h called k before b later low rest =
-    take_right (buffers h) (at [] false false called) k before (lock_of h b) later (λ held e. cc)
-    (λ now rely. rest now (held_last h [] b low))
+    take_right _ _ k _ _ _ (λ held e. cc) (λ now rely. rest _ (held_last h [] b low))
 
 -- Both are taken, the lower one first, if they are two. What follows does right with the locks that
 -- are held then.

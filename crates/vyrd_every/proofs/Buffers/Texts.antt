@@ -89,8 +89,7 @@ after_block characters b i count memory = with_cell (with_characters characters 
 pub block_leaves : (characters : List ℕ) (b i count : ℕ) (memory : Memory) → i + length characters
     ≤ 7
     → Leaves memory (after_block characters b i count memory) b
-block_leaves characters b i count memory few =
-    λ cell apart. grind (arith, apart, other_cell, count, with_characters-other, few)
+block_leaves characters b i count memory few = search (other_cell, with_characters-other, arith)
 
 -- Characters are appended that make this text.
 pub appended_represents : (h : Header) (memory : Memory) (state : Amounts) (b count n text : ℕ)
@@ -101,10 +100,8 @@ pub appended_represents : (h : Header) (memory : Memory) (state : Amounts) (b co
     → Represents h (with_appended characters b count n memory)
     (with_amount state b (joined (amount_of state b) text))
 appended_represents h memory state b count n text characters is s low has many few sound same =
-    appended h memory memory (with_appended characters b count n memory) state b count n text
-    characters is s low (λ cell below. refl)
-    has many few sound same
-    (λ cell apart. with_appended-other characters b count n memory cell many few apart)
+    appended h _ memory _ _ b count n _ characters is s low (λ cell below. refl) has many few sound
+    same (λ cell apart. with_appended-other characters b _ n memory _ many few apart)
     (λ cell below. refl)
 
 -- The buffer is cut to n characters.
@@ -113,30 +110,27 @@ pub cut_represents : (h : Header) (memory : Memory) (state : Amounts) (b n : ℕ
     → n < memory (8 * b) → Represents h (with_cell memory (count_cell b) n)
     (with_amount state b (cut_to n (amount_of state b)))
 cut_represents h memory state b n is s low less =
-    changed h memory after after state b (cut_to n (amount_of state b)) is s low
-    (with_count-other b n memory) (λ cell below. refl)
+    changed h _ after _ _ b _ is s low (with_count-other b n _) (λ cell below. refl)
     (cut_sound (buffer_of memory b) (buffer_of after b) n (with_count-is b n memory) sound less)
-    (cut_shown (buffer_of memory b) (buffer_of after b) n (with_count-is b n memory) sound less
-    ∙ ap (cut_to n) (sym (shown_at h memory state b is s low)))
+    (cut_shown _ _ n (with_count-is b n memory) sound less
+    ∙ ap (cut_to n) (sym (shown_at h _ _ b is s low)))
   where
     after : Memory
     after = with_cell memory (count_cell b) n
 
     sound : is_buffer (buffer_of memory b) ≡ true
-    sound = sound_at h memory state b is s low
+    sound = sound_at h _ _ b is s low
 
 -- One that has no more is cut already.
 pub uncut_represents : (h : Header) (memory : Memory) (state : Amounts) (b n : ℕ) → h.subject
     ≡ Buffers → Represents h memory state → b < h.size
     → memory (8 * b) ≤ n → Represents h memory (with_amount state b (cut_to n (amount_of state b)))
 uncut_represents h memory state b n is s low few =
-    changed h memory memory memory state b (cut_to n (amount_of state b)) is s low
-    (λ cell apart. refl) (λ cell below. refl) sound
-    (sym (uncut_shown (buffer_of memory b) n sound few)
-    ∙ ap (cut_to n) (sym (shown_at h memory state b is s low)))
+    changed h _ memory _ _ b _ is s low (λ cell apart. refl) (λ cell below. refl) sound
+    (sym (uncut_shown _ n sound few) ∙ ap (cut_to n) (sym (shown_at h _ _ b is s low)))
   where
     sound : is_buffer (buffer_of memory b) ≡ true
-    sound = sound_at h memory state b is s low
+    sound = sound_at h _ _ b is s low
 
 -- how long a buffer's text is
 pub length_at : (h : Header) (memory : Memory) (state : Amounts) (b : ℕ) → h.subject ≡ Buffers

@@ -214,19 +214,14 @@ append_from_right : (h : Header) (k : Locals) (before : Memory) (args : Args) �
     → DoesRight (buffers h)
     (at [] false false (record { method = OfBuffers AppendFrom; args = args })) k before
     (append_from h Correct args.a args.b)
-append_from_right h k before args is low_a low_b none called_is =
-    lock_both_right h called k before first second
-    (step (Load (count_cell args.a)) (λ count. step (Load (count_cell args.b)) (rest count)))
-    (omega arith) (omega (arith, low_a, low_b)) refl
-    (λ locks m0 lower higher finishes.
+append_from_right h k before args is low_a low_b none called_is = lock_both_right h called k _ _ _ _
+    (omega arith) (omega (arith, low_a, low_b)) refl (λ locks m0 lower higher finishes.
     let both = both_held h locks args.a args.b lower higher in
-    word_right h locks called k m0 args.a (count_cell args.a)
-    (λ count. step (Load (count_cell args.b)) (rest count)) both.0 (omega arith) (omega arith)
-    (λ m1 stays_a.
-    word_right h locks called k m1 args.b (count_cell args.b) (rest (m1 (8 * args.a))) both.1
-    (omega arith) (omega arith)
-    (λ now stays_b.
-    rw (← stays_count h locks m1 now args.a stays_b both.0)
+    word_right h _ called k _ args.a _ (λ count. step (Load (count_cell args.b)) (rest count))
+    both.0 (omega arith) (omega arith)
+    (λ m1 stays_a. word_right h _ called k _ args.b (count_cell args.b) (rest (m1 (8 * args.a)))
+    both.1 (omega arith) (omega arith)
+    (λ now stays_b. rw (← stays_count h locks m1 now args.a stays_b both.0)
     (append_all_right h locks k now args first second is both.0 both.1 none called_is finishes))))
   where
     called : Called
@@ -295,18 +290,13 @@ length_right : (h : Header) (k : Locals) (before : Memory) (args : Args) → h.s
     → k.called ≡ Some (record { method = OfBuffers Length; args = args })
     → DoesRight (buffers h) (at [] false false (record { method = OfBuffers Length; args = args }))
     k before (length_of h args.a)
-length_right h k before args is low none called_is =
-    lock_right h called k before args.a
-    (step (Load (count_cell args.a)) (λ count. unlock h args.a (returns (min count 7)))) low
-    (λ m0 held.
-    word_right h (lock_of h args.a ∷ []) called k m0 args.a (count_cell args.a)
+length_right h k before args is low none called_is = lock_right h called k _ _ _ low
+    (λ m0 held. word_right h _ called k _ args.a _
     (λ count. unlock h args.a (returns (min count 7))) held (omega arith) (omega arith)
-    (λ now stays.
-    answer_right (buffers h) k now (lock_of h args.a) called (min (now (8 * args.a)) 7) none
-    called_is
-    (λ state s.
-    length_at h now state args.a is s low ∙ count_now h (lock_of h args.a ∷ []) now now state args.a
-    is (stays_same h (lock_of h args.a ∷ []) now) held s)))
+    (λ now stays. answer_right _ k _ _ called (min (now (8 * args.a)) 7) none called_is
+    (λ state s. length_at h now state args.a is s low
+    ∙ count_now h (lock_of h args.a ∷ []) now now state args.a is
+    (stays_same h (lock_of h args.a ∷ []) now) held s)))
   where
     called : Called
     called = record { method = OfBuffers Length; args = args }
@@ -369,12 +359,11 @@ procedure_right h k before method args is of fit none called_is = by_method meth
         ≡ true → k.called ≡ Some (record { method = method; args = args })
         → DoesRight (buffers h) (just_called method) k before (procedure_of h Correct method args)
     by_method (OfBuffers Append) of fit called_is =
-        search (append_right, below_of, first_true, second_true, called_is, arith)
+        search (append_right, below_of, first_true, second_true, arith)
     by_method (OfBuffers AppendFrom) of fit called_is =
-        search (append_from_right, below_of, first_true, second_true, called_is, arith)
+        search (append_from_right, below_of, first_true, second_true, arith)
     by_method (OfBuffers Cut) of fit called_is = search (cut_right, below_of, called_is, arith)
-    by_method (OfBuffers Length) of fit called_is = length_right h k before args is
-        (below_of args.a h.size fit) none called_is
+    by_method (OfBuffers Length) of fit called_is = search (length_right, below_of, arith)
     by_method (OfBuffers Read) of fit called_is = search (read_right, below_of, called_is, arith)
     by_method (OfMultiset other) of fit called_is = cc
     by_method (OfCache other) of fit called_is = cc
@@ -386,5 +375,4 @@ procedure_right h k before method args is of fit none called_is = by_method meth
 -- so each operation that may be called does right
 pub buffers_right : (h : Header) (op : Op) → h.subject ≡ Buffers → is_callable h op ≡ true
     → IsRight (buffers h) (buffers_procedure h Correct) op
-buffers_right h op is callable =
-    grind (arith, callable, procedure_right, callable_method, callable_args)
+buffers_right h op is callable = search (procedure_right, callable_method, callable_args, arith)

@@ -71,9 +71,8 @@ pub kept : (h : Header) (old new : Memory) (state : Amounts) (n : ℕ) (chunk : 
     → Leaves old new n (lock_of h n) → new (lock_of h n) ≡ old (lock_of h n) → chunk_of new n
     ≡ chunk → is_sound_chunk chunk ≡ true
     → shown chunk ≡ shown (chunk_of old n) → Represents h new state
-kept h old new state n chunk is s low leaves free e sound same =
-    kept_chunk h old new state n is s low leaves (free ∙ free_lock h old state n is s low)
-    (ap is_sound_chunk e ∙ sound) (ap shown e ∙ same)
+kept h old new state n chunk is s low leaves free e sound same = kept_chunk h _ _ _ n is s low
+    leaves (free ∙ free_lock h _ _ n is s low) (ap is_sound_chunk e ∙ sound) (ap shown e ∙ same)
 
 pub changed : (h : Header) (old new : Memory) (state : Amounts) (n : ℕ) (chunk : Chunk) → h.subject
     ≡ Cache → Represents h old state → n < h.size

@@ -34,19 +34,18 @@ empty_represents : (h : Header) → h.subject ≡ Cache → Represents h (shown_
 unfolding view_of_words
 empty_represents h is = record {
   sound = subst (λ subject. is_sound subject h.size (words_in h (shown_by [])) ≡ true) (sym is)
-      (pass_all (λ j. is_sound_chunk (chunk_at (words_in h (shown_by [])) j)) 0 h.size (λ j from to.
+      (pass_all (λ j. is_sound_chunk (chunk_at (words_in h _) j)) 0 h.size (λ j from to.
       let below : j < h.size = omega (arith, to) in ap is_sound_chunk
       (chunk_in h (shown_by []) j is below)));
   free = λ lock from to. refl;
   shows = ap (λ subject. collected (parts_of subject h.size (words_in h (shown_by [])))) is
       ∙ collected-is (flat_map (λ k. chunk_parts h.size k (chunk_at (words_in h (shown_by [])) k))
-      (numbers_below h.size)) start.shown
-      (record { rising = tt; some = tt })
+      (numbers_below h.size)) _
+      _
       (λ q. given_nothing (λ k. chunk_parts h.size k (chunk_at (words_in h (shown_by [])) k)) q 0
       h.size (λ j from to.
       let below : j < h.size = omega (arith, to) in
-      ap (λ c. given q (chunk_parts h.size j c)) (chunk_in h (shown_by []) j is below)
-      ∙ nothing_given h.size q j));
+      cc (chunk_in h (shown_by []) j is below, nothing_given h.size q j)));
 }
 
 -- the view of the words that the log leaves is the state that they represent
@@ -54,38 +53,8 @@ view_is : (h : Header) (log : List Entry) (state : Amounts) → h.subject ≡ Ca
     → Represents h (shown_by log) state
     → view_of_words h (old_words_after h log) ≡ state
 unfolding view_of_words old_words_after
-view_is h log state is s =
-    ap (λ t. collected
-    (parts_of t h.size (map (old_value_after (old_effects log)) (numbers_below (plain_words h)))))
-    is
-    ∙ ap collected
-    (flat_map_alike
-    (λ k. chunk_parts h.size k
-    (chunk_at (map (old_value_after (old_effects log)) (numbers_below (plain_words h))) k))
-    (λ k. chunk_parts h.size k (chunk_at (words_in h (shown_by log)) k)) 0 h.size each)
-    ∙ ap (λ t. collected (parts_of t h.size (words_in h (shown_by log)))) (sym is)
-    ∙ s.shows
-  where
-    word : (cell : ℕ) → cell < 5 * h.size
-        → slice_index (map (old_value_after (old_effects log)) (numbers_below (plain_words h))) cell
-        ≡ shown_by log cell
-    word cell low = element_below (old_value_after (old_effects log)) (plain_words h) cell
-        (subst (λ s. cell < plain_words_of s h.size) (sym is) low)
-
-    each : (k : ℕ) → 0 ≤ k → k < 0 + h.size
-        → chunk_parts h.size k
-        (chunk_at (map (old_value_after (old_effects log)) (numbers_below (plain_words h))) k)
-        ≡ chunk_parts h.size k (chunk_at (words_in h (shown_by log)) k)
-    each k from to =
-        let below : k < h.size = omega (arith, to) in
-        ap (chunk_parts h.size k)
-        (same_chunk (chunk_at
-        (map (old_value_after (old_effects log)) (numbers_below (plain_words h))) k)
-        (chunk_of (shown_by log) k)
-        (word (5 * k) (omega (arith, below))) (word (5 * k + 1) (omega (arith, below)))
-        (word (5 * k + 2) (omega (arith, below)))
-        (word (5 * k + 3) (omega (arith, below))) (word (5 * k + 4) (omega (arith, below)))
-        ∙ sym (chunk_in h (shown_by log) k is below))
+view_is h log state is s = search
+    (collected, parts_of, flat_map_alike, shown_by, element_below, same_chunk, chunk_in, arith)
 
 -- it fits a header of the cache
 pub cache_fits : (h : Header) → h.version ≡ 1 → h.subject ≡ Cache → Fits (cache h)

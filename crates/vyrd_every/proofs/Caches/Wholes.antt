@@ -66,15 +66,13 @@ has_lock h n committed in_block called = holds_first (lock_of h n) [] committed 
 access_in : (h : Header) (n cell : ℕ) (committed in_block : Bool) (called : Called) → n < h.size
     → 5 * n ≤ cell → cell < 5 * n + 5
     → Access (cache h) (locked h n committed in_block called) cell
-access_in h n cell committed in_block called low from to =
-    grind (arith, chunk_access, locked, has_lock)
+access_in h n cell committed in_block called low from to = search (chunk_access, has_lock, arith)
 
 stays_in : (h : Header) (n : ℕ) (committed in_block : Bool) (called : Called) (k : Locals)
     (before now : Memory) → n < h.size
     → Rely (cache h) (locked h n committed in_block called) k before now → chunk_of now n
     ≡ chunk_of before n
-stays_in h n committed in_block called k before now low rely =
-    grind (arith, chunk_stays, locked, has_lock)
+stays_in h n committed in_block called k before now low rely = grind (arith, chunk_stays, has_lock)
 
 -- a load of a word of the chunk finds what it has afterwards too
 look_right : (h : Header) (n cell : ℕ) (called : Called) (k : Locals) (before : Memory)
@@ -83,8 +81,7 @@ look_right : (h : Header) (n cell : ℕ) (called : Called) (k : Locals) (before 
     → DoesRight (cache h) (locked h n false false called) k now (rest (now cell)))
     → DoesRight (cache h) (locked h n false false called) k before (step (Load cell) rest)
 look_right h n cell called k before rest low from to later =
-    load_right (cache h) (locked h n false false called) k before cell rest
-    (access_in h n cell false false called low from to) refl
+    load_right _ _ k _ _ rest (access_in h n _ _ _ called low from to) refl
     (λ now rely. rw (← rely.held cell (access_in h n cell false false called low from to))
     (later now (stays_in h n false false called k before now low rely)))
 
@@ -114,8 +111,7 @@ enter_right : (h : Header) (n : ℕ) (called : Called) (k : Locals) (before : Me
     → ((now : Memory) → DoesRight (cache h) (locked h n false false called) k now rest)
     → DoesRight (cache h) (at [] false false called) k before (lock h n rest)
 enter_right h n called k before rest later =
-    take_right (cache h) (at [] false false called) k before (lock_of h n) rest (λ held e. cc)
-    (λ now rely. later now)
+    take_right _ _ k _ _ _ (λ held e. cc) (λ now rely. later _)
 
 -- the lock is given back after the commit
 leave_right : (h : Header) (n : ℕ) (called : Called) (k : Locals) (now : Memory)
@@ -123,8 +119,7 @@ leave_right : (h : Header) (n : ℕ) (called : Called) (k : Locals) (now : Memor
     → is_observer called.method ≡ false
     → DoesRight (cache h) (locked h n true false called) k now
     (in_order (Give (lock_of h n) ∷ Mark (Return 1) ∷ []))
-leave_right h n called k now none is mutator =
-    give_right (cache h) (locked h n true false called) k now (lock_of h n) (returns 1) refl
+leave_right h n called k now none is mutator = give_right _ _ k _ _ _ refl
     (λ last rely. rw (gone (lock_of h n) [])
     (returns_right (cache h) k last true called 1 none (mutates k called 1 is mutator)))
 
@@ -156,19 +151,10 @@ stored_right : (h : Header) (n a x b y z : ℕ) (called : Called) (k : Locals) (
     (perform (Mark BlockOpen)
     (perform (Store a x) (perform (Store b y) (perform (Store (5 * n) z) later))))
 stored_right h n a x b y z called k before later low from_a to_a from_b to_b rest =
-    open_right (cache h) (lock_of h n ∷ []) k before called
-    (perform (Store a x) (perform (Store b y) (perform (Store (5 * n) z) later)))
-    (λ m0 r0.
-    block_store_right (cache h) (lock_of h n ∷ []) (writing k []) m0 called a x
-    (perform (Store b y) (perform (Store (5 * n) z) later))
-    (access_in h n a false true called low from_a to_a)
-    (λ m1 r1.
-    block_store_right (cache h) (lock_of h n ∷ []) (writing k ((a, x) ∷ [])) m1 called b y
-    (perform (Store (5 * n) z) later)
-    (access_in h n b false true called low from_b to_b)
-    (λ m2 r2.
-    block_store_right (cache h) (lock_of h n ∷ []) (writing k ((b, y) ∷ (a, x) ∷ [])) m2 called
-    (5 * n) z later
+    open_right _ _ k _ called _
+    (λ m0 r0. block_store_right _ _ _ _ called a x _ (access_in h n a _ _ called low from_a to_a)
+    (λ m1 r1. block_store_right _ _ _ _ called b y _ (access_in h n b _ _ called low from_b to_b)
+    (λ m2 r2. block_store_right _ _ _ _ called _ z _
     (access_in h n (5 * n) false true called low (omega arith) (omega arith))
     (λ m3 r3. rest m3
     (stays_in h n false true called (writing k ((5 * n, z) ∷ (b, y) ∷ (a, x) ∷ [])) m2 m3 low r3
@@ -193,15 +179,10 @@ committed_right : (h : Header) (n a x b y z : ℕ) (called : Called) (k : Locals
     (in_order (Mark BlockOpen ∷ Store a x ∷ Store b y ∷ Store (5 * n) z ∷ Mark BlockCommit
     ∷ Give (lock_of h n) ∷ Mark (Return 1) ∷ []))
 committed_right h n a x b y z called k before low from_a to_a from_b to_b is mutator leads =
-    stored_right h n a x b y z called k before
-    (in_order (Mark BlockCommit ∷ Give (lock_of h n) ∷ Mark (Return 1) ∷ [])) low from_a to_a from_b
-    to_b
-    (λ now same.
-    commit_right (cache h) (lock_of h n ∷ []) (writing k pending) now called
-    (in_order (Give (lock_of h n) ∷ Mark (Return 1) ∷ []))
-    (leaves_alone h n a x b y z called (writing k pending) now low from_a to_a from_b to_b)
-    (λ state s.
-    let end = leads now same state s in
+    stored_right h n a x b y z called k _ _ low from_a to_a from_b to_b
+    (λ now same. commit_right _ _ _ _ called _
+    (leaves_alone h n a x b y z called _ _ low from_a to_a from_b to_b) (λ state s.
+    let end = leads _ same _ s in
     record {
       called = called;
       is_called = is;
@@ -210,12 +191,7 @@ committed_right h n a x b y z called k before low from_a to_a from_b to_b is mut
       next = end.0;
       allowed = end.1;
       means = end.2;
-    })
-    (λ last rely. leave_right h n called (without_slots (writing k pending) pending) last
-    (λ i. refl) is mutator))
-  where
-    pending : List (ℕ × ℕ)
-    pending = (5 * n, z) ∷ (b, y) ∷ (a, x) ∷ []
+    }) (λ last rely. leave_right h n called _ _ (λ i. refl) is mutator))
 
 -- a write
 write_right : (h : Header) (k : Locals) (before : Memory) (args : Args) → h.subject ≡ Cache
@@ -259,19 +235,16 @@ only_commit_right : (h : Header) (n : ℕ) (called : Called) (k : Locals) (now :
     → is_observer called.method ≡ false
     → ((state : Amounts) → next_state called.method called.args 1 state ≡ Some state)
     → DoesRight (cache h) (locked h n false false called) k now (only_commit h n)
-only_commit_right h n called k now none is mutator same =
-    lone_commit_right (cache h) (lock_of h n ∷ []) k now called
-    (in_order (Give (lock_of h n) ∷ Mark (Return 1) ∷ []))
+only_commit_right h n called k now none is mutator same = lone_commit_right _ _ k _ called _
     (λ state s. record {
       called = called;
       is_called = is;
       reply = 1;
       returns = λ answer is'. refl;
       next = state;
-      allowed = same state;
+      allowed = same _;
       means = s;
-    })
-    (λ last rely. leave_right h n called k last none is mutator)
+    }) (λ last rely. leave_right h n called k _ none is mutator)
 
 -- a dirty chunk's pair is put into the store, and the chunk shows the same pair after it
 put_stored_right : (h : Header) (n left : ℕ) (called : Called) (k : Locals) (before : Memory)
@@ -284,32 +257,25 @@ put_stored_right : (h : Header) (n left : ℕ) (called : Called) (k : Locals) (b
     → ((c : Chunk) → shown (with_stored left c.cached_lo c.cached_hi c) ≡ cached_pair c)
     → DoesRight (cache h) (locked h n false false called) k before (put_stored h n left)
 put_stored_right h n left called k before is low called_is mutator stays dirty sound shows =
-    look_twice h n (5 * n + 1) (5 * n + 2) called k before
+    look_twice h n _ _ called k _
     (λ x y. in_order (Mark BlockOpen ∷ Store (5 * n + 3) x ∷ Store (5 * n + 4) y
-    ∷ Store (5 * n) left ∷ Mark BlockCommit ∷ Give (lock_of h n) ∷ Mark (Return 1) ∷ []))
-    low (omega arith) (omega arith) (omega arith) (omega arith)
-    (λ now same.
-    committed_right h n (5 * n + 3) (now (5 * n + 1)) (5 * n + 4) (now (5 * n + 2)) left called k
-    now low
-    (omega arith) (omega arith) (omega arith) (omega arith) called_is mutator
+    ∷ Store (5 * n) left ∷ Mark BlockCommit ∷ Give (lock_of h n) ∷ Mark (Return 1)
+    ∷ [])) low (omega arith) (omega arith) (omega arith) (omega arith)
+    (λ now same. committed_right h n (5 * n + 3) (now (5 * n + 1)) (5 * n + 4)
+    (now (5 * n + 2)) left called k now low (omega arith) (omega arith) (omega arith)
+    (omega arith) called_is mutator
     (λ then_ same' state s. (
       state,
-      stays state,
-      kept h then_ (thrice then_ (5 * n + 3) (now (5 * n + 1)) (5 * n + 4) (now (5 * n + 2))
-          (5 * n) left) state n
-          (with_stored left (now (5 * n + 1)) (now (5 * n + 2)) (chunk_of now n)) is s low
+      stays _,
+      kept h _ _ _ n (with_stored _ _ _ (chunk_of now n)) is s low
           (λ cell e0 e1 e2 e3 e4 lock. thrice-other then_ (5 * n + 3) (now (5 * n + 1)) (5 * n + 4)
           (now (5 * n + 2)) (5 * n) left cell e0 e4 e3)
           (thrice-other then_ (5 * n + 3) (now (5 * n + 1)) (5 * n + 4) (now (5 * n + 2))
-          (5 * n) left (lock_of h n)
-          (λ e. omega (arith, e, low)) (λ e. omega (arith, e, low)) (λ e. omega (arith, e, low)))
-          (after_stored then_ n left (now (5 * n + 1)) (now (5 * n + 2))
-          ∙ ap (with_stored left (now (5 * n + 1)) (now (5 * n + 2))) same')
+          (5 * n) left (lock_of h n) (λ e. omega (arith, e, low)) (λ e. omega (arith, e, low))
+          (λ e. omega (arith, e, low))) (after_stored then_ n _ _ _ ∙ ap (with_stored _ _ _) same')
           (sound (chunk_of now n)
           (ap is_sound_chunk (sym same') ∙ sound_at h then_ state n is s low))
-          (shows (chunk_of now n)
-          ∙ sym (shown_dirty (chunk_of now n) (ap (λ c. c.state == 2) same ∙ dirty))
-          ∙ ap shown (sym same')),
+          (shows (chunk_of now n) ∙ sym (shown_dirty _ (cc)) ∙ ap shown (sym same')),
     )))
 
 -- the chunk, which is clean, is forgotten
@@ -320,37 +286,25 @@ forget_right : (h : Header) (n : ℕ) (called : Called) (k : Locals) (before : M
     → (before (5 * n) == 2) ≡ false → (before (5 * n) == 0) ≡ false
     → DoesRight (cache h) (locked h n false false called) k before (forget h n)
 forget_right h n called k before is low called_is mutator stays other there =
-    open_right (cache h) (lock_of h n ∷ []) k before called
-    (in_order (Store (5 * n) 0 ∷ Mark BlockCommit ∷ Give (lock_of h n) ∷ Mark (Return 1) ∷ []))
-    (λ m0 r0.
-    block_store_right (cache h) (lock_of h n ∷ []) (writing k []) m0 called (5 * n) 0
-    (in_order (Mark BlockCommit ∷ Give (lock_of h n) ∷ Mark (Return 1) ∷ []))
-    (access_in h n (5 * n) false true called low (omega arith) (omega arith))
-    (λ m1 r1.
+    open_right _ _ k _ called _
+    (λ m0 r0. block_store_right _ _ _ _ called _ 0 _
+    (access_in h n _ _ _ called low (omega arith) (omega arith)) (λ m1 r1.
     let same : chunk_of m1 n ≡ chunk_of before n = stays_in h n false true called
-    (writing k ((5 * n, 0) ∷ [])) m0 m1 low r1
-    ∙ stays_in h n false true called (writing k []) before m0 low r0 in
-    commit_right (cache h) (lock_of h n ∷ []) (writing k ((5 * n, 0) ∷ [])) m1 called
-    (in_order (Give (lock_of h n) ∷ Mark (Return 1) ∷ []))
-    (guarantee m1)
+    (writing k _) m0 m1 low r1 ∙ stays_in h n false true called (writing k []) before m0 low r0 in
+    commit_right _ _ _ _ called _ (guarantee m1)
     (λ state s. record {
       called = called;
       is_called = called_is;
       reply = 1;
       returns = λ answer is'. refl;
       next = state;
-      allowed = stays state;
-      means = kept h m1 (with_cell m1 (5 * n) 0) state n (with_state 0 (chunk_of m1 n)) is s low
+      allowed = stays _;
+      means = kept h _ _ _ n (with_state 0 (chunk_of m1 n)) is s low
           (λ cell e0 e1 e2 e3 e4 lock. other_cell m1 (5 * n) 0 cell e0)
-          (other_cell m1 (5 * n) 0 (lock_of h n) (λ e. omega (arith, e, low)))
-          (after_state m1 n 0)
+          (other_cell m1 (5 * n) 0 (lock_of h n) (λ e. omega (arith, e, low))) (after_state m1 n 0)
           (forgotten_sound (chunk_of m1 n) (sound_at h m1 state n is s low))
-          (sym (shown_clean (chunk_of m1 n) (sound_at h m1 state n is s low)
-          (cc) (cc)));
-    })
-    (λ last rely. leave_right h n called
-    (without_slots (writing k ((5 * n, 0) ∷ [])) ((5 * n, 0) ∷ [])) last (λ i. refl) called_is
-    mutator)))
+          (sym (shown_clean (chunk_of m1 n) (sound_at h m1 state n is s low) (cc) (cc)));
+    }) (λ last rely. leave_right h n called _ _ (λ i. refl) called_is mutator)))
   where
     guarantee : (memory : Memory) → Guarantee (cache h) (locked h n false true called)
         (writing k ((5 * n, 0) ∷ [])) memory (with_cell memory (5 * n) 0)
@@ -362,15 +316,10 @@ flush_right : (h : Header) (k : Locals) (before : Memory) (args : Args) → h.su
     → k.called ≡ Some (record { method = OfCache Flush; args = args })
     → DoesRight (cache h) (at [] false false (record { method = OfCache Flush; args = args })) k
     before (flush h args.a)
-flush_right h k before args is low none called_is =
-    enter_right h args.a called k before
-    (step (Load (state_cell args.a))
-    (λ n. cond (n == 2) (put_stored h args.a 1) (only_commit h args.a)))
-    (λ m0.
-    look_right h args.a (5 * args.a) called k m0
+flush_right h k before args is low none called_is = enter_right h _ called k _ _
+    (λ m0. look_right h _ _ called k _
     (λ n. cond (n == 2) (put_stored h args.a 1) (only_commit h args.a)) low (omega arith)
-    (omega arith)
-    (λ now same. by_state now (now (5 * args.a) == 2) refl))
+    (omega arith) (λ now same. by_state now (now _ == 2) refl))
   where
     called : Called
     called = record { method = OfCache Flush; args = args }
@@ -387,10 +336,9 @@ evict_right : (h : Header) (k : Locals) (before : Memory) (args : Args) → h.su
     → k.called ≡ Some (record { method = OfCache Evict; args = args })
     → DoesRight (cache h) (at [] false false (record { method = OfCache Evict; args = args })) k
     before (evict h args.a)
-evict_right h k before args is low none called_is =
-    enter_right h args.a called k before (step (Load (state_cell args.a)) rest)
-    (λ m0. look_right h args.a (5 * args.a) called k m0 rest low (omega arith) (omega arith)
-    (λ now same. by_state now (now (5 * args.a) == 2) refl (now (5 * args.a) == 0) refl))
+evict_right h k before args is low none called_is = enter_right h _ called k _ _
+    (λ m0. look_right h _ _ called k _ rest low (omega arith) (omega arith)
+    (λ now same. by_state now (now _ == 2) refl (now _ == 0) refl))
   where
     called : Called
     called = record { method = OfCache Evict; args = args }
@@ -415,18 +363,14 @@ answer_cached_right : (h : Header) (k : Locals) (before : Memory) (args : Args) 
     → DoesRight (cache h)
     (locked h args.a false false (record { method = OfCache Read; args = args })) k before
     (answer_cached h args.a)
-answer_cached_right h k before args is low none called_is there =
-    look_twice h n (5 * n + 1) (5 * n + 2) called k before
-    (λ x y. in_order (Give (lock_of h n) ∷ Mark (Return (joined x y)) ∷ []))
-    low (omega arith) (omega arith) (omega arith) (omega arith)
-    (λ now same.
-    answer_right (cache h) k now (lock_of h n) called (joined (now (5 * n + 1)) (now (5 * n + 2)))
-    none called_is
+answer_cached_right h k before args is low none called_is there = look_twice h n _ _ called k _
+    (λ x y. in_order (Give (lock_of h n) ∷ Mark (Return (joined x y)) ∷ [])) low (omega arith)
+    (omega arith) (omega arith) (omega arith)
+    (λ now same. answer_right (cache h) k now (lock_of h n) called (joined _ _) none called_is
     (λ state s.
     let few = small (chunk_of now n) (sound_at h now state n is s low) in
-    shown_at h now state n is s low ∙ shown_cached (chunk_of now n)
-    (ap (λ c. c.state == 0) same ∙ there)
-    ∙ sym (joined_small (now (5 * n + 1)) (now (5 * n + 2)) few.cached_lo few.cached_hi)))
+    shown_at h _ _ n is s low ∙ shown_cached _ (cc)
+    ∙ sym (joined_small _ _ few.cached_lo few.cached_hi)))
   where
     n : ℕ
     n = args.a

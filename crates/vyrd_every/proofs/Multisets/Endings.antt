@@ -35,19 +35,16 @@ pub gives_up_right : (h : Header) (k : Locals) (shown : Memory) (called : Called
     → is_observer called.method ≡ false
     → ((state : Amounts) → next_state called.method called.args 0 state ≡ Some state)
     → DoesRight (multiset h) (at [] false false called) k shown gives_up
-gives_up_right h k shown called none is mutator stays =
-    lone_commit_right (multiset h) [] k shown called (returns 0)
+gives_up_right h k shown called none is mutator stays = lone_commit_right _ [] k _ called _
     (λ state m. record {
       called = called;
       is_called = is;
       reply = 0;
       returns = refl;
       next = state;
-      allowed = stays state;
+      allowed = stays _;
       means = m;
-    })
-    (λ now rely. returns_right (multiset h) k now true called 0 none
-    (mutates k called 0 is mutator))
+    }) (λ now rely. returns_right _ k _ _ called 0 none (mutates k called 0 is mutator))
 
 -- a change of one slot's state leaves alone what it has to
 changes_one : (h : Header) (s : Situation) (k : Locals) (shown : Memory) (slot state : ℕ)
@@ -167,19 +164,7 @@ pub record AreReserved (h : Header) (k : Locals) (shown : Memory) (args : Args)
 pub still_reserved : (h : Header) (k k' : Locals) (shown now : Memory) (args : Args)
     (slot_x slot_y : ℕ) → AreReserved h k shown args slot_x slot_y
     → k'.owned ≡ k.owned → Keeps k shown now → AreReserved h k' now args slot_x slot_y
-still_reserved h k k' shown now args slot_x slot_y r same keeps = record {
-  low_x = r.low_x;
-  low_y = r.low_y;
-  of_x = r.of_x;
-  of_y = r.of_y;
-  mine_x = ap (λ o. o slot_x) same ∙ r.mine_x;
-  mine_y = ap (λ o. o slot_y) same ∙ r.mine_y;
-  one_x = (keeps.slots slot_x r.mine_x r.one_x).0;
-  one_y = (keeps.slots slot_y r.mine_y r.one_y).0;
-  has_x = (keeps.slots slot_x r.mine_x r.one_x).1 ∙ r.has_x;
-  has_y = (keeps.slots slot_y r.mine_y r.one_y).1 ∙ r.has_y;
-  apart = r.apart;
-}
+still_reserved h k k' shown now args slot_x slot_y r same keeps = search arith
 
 -- the call of a pair
 abbrev pub pair_of : Args → Called
@@ -217,28 +202,8 @@ pair_leaves : (h : Header) (s : Situation) (k : Locals) (shown : Memory) (slot_x
     → Access (multiset h) s (2 * slot_x) → Access (multiset h) s (2 * slot_y)
     → k.owned slot_x ≡ true → k.owned slot_y ≡ true
     → Guarantee (multiset h) s k shown (with_cell (with_cell shown (2 * slot_x) 2) (2 * slot_y) 2)
-pair_leaves h s k shown slot_x slot_y access_x access_y mine_x mine_y = record {
-  others = λ cell low free. other_cell mid (2 * slot_y) 2 cell
-      (outside cell (2 * slot_y) free access_y)
-      ∙ other_cell shown (2 * slot_x) 2 cell (outside cell (2 * slot_x) free access_x);
-  reserved = λ i one other.
-      let not_x : i ≢ slot_x = λ same. never other
-      (rw same mine_x) in
-      let not_y : i ≢ slot_y = λ same. never other
-      (rw same mine_y) in (
-        other_cell mid (2 * slot_y) 2 (2 * i) (λ e. not_y (omega (arith, e)))
-            ∙ other_cell shown (2 * slot_x) 2 (2 * i) (λ e. not_x (omega (arith, e))),
-        other_cell mid (2 * slot_y) 2 (2 * i + 1) (λ e. omega (arith, e))
-            ∙ other_cell shown (2 * slot_x) 2 (2 * i + 1) (λ e. omega (arith, e)),
-      );
-}
-  where
-    mid : Memory
-    mid = with_cell shown (2 * slot_x) 2
-
-    outside : (cell word : ℕ) → holds s (lock_of h (cell / 8)) ≡ false → Access (multiset h) s word
-        → cell ≢ word
-    outside cell word free access = search (never, free, lock_of, arith)
+pair_leaves h s k shown slot_x slot_y access_x access_y mine_x mine_y = search
+    (other_cell, never, lock_of, arith)
 
 pub validate_both_right : (h : Header) (locks : List ℕ) (k : Locals) (shown : Memory) (args : Args)
     (first second slot_x slot_y : ℕ)

@@ -26,45 +26,12 @@ view_is : (h : Header) (log : List Entry) (state : Amounts) → h.subject ≡ Mu
     → IsMultiset h (shown_by log) state
     → view_of_words h (old_words_after h log) ≡ state
 unfolding view_of_words old_words_after
-view_is h log state is m =
-    ap (λ s. collected
-    (parts_of s h.size (map (old_value_after (old_effects log)) (numbers_below (plain_words h)))))
-    is
-    ∙ ap collected
-    (flat_map_alike
-    (slot_parts (map (old_value_after (old_effects log)) (numbers_below (plain_words h))))
-    (parts_in (shown_by log)) 0 (4 * h.size) each)
-    ∙ collected-is (flat_map (parts_in (shown_by log)) (numbers_below (4 * h.size))) state m.formed
-    m.shows
-  where
-    word : (cell : ℕ) → cell < 8 * h.size
-        → slice_index (map (old_value_after (old_effects log)) (numbers_below (plain_words h))) cell
-        ≡ shown_by log cell
-    word cell low = element_below (old_value_after (old_effects log)) (plain_words h) cell
-        (subst (λ s. cell < plain_words_of s h.size) (sym is) low)
-
-    each : (i : ℕ) → 0 ≤ i → i < 0 + 4 * h.size
-        → slot_parts (map (old_value_after (old_effects log)) (numbers_below (plain_words h))) i
-        ≡ parts_in (shown_by log) i
-    each i from to =
-        ap (λ a. cond (a == 2)
-        ((
-          slice_index (map (old_value_after (old_effects log)) (numbers_below (plain_words h)))
-              (2 * i + 1),
-          1,
-        ) ∷ []) [])
-        (word (2 * i) (omega arith))
-        ∙ ap (λ v. cond (shown_by log (2 * i) == 2) ((v, 1) ∷ []) [])
-        (word (2 * i + 1) (omega arith))
+view_is h log state is m = search
+    (collected, parts_of, flat_map_alike, shown_by, collected-is, element_below, arith)
 
 -- nothing was written yet
 empty_means : (h : Header) → IsMultiset h (shown_by []) start.shown
-empty_means h = record {
-  sound = λ i low valid. cc;
-  free = λ b low. refl;
-  shows = λ q. given_nothing (parts_in (shown_by [])) q 0 (4 * h.size) (λ j from to. refl);
-  formed = record { rising = tt; some = tt };
-}
+empty_means h = search (given_nothing, shown_by, arith)
 
 -- it fits a header of the multiset
 pub multiset_fits : (h : Header) → h.version ≡ 1 → h.subject ≡ Multiset → Fits (multiset h)

@@ -43,16 +43,14 @@ pub take_right : (h : Header) (s : Situation) (k : Locals) (shown : Memory) (buc
     → ((now : Memory) → Rely (multiset h) (after_act s (Take (lock_of h bucket))) k shown now
     → DoesRight (multiset h) (after_act s (Take (lock_of h bucket))) k now later)
     → DoesRight (multiset h) s k shown (lock h bucket later)
-take_right h s k shown bucket later above rest = take (multiset h) s k shown
-    (lock_of h bucket) later above rest
+take_right h s k shown bucket later above rest = take _ s k _ _ _ above rest
 
 pub give_right : (h : Header) (s : Situation) (k : Locals) (shown : Memory) (bucket : ℕ)
     (later : Script) → s.in_block ≡ false
     → ((now : Memory) → Rely (multiset h) (after_act s (Give (lock_of h bucket))) k shown now
     → DoesRight (multiset h) (after_act s (Give (lock_of h bucket))) k now later)
     → DoesRight (multiset h) s k shown (unlock h bucket later)
-give_right h s k shown bucket later out rest = give (multiset h) s k shown (lock_of h bucket) later
-    out rest
+give_right h s k shown bucket later out rest = give _ s k _ _ _ out rest
 
 -- a store outside a block, to one of the two words of a slot
 pub store_right : (h : Header) (s : Situation) (k next : Locals) (shown : Memory) (cell value j : ℕ)
@@ -69,40 +67,8 @@ pub store_right : (h : Header) (s : Situation) (k next : Locals) (shown : Memory
     → ((now : Memory) → Rely (multiset h) s next (with_cell shown cell value) now
     → DoesRight (multiset h) s next now later)
     → DoesRight (multiset h) s k shown (perform (Store cell value) later)
-store_right h s k next shown cell value j later out access is mine kept fresh means pending called
-    answered rest = (
-      next,
-      record {
-        reaches = access;
-        guarantee = subst (Guarantee (multiset h) s k shown) (sym here) guarantee;
-        kept = λ i now_mine was one. cc (kept i now_mine was one);
-        fresh = λ i now_mine wasnt. (
-          (fresh i now_mine wasnt).0,
-          cc ((fresh i now_mine wasnt).1),
-        );
-        leads = λ state m. rw here (means state m);
-        pending = pending;
-        called = called;
-        answers = answered;
-      },
-      λ now rely. rest now (rw (← here) rely),
-    )
-  where
-    here : shown_after s k shown (Store cell value) ≡ with_cell shown cell value
-    here = cc
-
-    guarantee : Guarantee (multiset h) s k shown (with_cell shown cell value)
-    guarantee = record {
-      others = λ other low free. other_cell shown cell value other
-          (λ same. never free (rw same access.held));
-      reserved = λ i one other. apart i one other is;
-    }
-      where
-        apart : (i : ℕ) → shown (2 * i) ≡ 1 → k.owned i ≡ false → (cell ≡ 2 * j)
-            ⊎ (cell ≡ 2 * j + 1)
-            → (with_cell shown cell value (2 * i) ≡ shown (2 * i))
-            × (with_cell shown cell value (2 * i + 1) ≡ shown (2 * i + 1))
-        apart i one other e3 = search (never, shown, other_cell, arith)
+store_right h s k next shown cell value j later e9 e10 e11 e12 e13 e14 e15 e16 e17 e18 e19 = search
+    (other_cell, never, arith)
 
 -- what is said of slots that were reserved holds of them still
 pub record Keeps (k : Locals) (shown now : Memory) : Type 0 where
@@ -233,7 +199,7 @@ pub find_from_right : (h : Header) (s : Situation) (k : Locals) (shown : Memory)
     → ((now : Memory) → Keeps k shown now → DoesRight (multiset h) s k now (found None))
     → DoesRight (multiset h) s k shown (find_from left slot value found)
 find_from_right h s k shown zero slot value found out each some none =
-    none shown (keeps_rely h s k shown shown (rely_same (multiset h) s k shown))
+    search (keeps_rely, rely_same, arith)
 find_from_right h s k shown (suc left) slot value found out each some none =
     load_right (multiset h) s k shown (2 * slot)
     (λ state. cond (state == 0) (reserve slot value (found (Some slot)))
@@ -243,8 +209,7 @@ find_from_right h s k shown (suc left) slot value found out each some none =
     (λ now rely. by_state now rely
     (find_from_right h s k now left (slot + 1) value found out (held_next h s slot left each)
     (λ j from to last one has keeps apart. some j (omega (arith, from)) (omega (arith, to)) last one
-    has
-    (keeps_more k shown now last (keeps_rely h s k shown now rely) keeps)
+    has (keeps_more k shown now last (keeps_rely h s k shown now rely) keeps)
     (λ i mine was. apart i mine ((rely.owned i mine).0 ∙ was)))
     (λ last keeps. none last (keeps_more k shown now last (keeps_rely h s k shown now rely) keeps)))
     (shown (2 * slot) == 0) refl)
@@ -263,8 +228,7 @@ find_from_right h s k shown (suc left) slot value found out each some none =
         (λ last one has keeps pending. some slot (omega arith) (omega arith) last one has
         (keeps_more k shown now last (keeps_rely h s k shown now rely) keeps)
         (λ i mine was same. zero_one (now (2 * slot)) free
-        (subst (λ x. now (2 * x) ≡ 1) same ((rely.owned i mine).0 ∙ was)))
-        pending)
+        (rw (← same) ((rely.owned i mine).0 ∙ was))) pending)
     by_state now rely more false e = more
 
 -- the one lock is given back
@@ -294,19 +258,13 @@ pub find_right : (h : Header) (k : Locals) (shown : Memory) (value : ℕ) (calle
     (found None))
     → DoesRight (multiset h) (at [] false false called) k shown (find h Correct value found)
 find_right h k shown value called found low some none =
-    let b : ℕ = bucket_of h value in
-    take_right h (at [] false false called) k shown b
-    (find_from 4 (4 * b) value (λ slot. unlock h b (found slot))) (λ held e. cc)
-    (λ now rely.
-    let first : Keeps k shown now = keeps_rely h (at (lock_of h b ∷ []) false false called) k shown
-    now rely in
-    find_from_right h (at (lock_of h b ∷ []) false false called) k now 4 (4 * b) value
-    (λ slot. unlock h b (found slot)) refl
-    (bucket_slots h b false false called [] low)
-    (λ j from to last one has keeps apart pending.
+    let b : ℕ = bucket_of h _ in
+    take_right h _ k _ b _ (λ held e. cc) (λ now rely.
+    let first : Keeps k shown now = keeps_rely h (at _ _ _ called) k _ _ rely in
+    find_from_right h _ k _ 4 _ _ (λ slot. unlock h b (found slot)) refl
+    (bucket_slots h b _ _ called [] low) (λ j from to last one has keeps apart pending.
     let of : j / 4 ≡ b = omega (arith, from, to) in
-    give_last h (with_slot k j pending) last b false called (found (Some j))
-    (λ end kept.
+    give_last h _ _ b _ called _ (λ end kept.
     let there = kept.slots j (has_slot k j pending) one in
     some j (omega (arith, from, to, low)) of end there.0 (there.1 ∙ has)
     (record {
@@ -315,10 +273,8 @@ find_right h k shown value called found low some none =
           let then_ = keeps.slots i mine mid.0 in
           let after = kept.slots i (had_slot k j i pending mine) then_.0 in
           (after.0, after.1 ∙ then_.1 ∙ mid.1);
-    })
-    (λ i mine was. apart i mine (first.slots i mine was).0)
-    pending))
-    (λ last keeps. give_last h k last b false called (found None)
+    }) (λ i mine was. apart i mine (first.slots i mine was).0)
+    pending)) (λ last keeps. give_last h k _ b _ called _
     (λ end kept. none end
     (keeps_more k shown last end (keeps_more k shown now last first keeps) kept))))
 
@@ -344,18 +300,15 @@ pub search_from_right : (h : Header) (s : Situation) (k : Locals) (shown : Memor
     → ((j : ℕ) → slot ≤ j → j < slot + left → now (2 * j) ≡ 2 → now (2 * j + 1) ≡ value → ⊥)
     → DoesRight (multiset h) s k now (ended None))
     → DoesRight (multiset h) s k shown (search_from left slot value ended)
-search_from_right h s k shown zero slot value ended out each some none =
-    search (shown, rely_same, arith)
-search_from_right h s k shown (suc left) slot value ended out each some none =
-    load_right (multiset h) s k shown (2 * slot)
+search_from_right h s k shown zero slot value ended out each some none = grind arith
+search_from_right h s k shown (suc left) slot value ended out each some none = load_right
+    (multiset h) s k shown (2 * slot)
     (λ state. cond (state == 2)
     (compare slot value (ended (Some slot)) (search_from left (slot + 1) value ended))
-    (search_from left (slot + 1) value ended))
-    state_held out
+    (search_from left (slot + 1) value ended)) state_held out
     (λ now rely. by_state now rely
     (λ then_ rely'. search_from_right h s k then_ left (slot + 1) value ended out
-    (held_next h s slot left each))
-    (shown (2 * slot) == 2) refl)
+    (held_next h s slot left each)) (shown (2 * slot) == 2) refl)
   where
     state_held : Access (multiset h) s (2 * slot)
     state_held = search (state_access, arith)
@@ -381,11 +334,9 @@ search_from_right h s k shown (suc left) slot value ended out each some none =
         by_place now rely' more j from to valid has true e =
             let same : j ≡ slot = same_of j slot e in
             let valid_here : now (2 * slot) ≡ 2 = rw (← same) valid in
-            let has_here : now (2 * slot + 1) ≡ value = rw (← same)
-            has in
+            let has_here : now (2 * slot + 1) ≡ value = rw (← same) has in
             here (sym (rely'.held (2 * slot) state_held ∙ rely.held (2 * slot) state_held)
-            ∙ valid_here)
-            (sym (rely'.held (2 * slot + 1) value_held) ∙ has_here)
+            ∙ valid_here) (sym (rely'.held (2 * slot + 1) value_held) ∙ has_here)
         by_place now rely' more j from to valid has false e =
             let apart = apart_of j slot e in
             more j (omega (arith, apart, from)) (omega (arith, to)) valid has
@@ -395,13 +346,12 @@ search_from_right h s k shown (suc left) slot value ended out each some none =
         → On h s k left slot value ended then_ → (b : Bool) → (now (2 * slot + 1) == value) ≡ b
         → DoesRight (multiset h) s k then_
         (cond b (ended (Some slot)) (search_from left (slot + 1) value ended))
-    by_value now rely valid then_ rely' on true e =
-        some slot (omega arith) (omega arith) then_
+    by_value now rely valid then_ rely' on true e = some slot (omega arith) (omega arith) then_
+        (rely_more (multiset h) s k shown now then_ rely rely') (rely'.held (2 * slot) state_held
+        ∙ rely.held (2 * slot) state_held
+        ∙ valid) (rely'.held (2 * slot + 1) value_held ∙ same_of (now (2 * slot + 1)) value e)
+    by_value now rely valid then_ rely' on false e = later then_
         (rely_more (multiset h) s k shown now then_ rely rely')
-        (rely'.held (2 * slot) state_held ∙ rely.held (2 * slot) state_held ∙ valid)
-        (rely'.held (2 * slot + 1) value_held ∙ same_of (now (2 * slot + 1)) value e)
-    by_value now rely valid then_ rely' on false e =
-        later then_ (rely_more (multiset h) s k shown now then_ rely rely')
         (λ v has. apart_of (now (2 * slot + 1)) value e (sym (rely'.held (2 * slot + 1) value_held)
         ∙ has)) on
 
@@ -411,11 +361,9 @@ search_from_right h s k shown (suc left) slot value ended out each some none =
         → DoesRight (multiset h) s k now
         (cond b (compare slot value (ended (Some slot)) (search_from left (slot + 1) value ended))
         (search_from left (slot + 1) value ended))
-    by_state now rely on true e =
-        load_right (multiset h) s k now (2 * slot + 1)
+    by_state now rely on true e = load_right (multiset h) s k now (2 * slot + 1)
         (λ loaded. cond (loaded == value) (ended (Some slot))
-        (search_from left (slot + 1) value ended))
-        value_held out
+        (search_from left (slot + 1) value ended)) value_held out
         (λ then_ rely'. by_value now rely (same_of (shown (2 * slot)) 2 e) then_ rely'
         (on then_ (rely_more (multiset h) s k shown now then_ rely rely'))
         (now (2 * slot + 1) == value) refl)

@@ -62,11 +62,9 @@ unlock_two : (h : Header) (k : Locals) (shown : Memory) (called : Called) (first
     → ((i : ℕ) → k.owned i ≡ false) → k.called ≡ Some called → is_observer called.method ≡ false
     → DoesRight (multiset h) (at (lock_of h second ∷ lock_of h first ∷ []) true false called) k
     shown (unlock h second (unlock h first (returns 1)))
-unlock_two h k shown called first second apart none is mutator =
-    give_right h (at (lock_of h second ∷ lock_of h first ∷ []) true false called) k shown second
-    (unlock h first (returns 1)) refl
-    (λ now rely. rw (gone (lock_of h second) (lock_of h first ∷ []) ∙ ap (λ b. cond (not b) (lock_of
-    h first ∷ []) []) apart)
+unlock_two h k shown called first second apart none is mutator = give_right h _ k _ _ _ refl
+    (λ now rely. rw (gone (lock_of h second) (lock_of h first ∷ [])
+    ∙ ap (λ b. cond (not b) (lock_of h first ∷ []) []) apart)
     (unlock_one h k now called first none is mutator))
 
 -- both slots become valid under the locks of their buckets, of which the lower one is locked first
@@ -154,27 +152,21 @@ insert_right : (h : Header) → h.subject ≡ Multiset → (k : Locals) (shown :
     → DoesRight (multiset h)
     (at [] false false (record { method = OfMultiset Insert; args = args })) k shown
     (find h Correct args.a (inserted h args.a))
-insert_right h ours k shown args none is =
-    find_right h k shown args.a called (inserted h args.a) (bucket_low h ours args.a)
-    (λ j low of now one has keeps apart pending.
-    take_right h (at [] false false called) (with_slot k j pending) now (bucket_of h args.a) _
-    (λ held e. cc)
-    (λ then_ rely.
+insert_right h ours k shown args none is = find_right h k _ _ called (inserted h _)
+    (bucket_low h ours _) (λ j low of now one has keeps apart pending. take_right h _ _ _ _ _
+    (λ held e. cc) (λ then_ rely.
     let state_is : then_ (2 * j) ≡ 1 = (rely.owned j (has_slot k j pending)).0 ∙ one in
     let value_is : then_ (2 * j + 1) ≡ args.a = (rely.owned j (has_slot k j pending)).1 ∙ has in
-    commit_state_right h (with_slot k j pending) then_ called (bucket_of h args.a) j 2 low of is
-    refl (λ same. has_slot k j pending)
+    commit_state_right h _ _ called _ j 2 low of is refl (λ same. has_slot k j pending)
     (λ last same_state same_value before m. (
       plus_amount before args.a 1,
       refl,
-      made_valid h last (with_cell last (2 * j) 2) before j args.a m low
-          (λ cell not_state not_value. other_cell last (2 * j) 2 cell not_state)
-          (λ two. one_two (last (2 * j)) (same_state ∙ state_is) two)
-          (changed_cell last (2 * j) 2)
+      made_valid h last (with_cell last (2 * j) 2) before j args.a
+          m low (λ cell not_state not_value. other_cell last (2 * j) 2 cell not_state)
+          (λ two. one_two (last (2 * j)) (same_state ∙ state_is) two) (changed_cell last (2 * j) 2)
           (other_cell last (2 * j) 2 (2 * j + 1) (λ e. omega (arith, e)) ∙ same_value ∙ value_is)
           of,
-    ))))
-    (λ now keeps. gives_up_right h k now called none is refl (λ state. refl))
+    )))) (λ now keeps. gives_up_right h k _ called none is refl (λ state. refl))
   where
     called : Called
     called = record { method = OfMultiset Insert; args = args }
@@ -185,9 +177,8 @@ pair_found_right : (h : Header) (k : Locals) (shown : Memory) (args : Args) (slo
     → k.called ≡ Some (pair_of args)
     → DoesRight (multiset h) (at [] false false (pair_of args)) k shown
     (second_found h Correct args.a args.b slot_x (Some slot_y))
-pair_found_right h k shown args slot_x slot_y r is =
-    commit_both_right h k shown args (min p q) (max p q) slot_x slot_y r is (ordered p q)
-    (either_x (slot_x / 4) p q r.of_x) (either_y (slot_y / 4) p q r.of_y)
+pair_found_right h k shown args slot_x slot_y r is = commit_both_right h k _ _ _ _ _ _ r is
+    (ordered p q) (either_x (slot_x / 4) p q r.of_x) (either_y (slot_y / 4) p q r.of_y)
   where
     p : ℕ
     p = bucket_of h args.a
@@ -212,33 +203,29 @@ insert_pair_right : (h : Header) → h.subject ≡ Multiset → (k : Locals) (sh
     → DoesRight (multiset h) (at [] false false (pair_of args)) k shown
     (find h Correct args.a (first_found h Correct args.a args.b))
 insert_pair_right h ours k shown args none is =
-    find_right h k shown args.a (pair_of args) (first_found h Correct args.a args.b)
-    (bucket_low h ours args.a)
-    (λ x low_x of_x now one_x has_x keeps_x apart_x pending_x.
-    find_right h (with_slot k x pending_x) now args.b (pair_of args)
-    (second_found h Correct args.a args.b x) (bucket_low h ours args.b)
+    find_right h k _ _ (pair_of args) (first_found h Correct args.a args.b) (bucket_low h ours _)
+    (λ x low_x of_x now one_x has_x keeps_x apart_x pending_x. find_right h (with_slot k x _) now
+    args.b (pair_of args) (second_found h Correct args.a args.b x) (bucket_low h ours _)
     (λ y low_y of_y then_ one_y has_y keeps_y apart_y pending_y.
     let there = keeps_y.slots x (has_slot k x pending_x) one_x in
-    pair_found_right h (with_slot (with_slot k x pending_x) y pending_y) then_ args x y
+    pair_found_right h _ _ args x y
     (record {
       low_x = low_x;
       low_y = low_y;
       of_x = of_x;
       of_y = of_y;
-      mine_x = had_slot (with_slot k x pending_x) y x pending_y (has_slot k x pending_x);
+      mine_x = had_slot
+          (with_slot k x pending_x) y x pending_y (has_slot k x pending_x);
       mine_y = has_slot (with_slot k x pending_x) y pending_y;
       one_x = there.0;
       one_y = one_y;
       has_x = there.1 ∙ has_x;
       has_y = has_y;
       apart = apart_y x (has_slot k x pending_x) one_x;
-    })
-    is)
-    (λ then_ keeps.
+    }) is) (λ then_ keeps.
     let there = keeps.slots x (has_slot k x pending_x) one_x in
-    undo_right h (with_slot k x pending_x) then_ (pair_of args) args.a x low_x of_x
-    (has_slot k x pending_x) there.0 is refl (λ state. refl)))
-    (λ now keeps. gives_up_right h k now (pair_of args) none is refl (λ state. refl))
+    undo_right h _ _ (pair_of _) _ x low_x of_x (has_slot k x pending_x) there.0 is refl
+    (λ state. refl))) (λ now keeps. gives_up_right h k _ (pair_of _) none is refl (λ state. refl))
 
 -- what is there and what isn't
 is_there_test : (n : ℕ) → 1 ≤ n → not (n == 0) ≡ true
@@ -261,13 +248,11 @@ search_right : (h : Header) → h.subject ≡ Multiset → (k : Locals) (shown :
     → DoesRight (multiset h) (at [] false false called) k shown (search_in h x ended)
 search_right h ours k shown called x ended some none =
     let b : ℕ = bucket_of h x in
-    take_right h (at [] false false called) k shown b (search_from 4 (4 * b) x ended) (λ held e. cc)
-    (λ now rely.
-    search_from_right h (at (lock_of h b ∷ []) false false called) k now 4 (4 * b) x ended refl
-    (bucket_slots h b false false called [] (bucket_low h ours x))
+    take_right h _ k _ b _ (λ held e. cc)
+    (λ now rely. search_from_right h _ k _ 4 _ x ended refl
+    (bucket_slots h b _ _ called [] (bucket_low h ours x))
     (λ j from to last rely' valid has. some j (omega (arith, from, to, bucket_low h ours x))
-    (omega (arith, from, to)) last valid has)
-    (λ last rely' nowhere. none last nowhere))
+    (omega (arith, from, to)) _ valid has) (λ last rely' nowhere. none _ nowhere))
 
 delete_right : (h : Header) → h.subject ≡ Multiset → (k : Locals) (shown : Memory) (args : Args)
     → ((i : ℕ) → k.owned i ≡ false)
@@ -327,36 +312,27 @@ lookup_right : (h : Header) → h.subject ≡ Multiset → (k : Locals) (shown :
     → DoesRight (multiset h)
     (at [] false false (record { method = OfMultiset Lookup; args = args })) k shown
     (search_in h args.a (looked_up h args.a))
-lookup_right h ours k shown args none is =
-    search_right h ours k shown called args.a (looked_up h args.a)
-    (λ j low of now valid has. sees now 1 (λ state m.
-    cc (is_there_test (amount_of state args.a) (is_there h now state j args.a m low valid has))))
-    (λ now nowhere. sees now 0 (λ state m.
-    cc (isnt_there_test (amount_of state args.a) (isnt_there h now state args.a m nowhere))))
-  where
-    called : Called
-    called = record { method = OfMultiset Lookup; args = args }
-
-    sees : (now : Memory) (reply : ℕ)
-        → ((state : Amounts) → IsMultiset h now state → answer_in state (OfMultiset Lookup) args
-        ≡ reply)
-        → DoesRight (multiset h) (at (lock_of h (bucket_of h args.a) ∷ []) false false called) k now
-        (unlock h (bucket_of h args.a) (returns reply))
-    sees now reply seen = search (answer_right, lock_of, arith)
+lookup_right h ours k shown args none is = search (
+  search_right,
+  is_there_test,
+  is_there,
+  isnt_there_test,
+  isnt_there,
+  lock_of,
+  answer_right,
+  arith,
+)
 
 -- the procedure of each operation
 procedure_right : (h : Header) → h.subject ≡ Multiset → (k : Locals) (shown : Memory)
     (method : Method) (args : Args) → subject_of method ≡ Multiset → ((i : ℕ) → k.owned i ≡ false)
     → k.called ≡ Some (record { method = method; args = args })
     → DoesRight (multiset h) (just_called method) k shown (procedure_of h Correct method args)
-procedure_right h ours k shown (OfMultiset Insert) args of none is = insert_right h ours k shown
-    args none is
-procedure_right h ours k shown (OfMultiset InsertPair) args of none is = insert_pair_right h ours k
-    shown args none is
-procedure_right h ours k shown (OfMultiset Delete) args of none is = delete_right h ours k shown
-    args none is
-procedure_right h ours k shown (OfMultiset Lookup) args of none is = lookup_right h ours k shown
-    args none is
+procedure_right h ours k shown (OfMultiset Insert) args of none is = search (insert_right, arith)
+procedure_right h ours k shown (OfMultiset InsertPair) args of none is = search
+    (insert_pair_right, arith)
+procedure_right h ours k shown (OfMultiset Delete) args of none is = search (delete_right, arith)
+procedure_right h ours k shown (OfMultiset Lookup) args of none is = search (lookup_right, arith)
 procedure_right h ours k shown (OfCache other) args of none is = cc
 procedure_right h ours k shown (OfTree other) args of none is = cc
 procedure_right h ours k shown (OfBuffers other) args of none is = cc
@@ -367,5 +343,4 @@ procedure_right h ours k shown (OwnOnce i) args of none is = cc
 -- so each operation that may be called does right
 pub multiset_right : (h : Header) (op : Op) → h.subject ≡ Multiset → is_callable h op ≡ true
     → IsRight (multiset h) (multiset_procedure h Correct) op
-multiset_right h op is callable k shown none called =
-    procedure_right h is k shown op.method op.args (callable_method h op callable ∙ is) none called
+multiset_right h op is callable = search (procedure_right, callable_method, arith)

@@ -116,13 +116,7 @@ pub still_ascending : (h : Header) (s : Situation) (k : TreeLocals) (g : Shape) 
     (g' : Shape) (m' : Memory) (called : Called) (level key node : ℕ)
     → OwnsUnseen h k g m → Ascending k g m called level key node → TreeRely h s k g m g' m'
     → Ascending k g' m' called level key node
-still_ascending h s k g m g' m' called level key node unseen up rely = record {
-  called_is = up.called_is;
-  fresh = up.fresh;
-  hanging = up.hanging;
-  level_is = rely.grows.level node (unseen.hanging node up.hanging).0 ∙ up.level_is;
-  low_is = rely.grows.low node (unseen.hanging node up.hanging).0 ∙ up.low_is;
-}
+still_ascending h s k g m g' m' called level key node unseen up rely = search arith
 
 -- a node covers its own low
 covers_low : (size : ℕ) (g : Shape) (m : Memory) (n key : ℕ) → IsLinked size g m → g.linked n ≡ true
@@ -202,11 +196,7 @@ none_leads : (k : TreeLocals) (g : Shape) (m : Memory) (node n : ℕ) (key : ℕ
     → (x : ℕ) → k.hanging ≢ Some x → Hangs g m x → level_at m n ≢ 0 → Each (λ entry. entry.1 ≢ x)
     (front ++ (key, node) ∷ back)
 none_leads k g m node n key front back mine linked same x other hangs some =
-    let all : Each (λ entry. entry.1 ≢ x) (front ++ back) = subst (Each (λ entry. entry.1 ≢ x)) same
-    (hangs.1 n linked some) in
-    each_join (λ entry. entry.1 ≢ x) front ((key, node) ∷ back)
-    (each_front (λ entry. entry.1 ≢ x) front back all)
-    ((λ e. other (mine ∙ ap Some e)), each_back (λ entry. entry.1 ≢ x) front back all)
+    search (each_join, each_front, each_back, arith)
 
 -- in a node with room
 pub room_right : (h : Header) (args : Args) (k : TreeLocals) (g : Shape) (m : Memory)

@@ -54,17 +54,7 @@ pub rely_with : (h : Header) (locks : List ℕ) (method : Method) (committed a b
     (k : TreeLocals) (ws : List (ℕ × ℕ)) (g g' : Shape) (m m' : Memory)
     → TreeRely h (holding locks method committed a) (with_pending k ws) g m g' m'
     → TreeRely h (holding locks method committed b) k g m g' m'
-rely_with h locks method committed a b k ws g g' m m' r = record {
-  grows = r.grows;
-  held = r.held;
-  fresh = r.fresh;
-  used = r.used;
-  hanging = r.hanging;
-  root = r.root;
-  count = r.count;
-  tree = r.tree;
-  calm = λ held out. r.calm held refl;
-}
+rely_with h locks method committed a b k ws g g' m m' r = search arith
 
 pub tree_open : (h : Header) (locks : List ℕ) (method : Method) (committed : Bool) (k : TreeLocals)
     (g : Shape) (m : Memory) (later : Script) → IsLinked h.size g m
@@ -199,12 +189,8 @@ pub store_entries : (h : Header) (method : Method) (committed : Bool) (k : TreeL
     → InBlock h method committed k g m n ws (write_entries n place xs later)
 store_entries h method committed k g m n place [] ws later tree at high fits rest = rest
 store_entries h method committed k g m n place ((key, value) ∷ xs) ws later tree at high fits rest =
-    store_in_node h method committed k g m n (4 + place) key ws
-    (perform (Store (12 * n + (8 + place)) value) (write_entries n (place + 1) xs later)) tree at
-    high (omega (arith, fits)) (λ e. omega (arith, e))
-    (store_in_node h method committed k g m n (8 + place) value ((12 * n + (4 + place), key) ∷ ws)
-    (write_entries n (place + 1) xs later) tree at high
-    (omega (arith, fits)) (λ e. omega (arith, e))
+    store_in_node h _ _ k g m n _ _ _ _ tree at high (omega (arith, fits)) (λ e. omega (arith, e))
+    (store_in_node h _ _ k g m n _ _ _ _ tree at high (omega (arith, fits)) (λ e. omega (arith, e))
     (store_entries h method committed k g m n (place + 1) xs
     ((12 * n + (8 + place), value) ∷ (12 * n + (4 + place), key) ∷ ws) later tree at high
     (omega (arith, fits)) rest))
@@ -284,14 +270,11 @@ node_rewritten size m n many front back xs fits before few = record {
 pub entries_kept : (h : Header) (s : Situation) (k : TreeLocals) (g : Shape) (m : Memory) (n : ℕ)
     (g' : Shape) (m' : Memory) → IsLinked h.size g m
     → AtNode h s k g m n → TreeRely h s k g m g' m' → entries_at m' n ≡ entries_at m n
-entries_kept h s k g m n g' m' tree at rely =
-    ap (entries_from m' n 0) (rely.held n 1 at.linked at.held (omega arith))
-    ∙ entries_alike m m' n 0 (count_at m n)
-    (λ j from to. (let few = tree.few n at.linked in (
-      rely.held n (4 + j) at.linked at.held (omega arith),
-      rely.held n (8 + j) at.linked at.held
-          (omega arith),
-    )))
+entries_kept h s k g m n g' m' tree at rely = ap (entries_from m' n 0)
+    (rely.held n 1 at.linked at.held (omega arith)) ∙ entries_alike m m' n 0 _
+    (λ j from to.
+    (let few = tree.few n at.linked in
+    (rely.held n _ at.linked at.held (omega arith), rely.held n _ at.linked at.held (omega arith))))
 
 -- What a block does that gives a node other entries, which lead to no node that hangs for another
 -- caller.

@@ -85,13 +85,7 @@ two_nodes h s its k other g m cell two i j = by_may i.may j.may
 new_root : (h : Header) (s its : Situation) (k other : TreeLocals) (g : Shape) (m : Memory)
     (cell : ℕ) → AreTwo h s its k other g m → other.out ≡ true
     → InNode h s k g m cell → IsWordOf (root_in h.size m) cell → ⊥
-new_root h s its k other g m cell two out i word = by_may i.may
-  where
-    by_may : (k.fresh ≡ Some i.node)
-        ⊎ ((g.linked i.node ≡ true) × (holds s (lock_of h i.node) ≡ true) × (i.place ≢ 0)
-        × (level_at m i.node ≤ g.top)) → ⊥
-    by_may (inl mine) = search (never, arith)
-    by_may (inr linked) = grind (arith, linked.3, two.ahead out)
+new_root h s its k other g m cell two out i word = search (lock_of, never, arith)
 
 -- what a caller may store
 pub no_clash : (h : Header) (s its : Situation) (k other : TreeLocals) (g : Shape) (m : Memory)
@@ -113,15 +107,7 @@ no_clash h s its k other g m cell two (inr outside) (inr out) = by_out out.1
   where
     by_out : (cell ≡ root_cell h) ⊎ IsWordOf (root_in h.size m) cell → ⊥
     by_out (inl root) = grind (arith, outside.1)
-    by_out (inr word) =
-        grind (
-          arith,
-          outside.1,
-          word.is,
-          word.low,
-          linked_low h.size g m two.tree (root_in h.size
-              m) two.tree.root_linked,
-        )
+    by_out (inr word) = search (linked_low, arith)
 
 -- what a caller may load, where the other's writes aren't seen yet
 pub no_clash_load : (h : Header) (s its : Situation) (k other : TreeLocals) (g : Shape) (m : Memory)

@@ -78,13 +78,7 @@ pub record AscentRight (h : Header) (args : Args) : Type 0 where
 
 pub three_two : (five : Entries) → length five ≡ 5 → (length (lower_half five) ≡ 3)
     × (length (upper_half five) ≡ 2)
-three_two [] len = absurd (omega (arith, len))
-three_two (a ∷ []) len = absurd (omega (arith, len))
-three_two (a ∷ b ∷ []) len = absurd (omega (arith, len))
-three_two (a ∷ b ∷ c ∷ []) len = absurd (omega (arith, len))
-three_two (a ∷ b ∷ c ∷ d ∷ []) len = absurd (omega (arith, len))
-three_two (a ∷ b ∷ c ∷ d ∷ e ∷ []) len = (refl, refl)
-three_two (a ∷ b ∷ c ∷ d ∷ e ∷ f ∷ more) len = absurd (omega (arith, len))
+three_two five len = search arith
 
 -- the node is loaded the same as long as its lock is held
 pub loaded_same : (h : Header) (s : Situation) (k : TreeLocals) (g : Shape) (m : Memory) (n : ℕ)
@@ -93,11 +87,10 @@ pub loaded_same : (h : Header) (s : Situation) (k : TreeLocals) (g : Shape) (m :
 loaded_same h s k g m n g' m' tree at rely =
     cc (
       rely.held n 0 at.linked at.held (omega arith),
-      rely.held n 2 at.linked at.held (omega
-          arith),
+      rely.held n 2 at.linked at.held
+          (omega arith),
       rely.held n 3 at.linked at.held (omega arith),
-      entries_kept h s k g m n g' m' tree at
-          rely,
+      entries_kept h s k g m n g' m' tree at rely,
     )
 
 pub full_right : (h : Header) (args : Args) (k : TreeLocals) (g : Shape) (m : Memory)

@@ -23,21 +23,7 @@ pub code : (size : ℕ) (g : Shape) (m : Memory) (above from bound : ℕ) (xs : 
     → ((n : ℕ) → g.linked n ≡ true → n < size)
     → HasEntries g m above from bound xs → AreEntries size (coded g m above) g.low above from bound
     xs
-code size g m above from bound xs fits es = record {
-  rise = es.rise;
-  in_range = es.in_range;
-  leaf = es.leaf;
-  inner = λ some. let i = es.inner some in record {
-    two = i.two;
-    first = i.first;
-    child = each_more (LeadsDown g m above) (IsChild size (coded g m above) g.low above)
-        (λ entry c. record {
-          in_use = (let lt = fits entry.1 c.linked in omega arith);
-          lower = ap (λ b. cond b (level_at m entry.1) above + 1) c.linked ∙ c.lower;
-          key_is = c.key_is;
-        }) xs i.child;
-  };
-}
+code size g m above from bound xs fits es = search (each_more, arith)
 
 pub code_child : (size : ℕ) (g : Shape) (m : Memory) (above : ℕ) (entry : ℕ × ℕ)
     → ((n : ℕ) → g.linked n ≡ true → n < size)
@@ -46,45 +32,18 @@ code_child size g m above entry fits c = grind (arith, c.linked, c.lower, c.key_
 
 uncode_child : (size : ℕ) (g : Shape) (m : Memory) (above : ℕ) (entry : ℕ × ℕ)
     → IsChild size (coded g m above) g.low above entry → LeadsDown g m above entry
-uncode_child size g m above entry c = by_linked (g.linked entry.1) refl c.lower
-  where
-    by_linked : (b : Bool) → g.linked entry.1 ≡ b → cond b (level_at m entry.1) above + 1 ≡ above
-        → LeadsDown g m above entry
-    by_linked b e lower = search (lower, arith)
+uncode_child size g m above entry c = search arith
 
 pub uncode : (size : ℕ) (g : Shape) (m : Memory) (above from bound : ℕ) (xs : Entries)
     → AreEntries size (coded g m above) g.low above from bound xs
     → HasEntries g m above from bound xs
-uncode size g m above from bound xs es = record {
-  rise = es.rise;
-  in_range = es.in_range;
-  leaf = es.leaf;
-  inner = λ some. let i = es.inner some in record {
-    two = i.two;
-    first = i.first;
-    child = each_more (IsChild size (coded g m above) g.low above) (LeadsDown g m above)
-        (uncode_child size g m above) xs i.child;
-  };
-}
+uncode size g m above from bound xs es = search (each_more, uncode_child, arith)
 
 -- entries stay right where linked nodes stay, with their levels and lows
 pub entries_grow : (g g' : Shape) (m m' : Memory) (above from bound : ℕ) (xs : Entries)
     → Grows g m g' m' → HasEntries g m above from bound xs
     → HasEntries g' m' above from bound xs
-entries_grow g g' m m' above from bound xs grows es = record {
-  rise = es.rise;
-  in_range = es.in_range;
-  leaf = es.leaf;
-  inner = λ some. let i = es.inner some in record {
-    two = i.two;
-    first = i.first;
-    child = each_more (LeadsDown g m above) (LeadsDown g' m' above) (λ entry c. record {
-      linked = grows.linked entry.1 c.linked;
-      lower = ap (λ n. n + 1) (grows.level entry.1 c.linked) ∙ c.lower;
-      key_is = grows.low entry.1 c.linked ∙ c.key_is;
-    }) xs i.child;
-  };
-}
+entries_grow g g' m m' above from bound xs grows es = search (each_more, arith)
 
 pub linked_low : (size : ℕ) (g : Shape) (m : Memory) → IsLinked size g m → (n : ℕ) → g.linked n
     ≡ true → n < size
@@ -106,13 +65,7 @@ pub record StaysShaped (size : ℕ) (m m' : Memory) : Type 0 where
 
 pub stays_shaped : (size : ℕ) (m m' : Memory) (n : ℕ) (xs : Entries) → n < size
     → Rewritten size m m' n xs → StaysShaped size m m'
-stays_shaped size m m' n xs fits r = search (fits, by_place, apart_or, arith)
-  where
-    by_place : (a : ℕ) → a < size → (i : ℕ) → i < 12 → (a ≡ n) ⊎ ((a < n) ⊎ (n < a))
-        → (a ≡ n → m' (12 * a + i) ≡ m (12 * a + i))
-        → m' (12 * a + i) ≡ m (12 * a + i)
-    by_place a low i small (inl at) here = here at
-    by_place a low i small (inr apart) here = other_word size m m' n xs r a i low small apart
+stays_shaped size m m' n xs fits r = search (apart_or, other_word, arith)
 
 pub rewritten_grows : (size : ℕ) (g : Shape) (m m' : Memory) (n : ℕ) (xs : Entries)
     → IsLinked size g m → g.linked n ≡ true → Rewritten size m m' n xs

@@ -101,15 +101,14 @@ pub changed_in : (size : ℕ) (g : Shape) (m m' : Memory) (s : Amounts) (n key a
     → ((q : ℕ) → q ≢ key → gives q new ≡ gives q (entries_at m n))
     → ShowsState g m' (with_amount s key amount)
 changed_in size g m m' s n key amount new t st is r here there =
-    rewritten_state size g m m' s (with_amount s key amount) n new t st is.linked r
-    (IsAmounts-with_amount s key amount st.formed)
-    (λ leaf q over. changed_inside s key amount q (entries_at m n) new here (there q)
+    rewritten_state _ g m _ s _ n _ t st is.linked r (IsAmounts-with_amount s _ _ st.formed)
+    (λ leaf q over. changed_inside s _ _ q (entries_at m n) new here (there q)
     (st.shows q n is.linked is.level_is over))
-    (λ q a linked leaf apart over. amount_of-with_amount s key amount q
+    (λ q a linked leaf apart over. amount_of-with_amount s _ _ q
     ∙ ap (λ b. cond b amount (amount_of s q))
-    (isnt_same q key
-    (λ e. off apart (one_cover_in size g m t a n key linked is.linked (leaf ∙ sym is.level_is)
-    (subst (Covers m g.low a) e over) is.covers))))
+    (isnt_same q _
+    (λ e. off apart (one_cover_in _ g m t a n key linked is.linked (leaf ∙ sym is.level_is)
+    (subst (Covers m _ a) e over) is.covers))))
   where
     off : {a b : ℕ} → (a < b) ⊎ (b < a) → a ≢ b
     off e0 = search arith
@@ -201,7 +200,7 @@ nothing_right h called k g m n tree unseen bare mutator stays = (
       reply = 0;
       returns = λ answer is. refl;
       next = state;
-      allowed = stays state shows;
+      allowed = stays _ shows;
       means = shows;
     };
     pending = refl;
@@ -209,17 +208,16 @@ nothing_right h called k g m n tree unseen bare mutator stays = (
     called = refl;
     answers = refl;
   },
-  λ g' m' rely. tree_give_last h called.method true k g' m' (lock_of h n) (returns 0) rely.tree
+  λ g' m' rely. tree_give_last h _ _ k _ _ _ _ rely.tree
+      (unseen_stays h (holding _ _ _ _) k g m _ _ unseen rely)
+      (λ g'' m'' rely'. tree_returns h k _ _ _ called 0 rely'.tree
+      (unseen_stays h (holding [] called.method true false) k g' m' _ _
       (unseen_stays h (holding (lock_of h n ∷ []) called.method true false) k g m g' m' unseen rely)
-      (λ g'' m'' rely'. tree_returns h k g'' m'' true called 0 rely'.tree
-      (unseen_stays h (holding [] called.method true false) k g' m' g'' m''
-      (unseen_stays h (holding (lock_of h n ∷ []) called.method true false) k g m g' m' unseen rely)
-      rely')
-      bare (tree_mutates k called 0 bare.called_is mutator)),
+      rely') bare (tree_mutates k called 0 bare.called_is mutator)),
 )
   where
     c : Changeless h (holding (lock_of h n ∷ []) called.method false false) k g m
-    c = changeless h (holding (lock_of h n ∷ []) called.method false false) k g m unseen
+    c = changeless h _ k g m unseen
 
     or_false : (b : Bool) → b ≡ (b || false)
     or_false b = search arith

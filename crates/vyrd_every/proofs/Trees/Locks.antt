@@ -44,9 +44,8 @@ only_locks h (Took other ∷ part) lock keeps held = by_place (only_locks h part
         → (b : Bool) → (other == lock) ≡ b
         → (b || holds (situation_after part) lock) ≡ true → is_lock (cells_of h) lock ≡ true
     by_place before b e f = search (same_of, first_true, arith)
-only_locks h (Gave other ∷ part) lock keeps held =
-    only_locks h part lock keeps.1 (any_kept (λ held. held == lock) (λ held. not (held == other))
-    (situation_after part).locks held)
+only_locks h (Gave other ∷ part) lock keeps held = only_locks h part lock keeps.1
+    (any_kept (λ held. held == lock) (λ held. not _) (situation_after part).locks held)
 only_locks h (Marked (Call method args) ∷ part) lock keeps held = cc
 only_locks h (Marked (Return reply) ∷ part) lock keeps held = cc
 only_locks h (Marked (Write word value) ∷ part) lock keeps held = search (held, arith)

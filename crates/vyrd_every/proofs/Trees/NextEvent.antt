@@ -458,10 +458,7 @@ module _ (h : Header) (scripts : List Script) (earlier : List Stamped) (number c
 
   own_now : OfTreeCaller h (script_of scripts c) (part_of c (e ∷ earlier)) log c
       (now_locals c) own.grown m'
-  own_now = subst (λ p. OfTreeCaller h (script_of scripts c) p log c (now_locals c) own.grown m')
-      (sym (part_own number c did earlier))
-      (subst (λ k. OfTreeCaller h (script_of scripts c) (did ∷ part_of c earlier) log c k own.grown
-      m') (sym (unseen_own locals c own.next)) own.one)
+  own_now = rw (part_own number c did earlier) (rw (unseen_own locals c own.next) own.one)
 
   each_now : (d : ℕ) → d < h.callers → OfTreeCaller h (script_of scripts d)
       (part_of d (e ∷ earlier)) log d (now_locals d) own.grown m'
@@ -506,9 +503,8 @@ module _ (h : Header) (scripts : List Script) (earlier : List Stamped) (number c
       → is_some (given_by w (locals d).pending) ≡ true → MayHold h (situation d) (locals d) g m w
   held_of d w low_d inside given =
       let open_ : has_block d (log_in earlier) ≡ true = (agree d low_d).in_block ∙ inside in
-      (inv.each d low_d).covers w (ap (λ b. b && wrote d w (log_in earlier)) open_
-      ∙ wrote_is d w (log_in earlier) open_
-      ∙ sym (ap (λ ws. is_some (given_by w ws)) (inv.each d low_d).pending) ∙ given)
+      (inv.each d low_d).covers w
+      (cc (wrote_is d w (log_in earlier) open_, (inv.each d low_d).pending))
 
   stored : (w : ℕ) → (locals c).out ≡ false → (situation c).in_block ≡ true
       → is_some (given_by w (locals c).pending) ≡ true

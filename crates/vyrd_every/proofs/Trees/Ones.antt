@@ -80,51 +80,21 @@ holds_on : (h : Header) (s s' : Situation) (k next : TreeLocals) (g g' : Shape) 
     → ((lock : ℕ) → holds s lock ≡ true → holds s' lock ≡ true) → g' ≡ g → next.fresh ≡ k.fresh
     → next.out ≡ k.out
     → MayHold h s k g m w → MayHold h s' next g' m w
-holds_on h s s' k next g g' m w more same fresh out hold = grind (arith, by_out hold)
-  where
-    by_out : MayHold h s k g m w → MayHold h s' next g m w
-    by_out (inl quiet) = search arith
-    by_out (inr seen) = inr (out ∙ seen.0, seen.1)
+holds_on h s s' k next g g' m w more same fresh out hold = search arith
 
 -- where a block's writes are seen and it goes on, its caller changes nothing
 pub still_out : (h : Header) (s : Situation) (k : TreeLocals) (g : Shape) (m : Memory) (act : Act)
     → k.out ≡ true → s.in_block ≡ true
     → TreeReaches h s k g m act → seen_after h s k m act ≡ m
-still_out h s k g m (Load cell) out inside reaches = refl
-still_out h s k g m (Take lock) out inside reaches = refl
-still_out h s k g m (Give lock) out inside reaches = refl
-still_out h s k g m Done out inside reaches = refl
-still_out h s k g m (Store cell value) out inside (inl within) = absurd (never within.1 out)
-still_out h s k g m (Store cell value) out inside (inr outside) = absurd (never outside.0 inside)
-still_out h s k g m (Mark (Call method args)) out inside reaches = refl
-still_out h s k g m (Mark (Return reply)) out inside reaches = refl
-still_out h s k g m (Mark (Write word value)) out inside reaches = refl
-still_out h s k g m (Mark Commit) out inside reaches = refl
-still_out h s k g m (Mark BlockOpen) out inside reaches = refl
-still_out h s k g m (Mark BlockClose) out inside reaches = cc
-still_out h s k g m (Mark BlockCommit) out inside reaches = cc
+still_out h s k g m act out inside reaches = search (never, arith)
 
 -- where its writes are seen after the act, the caller is in the block still, with the root's lock
 pub alone_after : (h : Header) (s : Situation) (k : TreeLocals) (g : Shape) (m : Memory) (act : Act)
     (rest : Script) (next : TreeLocals) (g' : Shape)
     → TreeDoes h s k g m act rest next g' → may_act h s act ≡ true → next.out ≡ true
     → (holds (after_act s act) (root_lock h) ≡ true) × ((after_act s act).in_block ≡ true)
-alone_after h s k g m (Load cell) rest next g' does may out = does.alone out
-alone_after h s k g m (Store cell value) rest next g' does may out = does.alone out
-alone_after h s k g m (Take lock) rest next g' does may out =
-    let both = does.alone out in
-    (or_right (lock == root_lock h) (holds s (root_lock h)) both.0, both.1)
-alone_after h s k g m (Give lock) rest next g' does may out = search (never, arith)
-alone_after h s k g m Done rest next g' does may out = absurd does.reaches
-alone_after h s k g m (Mark (Call method args)) rest next g' does may out =
-    search (never, second_true, arith)
-alone_after h s k g m (Mark (Return reply)) rest next g' does may out =
-    search (never, four_true, is_some, arith)
-alone_after h s k g m (Mark (Write word value)) rest next g' does may out = absurd does.reaches
-alone_after h s k g m (Mark Commit) rest next g' does may out = does.alone out
-alone_after h s k g m (Mark BlockOpen) rest next g' does may out = absurd (never does.out out)
-alone_after h s k g m (Mark BlockClose) rest next g' does may out = absurd (never does.out out)
-alone_after h s k g m (Mark BlockCommit) rest next g' does may out = absurd (never does.out out)
+alone_after h s k g m act rest next g' does may out = search
+    (never, second_true, four_true, is_some, arith)
 
 -- and the root is above the one that the log shows
 pub ahead_after : (h : Header) (s : Situation) (k : TreeLocals) (g : Shape) (m : Memory) (act : Act)
@@ -132,18 +102,7 @@ pub ahead_after : (h : Header) (s : Situation) (k : TreeLocals) (g : Shape) (m :
     → TreeDoes h s k g m act rest next g' → may_act h s act ≡ true
     → (k.out ≡ true → g.top < level_at m (root_in h.size m)) → next.out ≡ true
     → g'.top < level_at (seen_after h s k m act) (root_in h.size (seen_after h s k m act))
-ahead_after h s k g m act rest next g' does may ahead out = by_before k.out refl
-  where
-    by_before : (b : Bool) → k.out ≡ b → g'.top < level_at (seen_after h s k m act)
-        (root_in h.size (seen_after h s k m act))
-    by_before false e = (does.ahead e out).1
-    by_before true e =
-        let inside = (does.alone out).1 in
-        let within = does.within inside (alone_after h s k g m act rest next g' does may out).1
-        (out ∙ sym e) in
-        subst (λ x. g'.top < level_at x (root_in h.size x))
-        (sym (still_out h s k g m act e inside does.reaches))
-        (subst (λ g. g.top < level_at m (root_in h.size m)) (sym within.0) (ahead e))
+ahead_after h s k g m act rest next g' does may ahead out = search (alone_after, still_out, arith)
 
 -- the caller's own store in its block
 store_holds : (h : Header) (s : Situation) (k : TreeLocals) (g : Shape) (m : Memory)
@@ -176,21 +135,10 @@ store_holds h s k g m cell value rest next g' does tree inside = by_out next.out
         by_reach (inr outside) = absurd (never outside.0 inside)
         by_reach (inl within) = by_word within.2
           where
-            now : (g' ≡ g) × (next.fresh ≡ k.fresh)
-            now = does.within inside inside (e ∙ sym within.1)
-
-            not_root : (r : Bool) → (cell == root_cell h) ≡ r → r ≡ false
-            not_root r f = search (never, arith)
-
-            same : seen_after h s k m (Store cell value) ≡ m
-            same = cc (not_root (cell == root_cell h) refl)
-
             by_word : InNode h s k g m cell
                 ⊎ ((cell ≡ root_cell h) × (holds s (root_lock h) ≡ true))
                 → MayHold h s next g' (seen_after h s k m (Store cell value)) cell
-            by_word (inl i) = rw same
-                (holds_on h s s k next g g' m cell (λ lock held. held) now.0 now.1
-                (e ∙ sym within.1) (inl (within.1, i)))
+            by_word (inl i) = search (holds_on, arith)
             by_word (inr root) = search (never, same_number, arith)
 
 -- a word that the caller's block has written before its own act

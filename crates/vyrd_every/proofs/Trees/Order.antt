@@ -19,20 +19,7 @@ pub record IsLeftIn (size : ℕ) (g : Shape) (m : Memory) (n node : ℕ) : Type 
 pub left_of : (size : ℕ) (g : Shape) (m : Memory) → IsLinked size g m → (n : ℕ) → g.linked n ≡ true
     → g.low n ≢ 0
     → (node : ℕ) × IsLeftIn size g m n node
-left_of size g m t n used some =
-    let l : HasNeighbour g m n = t.left n used some in
-    let at : right_at m l.node ≡ n = l.leads in
-    let on : LeadsRight g m l.node = t.link l.node l.linked (λ none. l.some (sym at ∙ none)) in (
-      l.node,
-      record {
-        linked = l.linked;
-        leads = at;
-        some = l.some;
-        same_level = sym on.same_level ∙ ap (level_at m) at;
-        bound_is = sym on.begins ∙ ap g.low at;
-        lower = subst (λ b. g.low l.node < b) (sym on.begins ∙ ap g.low at) on.above;
-      },
-    )
+left_of size g m t n used some = search arith
 
 -- a node of the level whose low is in the range of another is that one
 pub one_low_in : (size : ℕ) (g : Shape) (m : Memory) → IsLinked size g m → (fuel a b : ℕ)

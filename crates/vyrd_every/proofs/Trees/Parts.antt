@@ -66,17 +66,7 @@ tree_rely_more h s k a b c x y z one two = record {
 pub tree_rely_less : (h : Header) (s s' : Situation) (k : TreeLocals) (a b : Shape) (x y : Memory)
     → ((lock : ℕ) → holds s' lock ≡ true → holds s lock ≡ true)
     → TreeRely h s k a x b y → TreeRely h s' k a x b y
-tree_rely_less h s s' k a b x y fewer r = record {
-  grows = r.grows;
-  held = λ n place linked held low. r.held n place linked (fewer (lock_of h n) held) low;
-  fresh = r.fresh;
-  used = r.used;
-  hanging = r.hanging;
-  root = λ held. r.root (fewer (root_lock h) held);
-  count = λ held. r.count (fewer (used_lock h) held);
-  tree = r.tree;
-  calm = λ held out. r.calm (fewer (root_lock h) held) out;
-}
+tree_rely_less h s s' k a b x y fewer r = search (lock_of, arith)
 
 leaves_same : (h : Header) (s : Situation) (k : TreeLocals) (g : Shape) (m : Memory)
     → TreeLeaves h s k g m g m
@@ -221,10 +211,8 @@ pub tree_give_last : (h : Header) (method : Method) (committed : Bool) (k : Tree
     → TreeRight h (holding [] method committed false) k g' now rest)
     → TreeRight h (holding (lock ∷ []) method committed false) k g m (perform (Give lock) rest)
 tree_give_last h method committed k g m lock rest tree unseen later =
-    tree_give h (holding (lock ∷ []) method committed false) k g m lock rest tree unseen refl
-    (subst Later (sym (gone lock [])) later)
+    tree_give h _ k g m _ _ tree unseen refl (subst Later (sym (gone _ [])) later)
   where
     Later : List ℕ → Type 0
     Later locks = (g' : Shape) → (now : Memory) → TreeRely h (holding locks method committed false)
-        k g m g' now
-        → TreeRight h (holding locks method committed false) k g' now rest
+        k g m g' now → TreeRight h (holding locks method committed false) k g' now rest

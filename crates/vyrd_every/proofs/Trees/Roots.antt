@@ -79,12 +79,7 @@ module _ (size : ℕ) (g : Shape) (m m' : Memory) (u key child : ℕ) (t : IsLin
   u_linked = ap (λ b. cond b true (g.linked u)) (is_same u u refl)
 
   new_or : (x : ℕ) → g'.linked x ≡ true → (g.linked x ≡ true) ⊎ (x ≡ u)
-  new_or x linked = by_test (x == u) refl linked
-    where
-      by_test : (b : Bool) → (x == u) ≡ b → cond b true (g.linked x) ≡ true → (g.linked x ≡ true)
-          ⊎ (x ≡ u)
-      by_test true e l = inr (same_of x u e)
-      by_test false e l = inl l
+  new_or x linked = search (same_of, arith)
 
   low_same : (x : ℕ) → g.linked x ≡ true → g'.low x ≡ g.low x
   low_same x old = old_low g.low u 0 x (not_new old)
@@ -100,90 +95,32 @@ module _ (size : ℕ) (g : Shape) (m m' : Memory) (u key child : ℕ) (t : IsLin
   level_same x old = word_same x 0 old (omega arith)
 
   entries_same : (x : ℕ) → g.linked x ≡ true → entries_at m' x ≡ entries_at m x
-  entries_same x old =
-      ap (entries_from m' x 0) (word_same x 1 old (omega arith))
-      ∙ entries_alike m m' x 0 (count_at m x)
-      (λ j from to.
-      (let few = t.few x old in
-      (word_same x (4 + j) old (omega arith), word_same x (8 + j) old (omega arith))))
+  entries_same x old = search (word_same, entries_alike, arith)
 
   top : level_at m' (root_in size m') ≡ level_at m (root_in size m) + 1
   top = ap (level_at m') gr.root_is ∙ gr.new_level
 
   pub grown_grows : Grows g m (with_node g u 0) m'
-  grown_grows = record {
-    linked = λ x old. still old;
-    low = low_same;
-    level = level_same;
-    top = omega arith;
-  }
+  grown_grows = search (still, low, low_same, level_same, top, arith)
 
   put : (level from bound : ℕ) (xs : Entries) (x : ℕ) → level_at m' x ≡ level → g'.low x ≡ from
       → bound_at m' x ≡ bound → entries_at m' x ≡ xs
       → HasEntries g' m' level from bound xs → HasEntries g' m' (level_at m' x) (g'.low x)
       (bound_at m' x) (entries_at m' x)
-  put level from bound xs x a b d e es =
-      subst (λ level. HasEntries g' m' level (g'.low x) (bound_at m' x) (entries_at m' x)) (sym a)
-      (subst (λ from. HasEntries g' m' level from (bound_at m' x) (entries_at m' x)) (sym b)
-      (subst (λ bound. HasEntries g' m' level from bound (entries_at m' x)) (sym d)
-      (subst (HasEntries g' m' level from bound) (sym e) es)))
+  put level from bound xs x a b d e es = search arith
 
   new_entries_are : HasEntries g' m' (level_at m (root_in size m) + 1) 0 0
       ((0, root_in size m) ∷ (key, child) ∷ [])
-  new_entries_are = record {
-    rise = ((omega (arith, some), tt), (tt, tt));
-    in_range = (
-      (omega arith, λ none. absurd (none refl)),
-      ((omega arith, λ none. absurd (none refl)), tt),
-    );
-    leaf = λ none. absurd (omega (arith, none));
-    inner = λ some. record {
-      two = omega arith;
-      first = refl;
-      child = (
-        record {
-          linked = still t.root_linked;
-          lower = ap (λ n. n + 1) (level_same (root_in size m) t.root_linked);
-          key_is = low_same (root_in size m) t.root_linked ∙ t.root_first;
-        },
-        (
-          record {
-            linked = still linked;
-            lower = ap (λ n. n + 1)
-                (level_same child linked ∙ same_level);
-            key_is = low_same child linked ∙ low_is;
-          },
-          tt,
-        ),
-      );
-    };
-  }
+  new_entries_are = search (still, level_same, low_same, arith)
 
   entries_are : (x : ℕ) → (g.linked x ≡ true) ⊎ (x ≡ u) → HasEntries g' m' (level_at m' x)
       (g'.low x) (bound_at m' x) (entries_at m' x)
   entries_are x (inl old) =
-      put (level_at m x) (g.low x) (bound_at m x) (entries_at m x) x (level_same x old)
-      (low_same x old) (word_same x 2 old (omega arith)) (entries_same x old)
-      (entries_grow g g' m m' (level_at m x) (g.low x) (bound_at m x) (entries_at m x) grown_grows
-      (t.entries x old))
-  entries_are x (inr at) =
-      subst (λ x. HasEntries g' m' (level_at m' x) (g'.low x) (bound_at m' x) (entries_at m' x))
-      (sym at)
-      (put (level_at m (root_in size m) + 1) 0 0 ((0, root_in size m) ∷ (key, child) ∷ []) u
-      gr.new_level low_new gr.new_bound gr.new_entries new_entries_are)
+      grind (arith, put, level_same, low_same, word_same, entries_same, entries_grow, grown_grows)
+  entries_are x (inr at) = grind (arith, put, low_new, new_entries_are)
 
   link_is : (x : ℕ) → g.linked x ≡ true → right_at m' x ≢ 0 → LeadsRight g' m' x
-  link_is x old on =
-      let right : right_at m' x ≡ right_at m x = word_same x 3 old (omega arith) in
-      let bound : bound_at m' x ≡ bound_at m x = word_same x 2 old (omega arith) in
-      let l = t.link x old (λ none. on (right ∙ none)) in
-      record {
-        linked = ap g'.linked right ∙ still l.linked;
-        same_level = ap (level_at m') right ∙ level_same (right_at m x) l.linked ∙ l.same_level
-            ∙ sym (level_same x old);
-        begins = ap g'.low right ∙ low_same (right_at m x) l.linked ∙ l.begins ∙ sym bound;
-        above = (let a = low_same x old in let above = l.above in omega (arith, a, bound, above));
-      }
+  link_is x old on = search (word_same, still, level_same, low_same, arith)
 
   one_first_is : (a b : ℕ) → (g.linked a ≡ true) ⊎ (a ≡ u) → (g.linked b ≡ true) ⊎ (b ≡ u)
       → level_at m' a ≡ level_at m' b
@@ -296,31 +233,7 @@ top_grows g m t more = grind (arith, more)
 
 pub top_linked : (size : ℕ) (g : Shape) (m : Memory) → IsLinked size g m
     → IsLinked size (with_top g (level_at m (root_in size m))) m
-top_linked size g m t = record {
-  last_low = t.last_low;
-  taken = t.taken;
-  zero_linked = t.zero_linked;
-  root_linked = t.root_linked;
-  root_first = t.root_first;
-  zero_leaf = t.zero_leaf;
-  highest = t.highest;
-  shown_top = omega arith;
-  ends = t.ends;
-  link = λ n l on. let was = t.link n l on in
-      record {
-        linked = was.linked;
-        same_level = was.same_level;
-        begins = was.begins;
-        above = was.above;
-      };
-  left = λ n l some. let was = t.left n l some in
-      record { node = was.node; linked = was.linked; leads = was.leads; some = was.some };
-  one_first = t.one_first;
-  few = t.few;
-  entries = λ n l. entries_grow g (with_top g (level_at m (root_in size m))) m m (level_at m n)
-      (g.low n) (bound_at m n) (entries_at m n)
-      (top_grows g m (level_at m (root_in size m)) t.shown_top) (t.entries n l);
-}
+top_linked size g m t = search (entries_grow, top_grows, arith)
 
 -- In an open block of the caller, with this lock held since memory m: what comes next does right,
 -- with these writes so far.
@@ -396,8 +309,7 @@ grown_stands size m u level key child root fits root_is level_is = record {
   root_is = changed_cell m₂ (12 * size) u;
   others = λ cell small off. other_cell m₂ (12 * size) u cell (omega (arith, small))
       ∙ w.others cell off;
-  new_level = at_u 0 (omega arith) ∙ w.level_is
-      ∙ ap (λ n. n + 1) (sym (ap (level_at m) root_is ∙ level_is));
+  new_level = cc (at_u 0 (omega arith), w.level_is);
   new_bound = at_u 2 (omega arith) ∙ w.bound_is;
   new_right = at_u 3 (omega arith) ∙ w.right_is;
   new_few = (let e = at_u 1 (omega arith) ∙ w.count_is in omega (arith, e));

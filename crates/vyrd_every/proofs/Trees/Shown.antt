@@ -54,20 +54,7 @@ SameLeaves g words others = (n i : ℕ) → g.linked n ≡ true → level_at (sl
 same_parts : (words others : List ℕ) (n : ℕ)
     → ((i : ℕ) → i < 12 → slice_index others (12 * n + i) ≡ slice_index words (12 * n + i))
     → node_parts others n ≡ node_parts words n
-same_parts words others n same =
-    ap (λ many. flat_map entry_parts
-    (map (λ j. (node_word others n (4 + j), node_word others n (8 + j)))
-    (numbers_from 0 (min many 4)))) (same 1 (omega arith))
-    ∙ ap (flat_map entry_parts)
-    (map_alike_from (λ j. (node_word others n (4 + j), node_word others n (8 + j)))
-    (λ j. (node_word words n (4 + j), node_word words n (8 + j))) 0
-    (min (slice_index words (12 * n + 1)) 4)
-    (λ j from to. let small : j < 4 = few j (slice_index words (12 * n + 1)) to in
-    ap (λ key. (key, node_word others n (8 + j))) (same (4 + j) (omega (arith, small)))
-    ∙ ap (λ value. (node_word words n (4 + j), value)) (same (8 + j) (omega (arith, small)))))
-  where
-    few : (j many : ℕ) → j < 0 + min many 4 → j < 4
-    few j many to = omega (arith, to)
+same_parts words others n same = search (map_alike_from, arith)
 
 -- what the chain shows after a node
 abbrev ended : ℕ → List ℕ → ℕ → ℕ → List (ℕ × ℕ) → List (ℕ × ℕ)
@@ -92,8 +79,7 @@ same_chain size g words others t same (suc left) seen n here =
     ap (λ parts. parts ++ tail size left seen n others (right_of others n))
     (same_parts words others n (λ i low. same n i here.linked here.leaf low))
     ∙ ap (λ r. node_parts words n ++ tail size left seen n others r)
-    (same n 3 here.linked here.leaf (omega arith))
-    ∙ ap (λ rest. node_parts words n ++ rest)
+    (same n 3 here.linked here.leaf (omega arith)) ∙ ap (λ rest. node_parts words n ++ rest)
     (by_right (zero_or (right_of words n))
     (λ next. same_chain size g words others t same left (n ∷ seen) (right_of words n) next))
   where
@@ -103,21 +89,9 @@ same_chain size g words others t same (suc left) seen n here =
         ≡ chain_parts_from size words left (n ∷ seen) (right_of words n))
         → tail size left seen n others (right_of words n) ≡ tail size left seen n words
         (right_of words n)
-    by_right (inl none) later =
-        over (chain_parts_from size others left (n ∷ seen) (right_of words n))
-        ∙ sym (over (chain_parts_from size words left (n ∷ seen) (right_of words n)))
-      where
-        over : (rest : List (ℕ × ℕ)) → ended size seen n (right_of words n) rest ≡ []
-        over rest = ap
-            (λ b. elim b [
-              | true ↦ []
-              | false ↦ elim (nat_le size (right_of words n)
-                  || list_any (λ y. y == right_of words n)
-                  (n ∷ seen)) [ true ↦ damage | false ↦ rest ]
-            ])
-            (is_same (right_of words n) 0 none)
-    by_right (inr on) later = ap (ended size seen n (right_of words n))
-        (later (next_on_chain size g (slice_index words) t left seen n here
+    by_right (inl none) later = search arith
+    by_right (inr on) later =
+        cc (later (next_on_chain size g (slice_index words) t left seen n here
         (t.link n here.linked on)))
 
 -- the view of the words that the log leaves, where its leaves are those of the tree

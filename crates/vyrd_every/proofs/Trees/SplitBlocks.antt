@@ -316,13 +316,8 @@ pub store_fresh_entries : (h : Header) (method : Method) (committed : Bool) (k :
     → InBlock h method committed k g m n ws (write_entries u place xs later)
 store_fresh_entries h method committed k g m n u place [] ws later at mine low fits rest = rest
 store_fresh_entries h method committed k g m n u place ((key, value) ∷ xs) ws later at mine low fits
-    rest =
-    store_in_fresh h method committed k g m n u (4 + place) key ws
-    (perform (Store (12 * u + (8 + place)) value) (write_entries u (place + 1) xs later)) at mine
-    low (omega (arith, fits))
-    (store_in_fresh h method committed k g m n u (8 + place) value
-    ((12 * u + (4 + place), key) ∷ ws) (write_entries u (place + 1) xs later) at mine low
-    (omega (arith, fits))
+    rest = store_in_fresh h _ _ k g m n u _ _ _ _ at mine low (omega (arith, fits))
+    (store_in_fresh h _ _ k g m n u _ _ _ _ at mine low (omega (arith, fits))
     (store_fresh_entries h method committed k g m n u (place + 1) xs
     ((12 * u + (8 + place), value) ∷ (12 * u + (4 + place), key) ∷ ws) later at mine low
     (omega (arith, fits)) rest))
@@ -342,11 +337,10 @@ pub split_stores : (h : Header) (method : Method) (committed : Bool) (k : TreeLo
     → InBlock h method committed k g m n []
     (split (loaded_at m n) (length front) (front ++ entry ∷ back) u later)
 split_stores h method committed k g m n u front back entry later tree at high mine fits four three
-    two rest =
-    store_in_fresh h method committed k g m n u 0 (level_at m n) [] _ at mine fits (omega arith)
-    (store_in_fresh h method committed k g m n u 1 2 _ _ at mine fits (omega arith)
-    (store_in_fresh h method committed k g m n u 2 (bound_at m n) _ _ at mine fits (omega arith)
-    (store_in_fresh h method committed k g m n u 3 (right_at m n) _ _ at mine fits (omega arith)
+    two rest = store_in_fresh h _ _ k g m n u 0 _ [] _ at mine fits (omega arith)
+    (store_in_fresh h _ _ k g m n u 1 2 _ _ at mine fits (omega arith)
+    (store_in_fresh h _ _ k g m n u 2 _ _ _ at mine fits (omega arith)
+    (store_in_fresh h _ _ k g m n u 3 _ _ _ at mine fits (omega arith)
     (store_fresh_entries h method committed k g m n u 0 (upper_half five) _ _ at mine fits
     (omega (arith, two))
     (store_entries h method committed k g m n (length front)

@@ -75,12 +75,7 @@ module _ (size : ℕ) (g : Shape) (m m' : Memory) (n u : ℕ) (five : Entries) (
   u_linked = ap (λ b. cond b true (g.linked u)) (is_same u u refl)
 
   new_or : (x : ℕ) → g'.linked x ≡ true → (g.linked x ≡ true) ⊎ (x ≡ u)
-  new_or x linked = by_test (x == u) refl linked
-    where
-      by_test : (b : Bool) → (x == u) ≡ b → cond b true (g.linked x) ≡ true → (g.linked x ≡ true)
-          ⊎ (x ≡ u)
-      by_test true e l = inr (same_of x u e)
-      by_test false e l = inl l
+  new_or x linked = search (same_of, arith)
 
   low_same : (x : ℕ) → g.linked x ≡ true → g'.low x ≡ g.low x
   low_same x old = old_low g.low u key x (not_new old)
@@ -90,8 +85,7 @@ module _ (size : ℕ) (g : Shape) (m m' : Memory) (n u : ℕ) (five : Entries) (
 
   -- the words of other nodes
   word_same : (x i : ℕ) → g.linked x ≡ true → x ≢ n → i < 12 → m' (12 * x + i) ≡ m (12 * x + i)
-  word_same x i old apart small =
-      sp.others (12 * x + i) (let fits = low x old in omega arith)
+  word_same x i old apart small = sp.others _ (let fits = low x old in omega arith)
       (one_more (off_words x n i apart small)) (off_words x u i (not_new old) small)
     where
       one_more : (12 * x + i < 12 * n) ⊎ (12 * n + 12 ≤ 12 * x + i) → (12 * x + i < 12 * n + 1)
@@ -103,44 +97,25 @@ module _ (size : ℕ) (g : Shape) (m m' : Memory) (n u : ℕ) (five : Entries) (
   level_same x old = by_place (same_or x n)
     where
       by_place : (x ≡ n) ⊎ (x ≢ n) → level_at m' x ≡ level_at m x
-      by_place (inl at) =
-          subst (λ x. level_at m' x ≡ level_at m x) (sym at)
-          (sp.others (12 * n + 0) (let fits = low n used in omega arith) (inl (omega arith))
-          (off_words n u 0 (not_new used) (omega arith)))
+      by_place (inl at) = rw at (sp.others (12 * n + 0) (let fits = low n used in omega arith)
+          (inl (omega arith)) (off_words n u 0 (not_new used) (omega arith)))
       by_place (inr apart) = word_same x 0 old apart (omega arith)
 
   entries_same : (x : ℕ) → g.linked x ≡ true → x ≢ n → (entries_at m' x ≡ entries_at m x)
       × (count_at m' x ≡ count_at m x)
-  entries_same x old apart = (
-    ap (entries_from m' x 0) (word_same x 1 old apart (omega arith))
-        ∙ entries_alike m m' x 0 (count_at m x)
-        (λ j from to.
-        (let few = t.few x old in (
-          word_same x (4 + j) old apart (omega arith),
-          word_same x (8 + j) old apart
-              (omega arith),
-        ))),
-    word_same x 1 old apart (omega arith),
-  )
+  entries_same x old apart = search (word_same, entries_alike, arith)
 
   root_same : root_in size m' ≡ root_in size m
-  root_same = sp.others (12 * size) (omega arith) (inr (let fits = low n used in omega arith))
-      (inr (omega (arith, u_low)))
+  root_same = search (low, u_low, arith)
 
   last_same : last_in size m' ≡ last_in size m
-  last_same = sp.others (12 * size + 1) (omega arith) (inr (let fits = low n used in omega arith))
-      (inr (omega (arith, u_low)))
+  last_same = search (low, u_low, arith)
 
   above_n : g.low n < key
   above_n = ha.higher
 
   pub split_grows : Grows g m (with_node g u (first_key (upper_half five))) m'
-  split_grows = record {
-    linked = λ x old. still old;
-    low = low_same;
-    level = level_same;
-    top = omega arith;
-  }
+  split_grows = search (still, low, low_same, level_same, arith)
 
   keep : (above from bound : ℕ) (xs : Entries) → HasEntries g m above from bound xs
       → HasEntries g' m' above from bound xs
@@ -153,57 +128,19 @@ module _ (size : ℕ) (g : Shape) (m m' : Memory) (n u : ℕ) (five : Entries) (
   upper_entries = uncode size g m (level_at m n) key (bound_at m n) (upper_half five) ha.upper
 
   ends_is : (x : ℕ) → g'.linked x ≡ true → right_at m' x ≡ 0 → bound_at m' x ≡ 0
-  ends_is x linked none = by_new (new_or x linked)
-    where
-      by_place : g.linked x ≡ true → (x ≡ n) ⊎ (x ≢ n) → bound_at m' x ≡ 0
-      by_place old (inl at) = absurd (u_some (sym sp.right_is ∙ sym (ap (right_at m') at) ∙ none))
-      by_place old (inr apart) = word_same x 2 old apart (omega arith)
-          ∙ t.ends x old (sym (word_same x 3 old apart (omega arith)) ∙ none)
-
-      by_new : (g.linked x ≡ true) ⊎ (x ≡ u) → bound_at m' x ≡ 0
-      by_new (inl old) = by_place old (same_or x n)
-      by_new (inr at) = ap (bound_at m') at ∙ sp.new_bound
-          ∙ t.ends n used (sym sp.new_right ∙ sym (ap (right_at m') at) ∙ none)
+  ends_is x linked none = search (new_or, u_some, word_same, same_or, arith)
 
   link_is : (x : ℕ) → g'.linked x ≡ true → right_at m' x ≢ 0 → LeadsRight g' m' x
   link_is x linked on = by_new (new_or x linked)
     where
       at_n : LeadsRight g' m' n
-      at_n = record {
-        linked = ap g'.linked sp.right_is ∙ u_linked;
-        same_level = ap (level_at m') sp.right_is ∙ sp.new_level ∙ sym (level_same n used);
-        begins = ap g'.low sp.right_is ∙ low_new ∙ sym sp.bound_is;
-        above = (let a = low_same n used in let b = sp.bound_is in omega (arith, a, b, above_n));
-      }
+      at_n = search (u_linked, level_same, low_new, low_same, above_n, arith)
 
       at_u : right_at m' u ≢ 0 → LeadsRight g' m' u
-      at_u on =
-          let right : right_at m' u ≡ right_at m n = sp.new_right in
-          let l = t.link n used (λ none. on (right ∙ none)) in
-          record {
-            linked = ap g'.linked right ∙ still l.linked;
-            same_level = ap (level_at m') right ∙ level_same (right_at m n) l.linked ∙ l.same_level
-                ∙ sym sp.new_level;
-            begins = ap g'.low right ∙ low_same (right_at m n) l.linked ∙ l.begins
-                ∙ sym sp.new_bound;
-            above = (let bound = sp.new_bound in let above = l.above in let within = ha.within
-                (omega (arith, above)) in
-                omega (arith, low_new, bound, within));
-          }
+      at_u on = search (still, level_same, low_same, low_new, arith)
 
       at_other : g.linked x ≡ true → x ≢ n → LeadsRight g' m' x
-      at_other old apart =
-          let right : right_at m' x ≡ right_at m x = word_same x 3 old apart (omega arith) in
-          let bound : bound_at m' x ≡ bound_at m x = word_same x 2 old apart (omega arith) in
-          let l = t.link x old (λ none. on (right ∙ none)) in
-          record {
-            linked = ap g'.linked right ∙ still l.linked;
-            same_level = ap (level_at m') right ∙ level_same (right_at m x) l.linked ∙ l.same_level
-                ∙ sym (level_same x old);
-            begins = ap g'.low right ∙ low_same (right_at m x) l.linked ∙ l.begins ∙ sym bound;
-            above = (let a = low_same x old in let above = l.above in
-                omega (arith, a, bound, above));
-          }
+      at_other old apart = search (word_same, still, level_same, low_same, arith)
 
       by_place : g.linked x ≡ true → (x ≡ n) ⊎ (x ≢ n) → LeadsRight g' m' x
       by_place old (inl at) = subst (LeadsRight g' m') (sym at) at_n
@@ -244,12 +181,7 @@ module _ (size : ℕ) (g : Shape) (m m' : Memory) (n u : ℕ) (five : Entries) (
       }
 
   first_is_old : (x : ℕ) → g'.linked x ≡ true → g'.low x ≡ 0 → g.linked x ≡ true
-  first_is_old x linked none = by_new (new_or x linked)
-    where
-      by_new : (g.linked x ≡ true) ⊎ (x ≡ u) → g.linked x ≡ true
-      by_new (inl old) = old
-      by_new (inr at) = absurd
-          (let e = sym (ap g'.low at) ∙ none in omega (arith, low_new, above_n, e))
+  first_is_old x linked none = search (new_or, low_new, above_n, arith)
 
   few_is : (x : ℕ) → g'.linked x ≡ true → count_at m' x ≤ 4
   few_is x linked = by_new (new_or x linked)
@@ -271,11 +203,7 @@ module _ (size : ℕ) (g : Shape) (m m' : Memory) (n u : ℕ) (five : Entries) (
       → bound_at m' x ≡ bound → entries_at m' x ≡ xs
       → HasEntries g' m' level from bound xs → HasEntries g' m' (level_at m' x) (g'.low x)
       (bound_at m' x) (entries_at m' x)
-  put level from bound xs x a b d e es =
-      subst (λ level. HasEntries g' m' level (g'.low x) (bound_at m' x) (entries_at m' x)) (sym a)
-      (subst (λ from. HasEntries g' m' level from (bound_at m' x) (entries_at m' x)) (sym b)
-      (subst (λ bound. HasEntries g' m' level from bound (entries_at m' x)) (sym d)
-      (subst (HasEntries g' m' level from bound) (sym e) es)))
+  put level from bound xs x a b d e es = search arith
 
   entries_are : (x : ℕ) → g'.linked x ≡ true → HasEntries g' m' (level_at m' x) (g'.low x)
       (bound_at m' x) (entries_at m' x)
@@ -283,27 +211,16 @@ module _ (size : ℕ) (g : Shape) (m m' : Memory) (n u : ℕ) (five : Entries) (
     where
       by_place : g.linked x ≡ true → (x ≡ n) ⊎ (x ≢ n) → HasEntries g' m' (level_at m' x) (g'.low x)
           (bound_at m' x) (entries_at m' x)
-      by_place old (inl at) =
-          subst (λ x. HasEntries g' m' (level_at m' x) (g'.low x) (bound_at m' x) (entries_at m' x))
-          (sym at)
-          (put (level_at m n) (g.low n) key (lower_half five) n (level_same n used)
-          (low_same n used) sp.bound_is sp.entries
-          (keep (level_at m n) (g.low n) key (lower_half five) lower_entries))
-      by_place old (inr apart) =
-          put (level_at m x) (g.low x) (bound_at m x) (entries_at m x) x (level_same x old)
-          (low_same x old) (word_same x 2 old apart (omega arith))
+      by_place old (inl at) = grind (arith, put, level_same, low_same, keep, lower_entries)
+      by_place old (inr apart) = put (level_at m x) (g.low x) (bound_at m x) (entries_at m x) x
+          (level_same x old) (low_same x old) (word_same x 2 old apart (omega arith))
           (entries_same x old apart).0
           (keep (level_at m x) (g.low x) (bound_at m x) (entries_at m x) (t.entries x old))
 
       by_new : (g.linked x ≡ true) ⊎ (x ≡ u) → HasEntries g' m' (level_at m' x) (g'.low x)
           (bound_at m' x) (entries_at m' x)
       by_new (inl old) = by_place old (same_or x n)
-      by_new (inr at) =
-          subst (λ x. HasEntries g' m' (level_at m' x) (g'.low x) (bound_at m' x) (entries_at m' x))
-          (sym at)
-          (put (level_at m n) key (bound_at m n) (upper_half five) u sp.new_level low_new
-          sp.new_bound sp.new_entries
-          (keep (level_at m n) key (bound_at m n) (upper_half five) upper_entries))
+      by_new (inr at) = grind (arith, put, low_new, keep, upper_entries)
 
   root_level : level_at m' (root_in size m') ≡ level_at m (root_in size m)
   root_level = ap (level_at m') root_same ∙ level_same (root_in size m) t.root_linked
@@ -345,14 +262,10 @@ module _ (size : ℕ) (g : Shape) (m m' : Memory) (n u : ℕ) (five : Entries) (
   split_top is = is ∙ sym root_level
 
   above_all : (q : ℕ) → q < key → Each (λ x. x.0 ≢ q) (upper_half five)
-  above_all q lt = each_more (InRange key (bound_at m n)) (λ x. x.0 ≢ q)
-      (λ x is e. (let le = is.0 in omega (arith, le, lt, e)))
-      (upper_half five) ha.upper.in_range
+  above_all q lt = search (each_more, arith)
 
   below_all : (q : ℕ) → key ≤ q → Each (λ x. x.0 ≢ q) (lower_half five)
-  below_all q le = each_more (InRange (g.low n) key) (λ x. x.0 ≢ q)
-      (λ x is e. (let lt = is.1 (omega (arith, above_n)) in omega (arith, le, lt, e)))
-      (lower_half five) ha.lower.in_range
+  below_all q le = search (each_more, above_n, arith)
 
   -- the state is the one that differs where the five entries say so
   pub split_state : (s s' : Amounts) → IsAmounts s' → ShowsState g m s
@@ -363,19 +276,19 @@ module _ (size : ℕ) (g : Shape) (m m' : Memory) (n u : ℕ) (five : Entries) (
   split_state s s' formed st inside outside = record { shows = shows'; formed = formed }
     where
       lower_gives : level_at m n ≡ 0 → (q : ℕ) → q < key → gives q five ≡ gives q (lower_half five)
-      lower_gives leaf q lt = ap (gives q) ha.whole ∙ gives-append q (lower_half five)
-          (upper_half five)
-          ∙ plus (gives q (lower_half five))
-          (gives_none q (upper_half five) (ha.upper.leaf leaf) (above_all q lt))
+      lower_gives leaf q lt = cc (
+        ha.whole,
+        gives-append q (lower_half five) (upper_half five),
+        plus
+            (gives q (lower_half five))
+            (gives_none q (upper_half five) (ha.upper.leaf leaf) (above_all q lt)),
+      )
         where
           plus : {b : ℕ} (a : ℕ) → b ≡ 0 → a + b ≡ a
           plus a e = omega arith
 
       upper_gives : level_at m n ≡ 0 → (q : ℕ) → key ≤ q → gives q five ≡ gives q (upper_half five)
-      upper_gives leaf q le = ap (gives q) ha.whole ∙ gives-append q (lower_half five)
-          (upper_half five)
-          ∙ plus (gives q (upper_half five))
-          (gives_none q (lower_half five) (ha.lower.leaf leaf) (below_all q le))
+      upper_gives leaf q le = search (gives, gives-append, gives_none, below_all, arith)
         where
           plus : {b : ℕ} (a : ℕ) → b ≡ 0 → b + a ≡ a
           plus a e = omega arith
@@ -401,12 +314,12 @@ module _ (size : ℕ) (g : Shape) (m m' : Memory) (n u : ℕ) (five : Entries) (
                 to = λ some.
                     (let within = ha.within some in omega (arith, lt, within));
               } in
-              inside leaf_n q over_n ∙ lower_gives leaf_n q lt ∙ ap (gives q) (sym sp.entries)
-              ∙ ap (λ x. gives q (entries_at m' x)) (sym at)
+              cc (inside leaf_n q over_n, lower_gives leaf_n q lt, sp.entries)
           by_place old (inr apart) =
-              let over_a : Covers m g.low a q = record {
+              let over_a : Covers m g.low a q =
+              record {
                 from = (let from = over.from in let e = low_same a old in omega (arith, from, e));
-                to = subst (λ b. b ≢ 0 → q < b) (word_same a 2 old apart (omega arith)) over.to;
+                to = rw (← word_same a 2 old apart (omega arith)) over.to;
               } in
               let leaf_a = sym (level_same a old) ∙ leaf in
               outside q a old leaf_a apart over_a ∙ st.shows q a old leaf_a over_a
@@ -420,13 +333,8 @@ module _ (size : ℕ) (g : Shape) (m m' : Memory) (n u : ℕ) (five : Entries) (
               ∙ low_new in omega (arith, from, e)) in
               let bound : bound_at m' a ≡ bound_at m n = ap (bound_at m') at ∙ sp.new_bound in
               let over_n : Covers m g.low n q =
-              record {
-                from = omega (arith, le, above_n);
-                to = subst (λ b. b ≢ 0 → q < b) bound
-                    over.to;
-              } in
-              inside leaf_n q over_n ∙ upper_gives leaf_n q le ∙ ap (gives q) (sym sp.new_entries)
-              ∙ ap (λ x. gives q (entries_at m' x)) (sym at)
+              record { from = omega (arith, le, above_n); to = rw (← bound) over.to } in
+              cc (inside leaf_n q over_n, upper_gives leaf_n q le, sp.new_entries)
 
   -- what hangs does so still, if none of the five entries leads to it
   pub split_unnamed : (y : ℕ) → Unnamed g m y
@@ -437,20 +345,12 @@ module _ (size : ℕ) (g : Shape) (m m' : Memory) (n u : ℕ) (five : Entries) (
     where
       by_place : g.linked p ≡ true → (p ≡ n) ⊎ (p ≢ n) → Each (λ entry. entry.1 ≢ y)
           (entries_at m' p)
-      by_place old (inl at) =
-          subst (λ x. Each (λ entry. entry.1 ≢ y) (entries_at m' x)) (sym at)
-          (subst (Each (λ entry. entry.1 ≢ y)) (sym sp.entries)
-          (lower (λ none. some (ap (level_at m') at ∙ level_same n used ∙ none))))
-      by_place old (inr apart) =
-          subst (Each (λ entry. entry.1 ≢ y)) (sym (entries_same p old apart).0)
-          (hangs p old (λ none. some (level_same p old ∙ none)))
+      by_place old (inl at) = search (level_same, arith)
+      by_place old (inr apart) = search (entries_same, level_same, arith)
 
       by_new : (g.linked p ≡ true) ⊎ (p ≡ u) → Each (λ entry. entry.1 ≢ y) (entries_at m' p)
       by_new (inl old) = by_place old (same_or p n)
-      by_new (inr at) =
-          subst (λ x. Each (λ entry. entry.1 ≢ y) (entries_at m' x)) (sym at)
-          (subst (Each (λ entry. entry.1 ≢ y)) (sym sp.new_entries)
-          (upper (λ none. some (ap (level_at m') at ∙ sp.new_level ∙ none))))
+      by_new (inr at) = search arith
 
   leads_old : (above from bound : ℕ) (xs : Entries) → above ≢ 0 → HasEntries g m above from bound xs
       → Each (λ entry. entry.1 ≢ u) xs

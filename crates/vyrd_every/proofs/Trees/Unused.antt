@@ -149,20 +149,7 @@ with_fresh k u ws = record {
 pub rely_fresh : (h : Header) (s : Situation) (k : TreeLocals) (u : ℕ) (ws : List (ℕ × ℕ))
     (g g' : Shape) (m m' : Memory) → k.fresh ≡ None
     → TreeRely h s (with_fresh k u ws) g m g' m' → TreeRely h s k g m g' m'
-rely_fresh h s k u ws g g' m m' none r = record {
-  grows = r.grows;
-  held = r.held;
-  fresh = λ n mine. absurd (some_isnt n (sym none ∙ mine));
-  used = λ n mine le. absurd (some_isnt n (sym none ∙ mine));
-  hanging = r.hanging;
-  root = r.root;
-  count = r.count;
-  tree = r.tree;
-  calm = λ held out. r.calm held refl;
-}
-  where
-    some_isnt : (n : ℕ) → ◌≡◌ {A = Option ℕ} None (Some n) → ⊥
-    some_isnt n e = cc
+rely_fresh h s k u ws g g' m m' none r = search arith
 
 -- With one lock held: the lock of the count is taken, and either there is no node, or one is taken
 -- that wasn't linked.

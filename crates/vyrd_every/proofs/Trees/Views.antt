@@ -32,11 +32,7 @@ use Rattle.vyrd_every.proofs.Trees.Unused.{SameNodes, nodes_linked, nodes_state}
 use Rattle.vyrd_every.proofs.Trees.Order.{one_cover_in}
 
 zero_low_in : (size : ℕ) (g : Shape) (m : Memory) → IsLinked size g m → g.low 0 ≡ 0
-zero_low_in size g m t = by_zero (zero_or (g.low 0))
-  where
-    by_zero : (g.low 0 ≡ 0) ⊎ (g.low 0 ≢ 0) → g.low 0 ≡ 0
-    by_zero (inl none) = none
-    by_zero (inr some) = absurd ((t.left 0 t.zero_linked some).some refl)
+zero_low_in size g m t = search (zero_or, arith)
 
 -- the node at a right link
 pub next_in : (size : ℕ) (g : Shape) (m : Memory) → IsLinked size g m → (n : ℕ) → g.linked n ≡ true
@@ -55,35 +51,22 @@ pub covered_in_from : (size : ℕ) (g : Shape) (m : Memory) → IsLinked size g 
     → g.linked n ≡ true → g.low n ≤ k → k < g.low n + fuel
     → IsCoveredIn size g m (level_at m n) k
 covered_in_from size g m t zero n k used from to = absurd (omega (arith, from, to))
-covered_in_from size g m t (suc fuel) n k used from to =
-    by_bound (covered_in_from size g m t fuel (right_at m n) k) (zero_or (bound_at m n))
+covered_in_from size g m t (suc fuel) n k used from to = by_bound
+    (covered_in_from size g m t fuel (right_at m n) k) (zero_or (bound_at m n))
     (le_or (bound_at m n) k)
   where
     Onward : Type 0
     Onward = g.linked (right_at m n) ≡ true → g.low (right_at m n) ≤ k → k < g.low (right_at m n)
-        + fuel
-        → IsCoveredIn size g m (level_at m (right_at m n)) k
+        + fuel → IsCoveredIn size g m (level_at m (right_at m n)) k
 
     here : Below k (bound_at m n) → IsCoveredIn size g m (level_at m n) k
-    here below =
-        record {
-          node = n;
-          linked = used;
-          level_is = refl;
-          covers =
-              record { from = from; to = below };
-        }
+    here below = search arith
 
     by_bound : Onward → (bound_at m n ≡ 0) ⊎ (bound_at m n ≢ 0) → (bound_at m n ≤ k)
         ⊎ (k < bound_at m n) → IsCoveredIn size g m (level_at m n) k
     by_bound onward (inl none) place = here (λ some. absurd (some none))
     by_bound onward (inr some) (inr lt) = here (λ some. lt)
-    by_bound onward (inr some) (inl le) =
-        let on = next_in size g m t n used some in
-        let begins : g.low (right_at m n) ≡ bound_at m n = on.begins in
-        let above : g.low n < bound_at m n = on.above in
-        subst (λ level. IsCoveredIn size g m level k) on.same_level
-        (onward on.linked (omega arith) (omega arith))
+    by_bound onward (inr some) (inl le) = search (next_in, arith)
 
 -- each key has its leaf
 pub covered_in : (size : ℕ) (g : Shape) (m : Memory) → IsLinked size g m → (k : ℕ)
@@ -110,14 +93,13 @@ pub out_of_range : (size : ℕ) (g : Shape) (m : Memory) → IsLinked size g m �
 out_of_range size g m t q n used leaf out =
     let es = t.entries n used in
     gives_none q (entries_at m n) (es.leaf leaf)
-    (each_more (InRange (g.low n) (bound_at m n)) (λ entry. entry.0 ≢ q)
+    (each_more (InRange _ _) _
     (λ entry is e. out
     (record {
       from = (let from = is.0 in omega arith);
       to = λ some.
           (let to = is.1 some in omega arith);
-    }))
-    (entries_at m n) es.in_range)
+    })) _ es.in_range)
 
 -- a node where the chain has come, and what it has seen: no node that begins as high
 pub record OnChain (size : ℕ) (g : Shape) (m : Memory) (left : ℕ) (seen : List ℕ)
@@ -280,15 +262,13 @@ pub view_is : (h : Header) (g : Shape) (log : List Entry) (state : Amounts) → 
     → ShowsState g (shown_by log) state → view_of_words h (old_words_after h log) ≡ state
 unfolding view_of_words old_words_after
 view_is h g log state is t st =
-    ap (λ s. collected (parts_of s h.size words)) is ∙ collected-is (chain_parts h.size words) state
-    st.formed given_is
+    cc (collected-is (chain_parts h.size words) state st.formed given_is)
   where
     words : List ℕ
     words = map (old_value_after (old_effects log)) (numbers_below (plain_words h))
 
     word : (cell : ℕ) → cell < 12 * h.size + 2 → slice_index words cell ≡ shown_by log cell
-    word cell low = element_below (old_value_after (old_effects log)) (plain_words h) cell
-        (subst (λ s. cell < plain_words_of s h.size) (sym is) low)
+    word cell low = search (element_below, arith)
 
     same : SameNodes h.size (shown_by log) (slice_index words)
     same = record {

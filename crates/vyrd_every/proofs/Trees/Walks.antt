@@ -48,16 +48,14 @@ pub record Walking (size : ℕ) (g : Shape) (m : Memory) (key toward left n : �
 walking_stays : (size : ℕ) (g g' : Shape) (m m' : Memory) (key toward left n : ℕ)
     (visited : ℕ → Bool) → Grows g m g' m'
     → Walking size g m key toward left n visited → Walking size g' m' key toward left n visited
-walking_stays size g g' m m' key toward left n visited grows w =
-    grind (arith, grows.linked n w.linked, w.enough)
+walking_stays size g g' m m' key toward left n visited grows w = search arith
 
 after_more : (m : Memory) (low : ℕ → ℕ) (x n next : ℕ) → IsAfter m low x n → IsAfter m low n next
     → IsAfter m low x next
 after_more m low x n next e5 e6 = grind arith
 
 not_after_itself : (m : Memory) (low : ℕ → ℕ) (n : ℕ) → IsAfter m low n n → ⊥
-not_after_itself m low n (inl lt) = omega (arith, lt)
-not_after_itself m low n (inr both) = let lt = both.1 in omega arith
+not_after_itself m low n e3 = search arith
 
 not_visited : (size : ℕ) (g : Shape) (m : Memory) (key toward left n : ℕ) (visited : ℕ → Bool)
     → Walking size g m key toward left n visited
@@ -120,8 +118,7 @@ pub load_node : (h : Header) (s : Situation) (k : TreeLocals) (g : Shape) (m : M
     → (g' : Shape) → (m' : Memory) → TreeRely h s k g m g' m'
     → TreeRight h s k g' m' (step (Load (12 * n + place)) rest)
 load_node h s k g m n place rest at low later g' m' rely =
-    tree_load h s k g' m' (12 * n + place) rest rely.tree
-    (unseen_stays h s k g m g' m' at.unseen rely)
+    tree_load h s k _ _ _ rest rely.tree (unseen_stays h s k g m _ _ at.unseen rely)
     (inl (record {
       node = n;
       place = place;
@@ -129,10 +126,8 @@ load_node h s k g m n place rest at low later g' m' rely =
       low = low;
       linked = rely.grows.linked n at.linked;
       may = inl at.held;
-    })) at.out
-    (λ g'' m'' rely'.
-    subst (λ v. TreeRight h s k g'' m'' (rest v)) (sym (rely.held n place at.linked at.held low))
-    (later g'' m'' (tree_rely_more h s k g g' g'' m m' m'' rely rely')))
+    })) at.out (λ g'' m'' rely'. rw (rely.held n place at.linked at.held low)
+    (later g'' m'' (tree_rely_more h s k g g' _ m m' _ rely rely')))
 
 -- what comes next does right, however others have gone on
 abbrev pub Onward : Header → Situation → TreeLocals → Shape → Memory → Script → Type 0
@@ -145,8 +140,7 @@ pub keys_right : (h : Header) (s : Situation) (k : TreeLocals) (g : Shape) (m : 
     → Onward h s k g m (loaded (map (key_at m n) (numbers_from place many)))
     → Onward h s k g m (load_keys many n place loaded)
 keys_right h s k g m n at zero place loaded low later = later
-keys_right h s k g m n at (suc many) place loaded low later =
-    load_node h s k g m n (4 + place)
+keys_right h s k g m n at (suc many) place loaded low later = load_node h s k g m n _
     (λ key. load_keys many n (place + 1) (λ keys. loaded (key ∷ keys))) at (omega (arith, low))
     (keys_right h s k g m n at many (place + 1) (λ keys. loaded (key_at m n place ∷ keys))
     (omega (arith, low)) later)
@@ -157,11 +151,9 @@ pub values_right : (h : Header) (s : Situation) (k : TreeLocals) (g : Shape) (m 
     → Onward h s k g m (loaded (entries_from m n place many))
     → Onward h s k g m (load_values (map (key_at m n) (numbers_from place many)) n place loaded)
 values_right h s k g m n at zero place loaded low later = later
-values_right h s k g m n at (suc many) place loaded low later =
-    load_node h s k g m n (8 + place)
+values_right h s k g m n at (suc many) place loaded low later = load_node h s k g m n _
     (λ value. load_values (map (key_at m n) (numbers_from (place + 1) many)) n (place + 1)
-    (λ entries. loaded ((key_at m n place, value) ∷ entries)))
-    at (omega (arith, low))
+    (λ entries. loaded ((key_at m n place, value) ∷ entries))) at (omega (arith, low))
     (values_right h s k g m n at many (place + 1)
     (λ entries. loaded ((key_at m n place, value_at m n place) ∷ entries)) (omega (arith, low))
     later)
@@ -219,15 +211,11 @@ visit_right : (h : Header) (method : Method) (committed : Bool) (key toward : �
     (pass_on h Correct key toward n (level_at m n) (count_at m n) (bound_at m n)
     (right_at m n) lost visit arrived)
 visit_right h method committed key toward k g m n lost visit arrived tree at from high goes_on
-    there =
-    grind (
+    there = grind (
       arith,
       least (count_at m n) (tree.few n at.linked),
-      by_bound (zero_or (bound_at m n))
-          (le_or (bound_at m n) key),
-      passed,
-      zero_or,
-      le_or,
+      by_bound
+          (zero_or (bound_at m n)) (le_or (bound_at m n) key),
     )
   where
     s : Situation
@@ -243,20 +231,20 @@ visit_right h method committed key toward k g m n lost visit arrived tree at fro
     -- the node is unlocked, and the next one visited
     leave : (next : ℕ) → Onward h free k g m (visit next)
         → Onward h s k g m (unlock_node h n (visit next))
-    leave next onward g' m' rely =
-        tree_give_last h method committed k g' m' (lock_of h n) (visit next) rely.tree
-        (unseen_stays h s k g m g' m' at.unseen rely)
+    leave next onward g' m' rely = tree_give_last h method committed k g' m' (lock_of h n)
+        (visit next) rely.tree (unseen_stays h s k g m g' m' at.unseen rely)
         (λ g'' m'' rely'. onward g'' m''
         (tree_rely_more h free k g g' g'' m m' m''
         (tree_rely_less h s free k g g' m m' (λ lock e. cc) rely) rely'))
 
     down : toward < level_at m n → Goal false true
-    down above =
-        keys_right h s k g m n at (count_at m n) 0 after (few (count_at m n) (tree.few n at.linked))
+    down above = keys_right h s k g m n at (count_at m n) 0 after
+        (few (count_at m n) (tree.few n at.linked))
         (rw (isnt_same (count_at m n) 0 (omega (arith, two)))
         (load_node h s k g m n (8 + place) (λ child. unlock_node h n (visit child)) at
         (place_low place (count_at m n) placed (tree.few n at.linked))
-        (leave (value_at m n place) (goes_on (value_at m n place) child.linked child.from
+        (leave (value_at m n place)
+        (goes_on (value_at m n place) child.linked child.from
         (let lower = child.lower in omega (arith, above))
         (inl (let lower = child.lower in omega arith))))))
       where
@@ -275,9 +263,8 @@ visit_right h method committed key toward k g m n lost visit arrived tree at fro
 
         placed : child_place key (map (key_at m n) (numbers_from 0 (count_at m n))) < count_at m n
         placed =
-            let first : key_at m n 0 ≡ g.low n =
-            begins_at (key_at m n) (value_at m n) (g.low n) 0 (count_at m n)
-            ((tree.entries n at.linked).inner some).first in
+            let first : key_at m n 0 ≡ g.low n = begins_at (key_at m n) (value_at m n) (g.low n) 0
+            (count_at m n) ((tree.entries n at.linked).inner some).first in
             (child_is (key_at m n) key 0 (count_at m n)
             (any_from (key_at m n) key 0 (count_at m n) (omega (arith, two))
             (omega (arith, first, from)))).0
@@ -300,8 +287,7 @@ visit_right h method committed key toward k g m n lost visit arrived tree at fro
             (λ child. unlock_node h n (visit child)))
 
     here : level_at m n ≡ toward → Below key (bound_at m n) → Goal false false
-    here level below =
-        keys_right h s k g m n at (count_at m n) 0
+    here level below = keys_right h s k g m n at (count_at m n) 0
         (λ keys. load_values keys n 0 (λ entries. arrived (it entries)))
         (few (count_at m n) (tree.few n at.linked))
         (values_right h s k g m n at (count_at m n) 0 (λ entries. arrived (it entries))
@@ -323,8 +309,7 @@ visit_right h method committed key toward k g m n lost visit arrived tree at fro
     by_level : Below key (bound_at m n) → (level_at m n ≤ toward) ⊎ (toward < level_at m n)
         → Goal false (nat_lt toward (level_at m n))
     by_level below (inl le) = grind (arith, isnt_below, here, below)
-    by_level below (inr above) = subst (Goal false) (sym (is_below toward (level_at m n) above))
-        (down above)
+    by_level below (inr above) = grind (arith, is_below toward (level_at m n) above, down above)
 
     right : bound_at m n ≢ 0 → bound_at m n ≤ key → Goal true (nat_lt toward (level_at m n))
     right some le =
@@ -370,15 +355,13 @@ pub walk_right : (h : Header) (method : Method) (committed : Bool) (key toward :
     → TreeRight h (holding [] method committed false) k g' m'
     (walk_from h Correct key toward left n lost arrived)
 walk_right h method committed key toward k g m lost arrived unseen there zero n visited g' m' rely
-    w =
-    absurd (some_left h.size g' m' key toward n visited
+    w = absurd (some_left h.size g' m' key toward n visited
     (fits n (rely.tree.taken n w.linked) rely.tree.last_low) w)
   where
     fits : {last : ℕ} → (n : ℕ) → n ≤ last → last < h.size → n < h.size
     fits n le lt = omega (arith, le, lt)
 walk_right h method committed key toward k g m lost arrived unseen there (suc left) n visited g' m'
-    rely w =
-    visits (walk_right h method committed key toward k g m lost arrived unseen there left)
+    rely w = visits (walk_right h method committed key toward k g m lost arrived unseen there left)
   where
     s : Situation
     s = holding (lock_of h n ∷ []) method committed false
@@ -397,8 +380,7 @@ walk_right h method committed key toward k g m lost arrived unseen there (suc le
 
     Later : Type 0
     Later = (n : ℕ) (visited : ℕ → Bool) (g' : Shape) (m' : Memory) → TreeRely h free k g m g' m'
-        → Walking h.size g' m' key toward left n visited
-        → TreeRight h free k g' m' (visit n)
+        → Walking h.size g' m' key toward left n visited → TreeRight h free k g' m' (visit n)
 
     -- once the lock is taken
     under : Later → (a : Shape) (x : Memory) → TreeRely h s k g' m' a x
@@ -407,18 +389,19 @@ walk_right h method committed key toward k g m lost arrived unseen there (suc le
         (λ level. step (Load (count_cell n)) (λ count. step (Load (bound_cell n)) (λ bound.
         step (Load (right_cell n))
         (λ right. pass_on h Correct key toward n level count bound right lost visit arrived)))))
-    under later a x taken =
-        load_node h s k a x n 0
-        (λ level. step (Load (count_cell n)) (λ count. step (Load (bound_cell n)) (λ bound.
-        step (Load (right_cell n))
+    under later a x taken = load_node h s k a x n 0
+        (λ level. step (Load (count_cell n))
+        (λ count. step (Load (bound_cell n))
+        (λ bound. step (Load (right_cell n))
         (λ right. pass_on h Correct key toward n level count bound right lost visit arrived)))) at
         (omega arith)
-        (load_node h s k a x n 1 (λ count. step (Load (bound_cell n)) (λ bound.
-        step (Load (right_cell n))
+        (load_node h s k a x n 1
+        (λ count. step (Load (bound_cell n))
+        (λ bound. step (Load (right_cell n))
         (λ right. pass_on h Correct key toward n (level_at x n) count bound right lost visit
         arrived))) at (omega arith)
-        (load_node h s k a x n 2 (λ bound.
-        step (Load (right_cell n))
+        (load_node h s k a x n 2
+        (λ bound. step (Load (right_cell n))
         (λ right. pass_on h Correct key toward n (level_at x n) (count_at x n) bound right lost
         visit arrived)) at (omega arith)
         (load_node h s k a x n 3
@@ -430,8 +413,7 @@ walk_right h method committed key toward k g m lost arrived unseen there (suc le
         (tree_rely_more h free k g a b m x y begun go)
         (walking_stays h.size a b x y key toward left next (and_node n visited) go.grows
         (walking_on h.size a x key toward left n next visited fits here linked from high after)))
-        (λ level over. there n a x begun at level over)))))
-        a x (same taken)
+        (λ level over. there n a x begun at level over))))) a x (same taken)
       where
         begun : TreeRely h free k g m a x
         begun = tree_rely_more h free k g g' a m m' x rely
@@ -441,25 +423,24 @@ walk_right h method committed key toward k g m lost arrived unseen there (suc le
         here = walking_stays h.size g' a m' x key toward (suc left) n visited taken.grows w
 
         at : AtNode h s k a x n
-        at =
-            grind (
-              arith,
-              here.linked,
-              same_number (lock_of h n),
-              unseen_stays h free k g m a x
-                  unseen begun,
-            )
+        at = grind (
+          arith,
+          here.linked,
+          same_number (lock_of h n),
+          unseen_stays h free k g m a x
+              unseen begun,
+        )
 
         same : TreeRely h s k g' m' a x → TreeRely h s k a x a x
         same r = grind (arith, r.tree, r.calm)
 
     visits : Later → TreeRight h free k g' m'
         (walk_from h Correct key toward (suc left) n lost arrived)
-    visits later =
-        rw (is_below n h.size fits)
+    visits later = rw (is_below n h.size fits)
         (tree_take h free k g' m' (lock_of h n)
         (step (Load (level_cell n))
-        (λ level. step (Load (count_cell n)) (λ count. step (Load (bound_cell n)) (λ bound.
-        step (Load (right_cell n))
+        (λ level. step (Load (count_cell n))
+        (λ count. step (Load (bound_cell n))
+        (λ bound. step (Load (right_cell n))
         (λ right. pass_on h Correct key toward n level count bound right lost visit arrived)))))
         rely.tree (unseen_stays h free k g m g' m' unseen rely) (λ held e. cc) (under later))

@@ -98,32 +98,8 @@ pub record ComesOut (h : Header) (s : Situation) (k : TreeLocals) (m : Memory) (
     pub none : takes_effect s.in_block k.pending act ≡ []
 
 never_out : (b : Bool) → b ≡ false → (b || false) ≡ true → ⊥
-never_out true e f = cc
-never_out false e f = cc
+never_out b e f = search arith
 
 pub when_out : (h : Header) (s : Situation) (k : TreeLocals) (m : Memory) (act : Act)
     → k.out ≡ false → out_after h s act k.out ≡ true → ComesOut h s k m act
-when_out h s k m (Load cell) quiet out = absurd (never_out k.out quiet out)
-when_out h s k m (Take lock) quiet out = absurd (never_out k.out quiet out)
-when_out h s k m (Give lock) quiet out = absurd (never_out k.out quiet out)
-when_out h s k m Done quiet out = absurd (never_out k.out quiet out)
-when_out h s k m (Store cell value) quiet out =
-    let both = split s.in_block (cell == root_cell h)
-    (sym (cc) ∙ out) in
-    record {
-      value = value;
-      stores = cc (same_of cell (root_cell h) both.1);
-      inside = both.0;
-      seen = cc (both.0, both.1);
-      none = cc (both.0);
-    }
-  where
-    split : (b r : Bool) → (false || (b && r)) ≡ true → (b ≡ true) × (r ≡ true)
-    split b r e = search arith
-when_out h s k m (Mark (Call method args)) quiet out = absurd (never_out k.out quiet out)
-when_out h s k m (Mark (Return reply)) quiet out = absurd (never_out k.out quiet out)
-when_out h s k m (Mark (Write word value)) quiet out = absurd (never_out k.out quiet out)
-when_out h s k m (Mark Commit) quiet out = absurd (never_out k.out quiet out)
-when_out h s k m (Mark BlockOpen) quiet out = cc
-when_out h s k m (Mark BlockClose) quiet out = cc
-when_out h s k m (Mark BlockCommit) quiet out = cc
+when_out h s k m act quiet out = search (never_out, same_of, arith)

@@ -76,27 +76,17 @@ pub added : (h : Header) (task : Task) (v : Visit) (count place key value : ℕ)
 added h task v count place key value five four close low len at le is first closes =
     let slots : List (ℕ × ℕ) = v.entries.slots in
     let node : ℕ = v.node.number in
-    let fits : length (take count slots) ≡ count = length-take-le count slots
-    (omega (arith, len, low)) in
+    let fits : length (take count slots) ≡ count = length-take-le _ _ (omega (arith, len, low)) in
     let next : count + 1 ≡ suc count = omega arith in
     let shorter : take (count + 1) four ≡ insert (take count slots) place (key, value) =
-    ap (take (count + 1)) first ∙ take_4 (count + 1) five (omega (arith, low))
-    ∙ ap (take (count + 1)) is
-    ∙ ap (λ n. take n (insert slots place (key, value))) next
-    ∙ sym (insert_in_take slots place count (key, value) le (omega (arith, len, low))) in
-    let count_is : count + 1 ≡ length (insert (take count slots) place (key, value)) =
-    next ∙ ap suc (sym fits) ∙ sym (length_insert (take count slots) place (key, value)) in
-    ap (λ es. rewriting h node place es (count + 1) close (returns 1)) shorter
-    ∙ ap (λ n. rewriting h node place (insert (take count slots) place (key, value)) n close
-    (returns 1)) count_is
-    ∙ ap (λ k. rewriting h node place (insert (take count slots) place (key, value))
-    (length (insert (take count slots) place (key, value))) k (returns 1)) closes
-    ∙ ap (λ p. rewriting h node p (insert (take count slots) p (key, value))
-    (length (insert (take count slots) p (key, value)))
-    (close_for v.errand) (returns 1)) at
-    ∙ ap (λ b. cond b (add_entry h (visited v count) key value (close_for v.errand) (returns 1))
-    (filled h task v.errand (visited v count) key value))
-    (sym (is_below (length (take count slots)) 4 (omega (arith, fits, low))))
+    cc (
+      take_4 (count + 1) five (omega (arith, low)),
+      insert_in_take slots place count
+          (key, value) le (omega (arith, len, low)),
+    ) in
+    let count_is : count + 1 ≡ length (insert (take count slots) place (key, value)) = next
+    ∙ ap suc (sym fits) ∙ sym (length_insert _ _ _) in
+    cc (is_below (length (take count slots)) 4 (omega (arith, fits, low)))
 
 -- the node of a visit, with these five entries, is split
 abbrev opened : Header → Task → Visit → List (ℕ × ℕ) → ℕ → Script
@@ -118,14 +108,13 @@ pub overflows : (h : Header) (task : Task) (v : Visit) (count place key value : 
 overflows h task v count place key value five high few len at is =
     let slots : List (ℕ × ℕ) = v.entries.slots in
     let count_is : count ≡ length slots = omega (arith, len, high, few) in
-    let whole : take count slots ≡ slots = ap (λ n. take n slots) count_is ∙ take_all slots in
+    let whole : take count slots ≡ slots = cc (take_all slots) in
     let fits : length (take count slots) ≡ 4 = ap length whole ∙ len in
     ap (λ es. opened h task v es place) (is ∙ ap (λ xs. insert xs place (key, value)) (sym whole))
     ∙ ap (λ p. opened h task v (insert (take count slots) p (key, value)) p) at
     ∙ ap (λ b. cond b (add_entry h (visited v count) key value (close_for v.errand) (returns 1))
     (opened h task v (with_entry (take count slots) key value)
-    (place_below key (take count slots))))
-    (sym (isnt_below (length (take count slots)) 4 (omega (arith, fits))))
+    (place_below key (take count slots)))) (sym (isnt_below _ 4 (omega (arith, fits))))
 
 pub added_child : (h : Header) (task : Task) (e : Errand) (a : Ascent) (at : Arrived)
     (key value : ℕ) → e ≡ errand.Ascent a
@@ -147,5 +136,4 @@ pub inserted_new : (h : Header) (task : Task) (e : Errand) (at : Arrived) (place
 inserted_new h task e at place key value is none is_key is_value =
     ap (λ x. add_rest h task x at key value) is
     ∙ ap (λ k. add_rest h task errand.Operation at k value) is_key
-    ∙ ap (add_rest h task errand.Operation at task.key) is_value
-    ∙ ap (insert_in h task.variant task.key task.value at) (sym none)
+    ∙ ap (add_rest h task errand.Operation at _) is_value ∙ ap (insert_in h _ _ _ _) (sym none)

@@ -39,16 +39,15 @@ value_first : (slots : List (ℕ × ℕ)) (place count node : ℕ) (loaded : Lis
     (λ entries.
     loaded ((key_at slots place, value) ∷ entries)))
 value_first slots place count node loaded low fits =
-    let len : length (take count slots) ≡ count = length-take-le count slots fits in
+    let len : length (take count slots) ≡ count = length-take-le _ _ fits in
     ap (λ es. load_values (keys_of es) node place loaded)
     (drop-cons (take count slots) place (0, 0) (omega (arith, len)))
     ∙ ap (λ e. step (Load (value_cell node place))
     (λ value. load_values (keys_of (drop (suc place) (take count slots))) node (place + 1)
-    (λ entries.
-    loaded ((e.0, value) ∷ entries)))) (get_or-take count slots place (0, 0) low)
+    (λ entries. loaded ((e.0, value) ∷ entries)))) (get_or-take count slots place (0, 0) low)
     ∙ ap (λ n. step (Load (value_cell node place))
-    (λ value. load_values (keys_of (drop n (take count slots))) node (place + 1) (λ entries.
-    loaded ((key_at slots place, value) ∷ entries)))) (sym (one_more place))
+    (λ value. load_values (keys_of (drop n (take count slots))) node (place + 1)
+    (λ entries. loaded ((key_at slots place, value) ∷ entries)))) (sym (one_more place))
 
 pub value_comes : (h : Header) (task : Task) (v : Visit) (slot : Slot) (place count : ℕ)
     → slot.place ≡ place → slot.of ≡ count
@@ -83,15 +82,13 @@ value_kept h task v slot value slots is low =
     ap (λ s. load_values (keys_of (drop (p + 1) (take slot.of s))) v.node.number (p + 1)
     (λ entries. next (take (p + 1) s ++ entries))) is
     ∙ ap (λ front. load_values (keys_of (drop (p + 1) (take slot.of (set before p e))))
-    v.node.number (p + 1) (λ entries. next (front ++ entries)))
-    (take_more_set before p e low)
+    v.node.number (p + 1) (λ entries. next (front ++ entries))) (take_more_set before p e low)
     ∙ ap (λ left. load_values (keys_of left) v.node.number (p + 1)
     (λ entries. next ((take p before ++ e ∷ []) ++ entries)))
     (ap (drop (p + 1)) (take-set-lt slot.of before p e slot.within)
-    ∙ drop-set-lt (p + 1) (take slot.of before) p e (omega arith))
+    ∙ drop-set-lt (p + 1) (take _ _) p e (omega arith))
     ∙ (λ i. load_values (keys_of (drop (p + 1) (take slot.of before))) v.node.number (p + 1)
-    (λ entries. next
-    (append_assoc (take p before) (e ∷ []) entries i)))
+    (λ entries. next (append_assoc (take p before) (e ∷ []) entries i)))
   where
     p : ℕ
     p = slot.place

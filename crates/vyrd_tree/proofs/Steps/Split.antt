@@ -45,5 +45,4 @@ pub next_up : (h : Header) (task : Task) (e : Errand) (a : Ascent) (key : ℕ) (
     ≡ after_split h task e key new.number
 next_up h task e a key new is low =
     let left : 15 - a.level ≡ suc (15 - (a.level + 1)) = omega arith in
-    ap (λ n. ascend h task.variant n (a.level + 1) key new.number (returns 1)) (sym left)
-    ∙ ap (λ x. after_split h task x key new.number) (sym is)
+    cc

@@ -25,10 +25,8 @@ comes_in h task e zero number v is_errand is_left is_number low some = absurd (s
 comes_in h task e (suc l) number v is_errand is_left is_number low some =
     let fewer : v.left ≡ l = omega (arith, is_left) in
     ap (λ x. visit_of h task x v.left v.node.number) is_errand
-    ∙ ap (λ n. visit_of h task e n v.node.number) fewer
-    ∙ ap (visit_of h task e l) is_number
-    ∙ ap (λ b. cond b (visit_of h task e l number) (lost_for task e))
-    (sym (is_below number h.size low))
+    ∙ ap (λ n. visit_of h task e n v.node.number) fewer ∙ ap (visit_of h task e l) is_number
+    ∙ ap (λ b. cond b (visit_of h task e l number) (lost_for task e)) (sym (is_below _ _ low))
 
 -- there is no such node, or no visit is left
 pub is_lost : (h : Header) (task : Task) (e : Errand) (left number : ℕ) → h.size ≤ number
