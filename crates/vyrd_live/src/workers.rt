@@ -25,9 +25,10 @@ use vyrd_memory::{EventSink, Machine};
 use vyrd_relay::{Relay, Sender};
 use vyrd_trace::{Hand, Traced};
 
-/// How many parcels of events the relay holds. A worker that finds it full within an operation goes
-/// on, and sends them later: after the operation it waits for room.
-const RELAY_CAPACITY: u64 = 256;
+/// How many parcels of events the relay holds: more than one caller sends until it is so far ahead
+/// that it waits. A worker that finds it full within an operation goes on, and sends them later:
+/// after the operation it waits for room.
+const RELAY_CAPACITY: u64 = 640;
 
 /// Plays all workers, shows what they do to a sink that has taken nothing, and ends their memory.
 /// The workers have all of its hands, in the order of their callers.
