@@ -31,6 +31,9 @@ const VALUES: usize = 8;
 /// How many entries a node has room for.
 pub(crate) const ENTRIES: usize = 4;
 
+/// How many marks are compared at once.
+const AT_ONCE: usize = 16;
+
 /// What is added to a value, so that the amount of a key that is there is never 0. Keys and values
 /// are below it.
 const PRESENT: u64 = 1 << 32;
@@ -187,15 +190,51 @@ fn remark<L: Ledger>(
     ensures refused { OnErr result (parts.new.refused ≡ true) }
     ensures steps { steps.new ≤ steps.old + 9 * length marks.old }
 {
-    for node in 0..marks.len() {
+    let mut node = 0;
+    while node < marks.len() {
         let is_next = next[node];
         if marks[node] != is_next {
             let entries = shown_node(words, node, is_next, steps);
             put_node(parts, node, &entries, steps)?;
             marks[node] = is_next;
+            node += 1;
+        } else {
+            node = pass_same(marks, next, node + 1);
         }
     }
     Ok(())
+}
+
+/// A place up to which the marks from this one on are the next ones. It goes by many at a time,
+/// since few differ as a rule, and leaves fewer than that to its caller.
+fn pass_same(marks: &[bool], next: &[bool], from: usize) -> usize
+    requires same { length next.now ≡ length marks.now }
+    requires from { from ≤ length marks.now }
+    ensures after { from ≤ result }
+    ensures within { result ≤ length marks.now }
+    ensures same { (n : ℕ) → from ≤ n → n < result
+        → slice_index_or marks.now n false ≡ slice_index_or next.now n false }
+{
+    let mut place = from;
+    while marks.len() - place >= AT_ONCE && are_same(marks, next, place) {
+        place += AT_ONCE;
+    }
+    place
+}
+
+/// Whether as many marks as are compared at once are the next ones, from a place on. None is left
+/// out once one differs, so they are compared side by side.
+fn are_same(marks: &[bool], next: &[bool], from: usize) -> bool
+    requires same { length next.now ≡ length marks.now }
+    requires from { from + 16 ≤ length marks.now }
+    ensures { result ≡ true → (n : ℕ) → from ≤ n → n < from + 16
+        → slice_index_or marks.now n false ≡ slice_index_or next.now n false }
+{
+    let mut same = true;
+    for place in from..from + AT_ONCE {
+        same = same & (marks[place] == next[place]);
+    }
+    same
 }
 
 /// What the four places of a node give: its entries if it is marked, and nothing otherwise.
