@@ -18,7 +18,7 @@ use Rattle.vyrd_every.specs.Schedules.{IsCorrect, IsCorrectWithFewEvents}
 use Rattle.vyrd_every.proofs.Workloads.{schedule_accepted, not_stuck, few_events}
 use Rattle.vyrd_check_command.specs.Outputs.{status_of}
 use Rattle.vyrd_command.specs.declared.show.Show.{Show}
-use Rattle.vyrd_command.specs.Steps.{AnswersInput, IsStepAnswer, IsStepStatus, IsTurnedTo}
+use Rattle.vyrd_command.specs.Steps.{AnswersStep, IsStepAnswer, IsStepStatus, IsTurnedTo}
 use Rattle.vyrd_command.specs.Runs.{AnswersRun, IsRunAnswer, IsRunStatus, IsLiveRun}
 use Rattle.vyrd_command.specs.CorrectInputs.{SaysCorrect, SaysFewEvents}
 use Rattle.vyrd_command.specs.Generated.{IsGenAnswer, IsGenStatus}
@@ -67,11 +67,12 @@ read_of input bytes work said told reading read = grind arith
 
 pub step_is_accepted : (show : Show) (input : Option (List ℕ)) (status : ℕ) (text : List ℕ)
     → SaysCorrect input
-    → AnswersInput show input status text → status ≡ 0
+    → AnswersStep show input status text → status ≡ 0
 step_is_accepted show input status text says answers =
     step_accepted show _ _ text (reading_sound says.bytes says.work says.read).limits says.correct
     (subst (λ work. IsStepAnswer show work status text)
-    (read_of input says.bytes _ _ says.told says.read answers.read) answers.answer)
+    (read_of input says.bytes answers.said (Ok says.work) says.told says.read answers.read)
+    answers.answer)
 
 pub run_is_accepted : (show : Show) (input : Option (List ℕ)) (status : ℕ) (text : List ℕ)
     → SaysCorrect input
@@ -80,7 +81,7 @@ run_is_accepted show input status text says answers =
     run_accepted show says.work status text (reading_sound says.bytes says.work says.read).limits
     says.correct
     (subst (λ work. IsRunAnswer show work status text)
-    (read_of input says.bytes answers.work (Ok says.work) says.told says.read answers.read)
+    (read_of input says.bytes answers.said (Ok says.work) says.told says.read answers.read)
     answers.answer)
 
 pub run_is_unspent : (show : Show) (input : Option (List ℕ)) (status : ℕ) (text : List ℕ)
@@ -90,7 +91,7 @@ run_is_unspent show input status text says answers nine =
     run_unspent show says.work status text (reading_sound says.bytes says.work says.read).limits
     says.correct
     (subst (λ work. IsRunAnswer show work status text)
-    (read_of input says.bytes answers.work (Ok says.work) says.told says.read answers.read)
+    (read_of input says.bytes answers.said (Ok says.work) says.told says.read answers.read)
     answers.answer)
     nine
 

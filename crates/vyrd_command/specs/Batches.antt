@@ -1,6 +1,6 @@
 -- What `batch` answers about an input: at which log it is refused, or a line for each log's
 -- verdict.
-use Rattle.std.specs.Prelude.{◌≡◌, ◌≤◌, ◌⊎◌, ℕ, List, length, Option, Result, Ok, Err, IfSome}
+use Rattle.std.specs.Prelude.{◌≡◌, ◌≤◌, ◌⊎◌, ℕ, List, length, Option, Result, Ok, Err}
 use Rattle.vyrd_base.specs.Devices.{SourceKnown}
 use Rattle.vyrd_batch.specs.Batches.{batch_logs}
 use Rattle.vyrd_batch.specs.BatchAnswers.{verdicts_of, batch_text, batch_status, refused_line}
@@ -8,6 +8,7 @@ use Rattle.vyrd_batch.specs.LongBatches.{longest_batch_input}
 use Rattle.vyrd_batch.specs.Rounds.{BatchView, IsJudged}
 use Rattle.vyrd_check_command.specs.Inputs.{IsTaken}
 use Rattle.vyrd_command.specs.Inputs.{IsInputRead}
+use Rattle.vyrd_command.specs.Answering.{Answers}
 
 -- The first `count` bytes of a source were read, and its first logs judged. These bytes are left.
 pub record IsReading (before now : SourceKnown) (judge : BatchView) (rest : List ℕ)
@@ -30,12 +31,9 @@ IsBatchAnswer (Err log) status text = (status ≡ 11) × (text ≡ refused_line 
 IsBatchAnswer (Ok logs) status text =
     (status ≡ batch_status (verdicts_of logs)) × (text ≡ batch_text (verdicts_of logs))
 
--- The status and the text of an answer to an input. If its bytes are told, what was read is what
--- they say.
-pub record AnswersBatch (input : Option (List ℕ)) (status : ℕ) (text : List ℕ) : Type 0 where
-  pub logs : Result (List (List ℕ)) ℕ
-  pub read : IfSome input (λ bytes. logs ≡ batch_logs bytes)
-  pub answer : IsBatchAnswer logs status text
+-- the status and the text of an answer to an input
+abbrev pub AnswersBatch : Option (List ℕ) → ℕ → List ℕ → Type 0
+AnswersBatch = Answers batch_logs IsBatchAnswer
 
 -- the statuses with which a batch is answered
 abbrev pub IsBatchStatus : ℕ → Type 0

@@ -13,7 +13,7 @@ use Rattle.vyrd_command.specs.declared.form.Form.{Form}
 use Rattle.vyrd_command.specs.declared.form.Form.TheVariants as asked
 use Rattle.vyrd_command.specs.Inputs.{IsInputTaken, IsFewTaken}
 use Rattle.vyrd_command.specs.Forms.{usage_line}
-use Rattle.vyrd_command.specs.Steps.{AnswersInput, IsStepStatus}
+use Rattle.vyrd_command.specs.Steps.{AnswersStep, IsStepStatus}
 use Rattle.vyrd_command.specs.Runs.{AnswersRun, IsRunStatus}
 use Rattle.vyrd_command.specs.Generated.{IsGenAnswer, IsGenStatus}
 use Rattle.vyrd_command.specs.Moved.{AnswersMovers, IsMoversStatus}
@@ -36,7 +36,7 @@ IsAnswerStatus (Some (asked.Tell about)) status = status ≤ 2
 abbrev pub IsAnswer : Option Form → Option (List ℕ) → ℕ → List ℕ → Type 0
 IsAnswer None input status text = text ≡ usage_line
 IsAnswer (Some asked.Check) input status text = IsJudged most_lines input status text
-IsAnswer (Some (asked.Step show)) input status text = AnswersInput show input status text
+IsAnswer (Some (asked.Step show)) input status text = AnswersStep show input status text
 IsAnswer (Some (asked.Run show)) input status text = AnswersRun show input status text
 IsAnswer (Some (asked.Gen n)) input status text = IsGenAnswer n status text
 IsAnswer (Some asked.Movers) input status text = AnswersMovers input status text

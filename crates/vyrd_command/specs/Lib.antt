@@ -1,5 +1,6 @@
 pub mod Inputs
 pub mod Forms
+pub mod Answering
 pub mod Steps
 pub mod Runs
 pub mod Generated

@@ -1,6 +1,6 @@
 -- What `movers` answers about an input: how the bytes are refused as a history, or what is said of
 -- the history's blocks.
-use Rattle.std.specs.Prelude.{◌≡◌, ◌≤◌, ◌⊎◌, ℕ, List, Option, Result, Ok, Err, IfSome}
+use Rattle.std.specs.Prelude.{◌≡◌, ◌≤◌, ◌⊎◌, ℕ, List, Option, Result, Ok, Err}
 use Rattle.vyrd_base.specs.Devices.{SourceKnown}
 use Rattle.vyrd_base.specs.Histories.{cells_of}
 use Rattle.vyrd_mover.specs.declared.blocks.Blocks.{Blocks}
@@ -13,6 +13,7 @@ use Rattle.vyrd_mover.specs.HistoryReaders.{ReaderState, HasRead}
 use Rattle.vyrd_mover.specs.LongHistories.{longest_history}
 use Rattle.vyrd_mover.specs.Refusals.{history_refusal_text}
 use Rattle.vyrd_command.specs.Inputs.{IsInputRead}
+use Rattle.vyrd_command.specs.Answering.{Answers}
 
 -- the status that the answer about blocks ends with
 abbrev pub status_of_blocks : Blocks → ℕ
@@ -36,12 +37,9 @@ pub record IsHistoryRead (before after : SourceKnown) (reader : ReaderState) : T
   pub input : IsInputRead longest_history before after bytes
   pub read : HasRead reader bytes
 
--- The status and the text of an answer to an input. If its bytes are told, what was read is what
--- they say.
-pub record AnswersMovers (input : Option (List ℕ)) (status : ℕ) (text : List ℕ) : Type 0 where
-  pub history : Result Recorded Refusal
-  pub read : IfSome input (λ bytes. history ≡ history_reading bytes)
-  pub answer : IsMoversAnswer history status text
+-- the status and the text of an answer to an input
+abbrev pub AnswersMovers : Option (List ℕ) → ℕ → List ℕ → Type 0
+AnswersMovers = Answers history_reading IsMoversAnswer
 
 -- the statuses with which a history is answered
 abbrev pub IsMoversStatus : ℕ → Type 0

@@ -1,7 +1,7 @@
 -- What `run` answers about an input: how the bytes are refused, that a caller's events are spent,
 -- or the verdict about the log of a live run.
-use Rattle.std.specs.Prelude.{[], ◌≡◌, ◌<◌, ◌≤◌, ◌⊎◌, ℕ, true, List, ◌++◌, Result, Ok, Err, IfSome}
-use Rattle.std.specs.Prelude.{Option, codes, decimal}
+use Rattle.std.specs.Prelude.{[], ◌≡◌, ◌<◌, ◌≤◌, ◌⊎◌, ℕ, true, List, ◌++◌, Result, Ok, Err, Option}
+use Rattle.std.specs.Prelude.{codes, decimal}
 use Rattle.vyrd_base.specs.declared.history.Stamped.{Stamped}
 use Rattle.vyrd_base.specs.declared.verdict.Verdict.{Verdict}
 use Rattle.vyrd_base.specs.Histories.{cells_of, is_legal, log_of}
@@ -18,6 +18,7 @@ use Rattle.vyrd_work.specs.Refusals.{refusal_text}
 use Rattle.vyrd_live.specs.LiveRuns.{AllHadRoom, IsOverrun}
 use Rattle.vyrd_check_command.specs.Outputs.{status_of}
 use Rattle.vyrd_command.specs.declared.show.Show.{Show}
+use Rattle.vyrd_command.specs.Answering.{Answers}
 use Rattle.vyrd_command.specs.Steps.{run_text, NamesOnlyRaces}
 
 -- The history is legal, each caller's part plays the caller's script to its end, and this is the
@@ -59,13 +60,9 @@ IsRunAnswer show (Err refusal) status text =
     (status ≡ 7) × (text ≡ refusal_text refusal.line refusal.rule)
 IsRunAnswer show (Ok w) status text = TellsLive show w status text ⊎ TellsSpent w status text
 
--- The status and the text of the answer to an input. If its bytes are told, what was read is what
--- they say.
-pub record AnswersRun (show : Show) (input : Option (List ℕ)) (status : ℕ)
-    (text : List ℕ) : Type 0 where
-  pub work : Result Workload Refusal
-  pub read : IfSome input (λ bytes. work ≡ work_reading bytes)
-  pub answer : IsRunAnswer show work status text
+-- the status and the text of an answer to an input
+abbrev pub AnswersRun : Show → Option (List ℕ) → ℕ → List ℕ → Type 0
+AnswersRun show = Answers work_reading (IsRunAnswer show)
 
 -- the statuses with which a workload is answered
 abbrev pub IsRunStatus : ℕ → Type 0

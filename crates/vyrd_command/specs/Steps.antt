@@ -1,7 +1,6 @@
 -- What `step` answers about an input: how the bytes are refused, that the run by turns gets stuck,
 -- or the verdict about its log.
-use Rattle.std.specs.Prelude.{[], ◌≡◌, ◌≤◌, ◌⊎◌, ℕ, List, ◌++◌, Option, Result, Ok, Err, IfSome}
-use Rattle.std.specs.Prelude.{codes}
+use Rattle.std.specs.Prelude.{[], ◌≡◌, ◌≤◌, ◌⊎◌, ℕ, List, ◌++◌, Option, Result, Ok, Err, codes}
 use Rattle.vyrd_base.specs.declared.header.Header.{Header}
 use Rattle.vyrd_base.specs.declared.history.Stamped.{Stamped}
 use Rattle.vyrd_base.specs.declared.verdict.Rule.{Rule}
@@ -22,6 +21,7 @@ use Rattle.vyrd_mover.specs.HistoryText.{history_text}
 use Rattle.vyrd_check_command.specs.Outputs.{status_of}
 use Rattle.vyrd_command.specs.declared.show.Show.{Show}
 use Rattle.vyrd_command.specs.declared.show.Show.TheVariants as shown
+use Rattle.vyrd_command.specs.Answering.{Answers}
 
 -- what is shown of a run with this history and this verdict: the verdict's line, or the log's text
 -- and then that line, or the history's text
@@ -65,13 +65,9 @@ IsStepAnswer show (Err refusal) status text =
     (status ≡ 7) × (text ≡ refusal_text refusal.line refusal.rule)
 IsStepAnswer show (Ok w) status text = TellsRun show w status text ⊎ TellsStuck w status text
 
--- The status and the text of the answer to an input. If its bytes are told, what was read is what
--- they say.
-pub record AnswersInput (show : Show) (input : Option (List ℕ)) (status : ℕ)
-    (text : List ℕ) : Type 0 where
-  pub work : Result Workload Refusal
-  pub read : IfSome input (λ bytes. work ≡ work_reading bytes)
-  pub answer : IsStepAnswer show work status text
+-- the status and the text of an answer to an input
+abbrev pub AnswersStep : Show → Option (List ℕ) → ℕ → List ℕ → Type 0
+AnswersStep show = Answers work_reading (IsStepAnswer show)
 
 -- the statuses with which a workload is answered
 abbrev pub IsStepStatus : ℕ → Type 0

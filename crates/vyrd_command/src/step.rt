@@ -7,7 +7,7 @@ ghost use Rattle.vyrd_work.specs.WorkLimits.{KeepsLimits};
 ghost use Rattle.vyrd_work.specs.WorkReading.{work_reading};
 ghost use Rattle.vyrd_work.specs.LongInputs.{longest_input};
 ghost use Rattle.vyrd_command.specs.Inputs.{IsInputTaken, IsFewTaken};
-ghost use Rattle.vyrd_command.specs.Steps.{AnswersInput, IsStepAnswer, IsStepStatus};
+ghost use Rattle.vyrd_command.specs.Steps.{AnswersStep, IsStepAnswer, IsStepStatus};
 
 use crate::account::Account;
 use crate::read_input::{LONGEST_WORK, read_input};
@@ -27,7 +27,7 @@ pub fn step<S: Source>(alloc: Global, show: Show, source: &mut S) -> Answer
     requires unended { (S.known source.old).ended ≡ false }
     ensures statuses { IsStepStatus result.status ⊎ (result.status ≡ 4) ⊎ (result.status ≡ 6) }
     ensures answers { IsStepStatus result.status
-        → AnswersInput show (S.known source.old).rest result.status result.text.items }
+        → AnswersStep show (S.known source.old).rest result.status result.text.items }
     ensures consumed { IsStepStatus result.status
         → IsInputTaken longest_input 7 result.status (S.known source.old) (S.known source.new) }
     ensures few { IsFewTaken longest_input (S.known source.old) (S.known source.new) }

@@ -10,7 +10,7 @@ pub returns-in-Ok-answer_to-clause-answers : goal.returns-in-Ok-answer_to-clause
 returns-in-Ok-answer_to-clause-answers g c = λ answered.
     let read = c.in-Ok.ensures.read in
     record {
-      logs = batch_logs read.taken;
+      said = batch_logs read.taken;
       read = logs_are_input (g.S.Source.known c.args.source.now)
           (g.S.Source.known c.read_rounds.new.source) read.taken read.read;
       answer = c.in-Ok-answer_to.ensures.answer read.taken read.judged;

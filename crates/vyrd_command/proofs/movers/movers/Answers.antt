@@ -10,7 +10,7 @@ pub returns-in-Ok-answer_of-clause-answers : goal.returns-in-Ok-answer_of-clause
 returns-in-Ok-answer_of-clause-answers g c = λ answered.
     let had = c.in-Ok.ensures.read in
     record {
-      history = history_reading had.bytes;
+      said = history_reading had.bytes;
       read = history_is_input (g.S.Source.known c.args.source.now)
           (g.S.Source.known c.read_history.new.source) had.bytes had.input;
       answer = c.in-Ok-answer_of.ensures had.bytes had.read;

@@ -9,7 +9,7 @@ use Rattle.vyrd_command.proofs.run.run.Goals as goal
 pub returns-in-Ok-answer_to-clause-answers : goal.returns-in-Ok-answer_to-clause-answers
 returns-in-Ok-answer_to-clause-answers g c = λ answered.
     record {
-      work = work_reading c.in-Ok.bytes.items;
+      said = work_reading c.in-Ok.bytes.items;
       read = reading_is_input (g.S.Source.known c.args.source.now)
           (g.S.Source.known c.read_input.new.source) c.in-Ok.bytes.items c.in-Ok.ensures.read;
       answer = c.in-Ok-answer_to.ensures;
