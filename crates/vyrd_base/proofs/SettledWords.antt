@@ -1,8 +1,6 @@
 -- In a well-formed log a block's writes may as well take effect at its end, once it has ended: no
--- other caller's write has
--- taken effect since the commit in it on a word of the block. So the words after all entries are
--- those of version 1's
--- definition.
+-- other caller's write has taken effect since the commit in it on a word of the block. So the
+-- words after all entries are those by block ends.
 use Rattle.std.proofs.Common.{◌≡◌, ℕ, suc, zero, ◌+◌, ◌<◌, Bool, true, false, cond, ◌&&◌, ◌||◌}
 use Rattle.std.proofs.Common.{List, [], ◌∷◌, ◌++◌, map, Option, Some, None, refl, ap, subst, ◌∙◌}
 use Rattle.std.proofs.Common.{sym}
@@ -23,7 +21,7 @@ use Rattle.vyrd_base.specs.Shape.{checks_at, broken_rule, is_held_by_other}
 use Rattle.vyrd_base.specs.Words.{block_writes, given_to, effects_at, effects, value_at_start}
 use Rattle.vyrd_base.specs.Words.{value_after, words_after, is_lone_commit, effects_of_others}
 use Rattle.vyrd_base.specs.Words.{is_passed}
-use Rattle.vyrd_base.specs.FirstVersion.{old_effects_at, old_effects}
+use Rattle.vyrd_base.specs.BlockEnds.{ended_effects_at, ended_effects}
 use Rattle.vyrd_base.specs.Front.{WellFormed}
 use Rattle.vyrd_base.proofs.PlaceLaws.{first_answer-append}
 use Rattle.vyrd_base.proofs.BlockLaws.{entry, by_same, own_answer, other_answer, wrote, wrote_is}
@@ -299,19 +297,20 @@ held_isnt_passed h c w (e ∷ earlier) wf = step (held_isnt_passed h c w earlier
 -- the last effect on a word is the same, where a block's writes take effect at its end
 abbrev pub IsSettled : ℕ → List Entry → Type 0
 IsSettled w earlier = first_answer (given_to w) (effects earlier []) ≡ first_answer (given_to w)
-    (old_effects earlier)
+    (ended_effects earlier)
 
 -- an entry that does at once what it did in version 1, and leaves the effects before it alone
 settled_alone : (w : ℕ) (earlier : List Entry) (e : Entry) → effects_at earlier e.caller e.kind []
-    ≡ old_effects_at earlier e.caller e.kind
+    ≡ ended_effects_at earlier e.caller e.kind
     → effects earlier (e ∷ []) ≡ effects earlier [] → IsSettled w earlier
     → IsSettled w (e ∷ earlier)
 settled_alone w earlier e here same before =
     (λ i. first_answer (given_to w) (here i ++ same i))
-    ∙ first_answer-append (given_to w) (old_effects_at earlier e.caller e.kind) (effects earlier [])
-    ∙ ap (option_or (first_answer (given_to w) (old_effects_at earlier e.caller e.kind))) before
-    ∙ sym (first_answer-append (given_to w) (old_effects_at earlier e.caller e.kind)
-    (old_effects earlier))
+    ∙ first_answer-append (given_to w) (ended_effects_at earlier e.caller e.kind)
+    (effects earlier [])
+    ∙ ap (option_or (first_answer (given_to w) (ended_effects_at earlier e.caller e.kind))) before
+    ∙ sym (first_answer-append (given_to w) (ended_effects_at earlier e.caller e.kind)
+    (ended_effects earlier))
 
 end_alone : (b : Bool) (writes : List (ℕ × ℕ)) → b ≡ false → cond b [] writes ≡ writes
 end_alone true writes e = never e refl
@@ -323,7 +322,7 @@ both_alike false writes = refl
 
 pub same_here : (earlier : List Entry) (c : ℕ) (kind : Kind)
     → (ends_block kind && has_inner_commit c earlier) ≡ false
-    → effects_at earlier c kind [] ≡ old_effects_at earlier c kind
+    → effects_at earlier c kind [] ≡ ended_effects_at earlier c kind
 same_here earlier c (Call method args) none = refl
 same_here earlier c (Return reply) none = refl
 same_here earlier c (Write word value) none = refl
@@ -335,7 +334,8 @@ same_here earlier c BlockCommit none = simp (end_alone)
 -- an end of a block whose writes took effect at the commit in it
 none_here : (earlier : List Entry) (c : ℕ) (kind : Kind)
     → (ends_block kind && has_inner_commit c earlier) ≡ true
-    → (effects_at earlier c kind [] ≡ []) × (old_effects_at earlier c kind ≡ block_writes c earlier)
+    → (effects_at earlier c kind [] ≡ [])
+    × (ended_effects_at earlier c kind ≡ block_writes c earlier)
 none_here earlier c (Call method args) ends = never refl ends
 none_here earlier c (Return reply) ends = never refl ends
 none_here earlier c (Write word value) ends = never refl ends
@@ -373,14 +373,14 @@ settled_committed h w earlier e wf ends before =
     ∙ ap (option_or (first_answer (given_to w) others))
     (first_answer-append (given_to w) writes so.rest) in
     let rest : option_or (first_answer (given_to w) others) (first_answer (given_to w) so.rest)
-    ≡ first_answer (given_to w) (old_effects earlier) =
+    ≡ first_answer (given_to w) (ended_effects earlier) =
     sym (first_answer-append (given_to w) others so.rest) ∙ ap (first_answer (given_to w))
     (sym so.fewer) ∙ before in
     now ∙ either_first (first_answer (given_to w) others) (first_answer (given_to w) writes)
     (first_answer (given_to w) so.rest) apart
     ∙ ap (option_or (first_answer (given_to w) writes)) rest
-    ∙ sym (first_answer-append (given_to w) writes (old_effects earlier))
-    ∙ ap (λ ws. first_answer (given_to w) (ws ++ old_effects earlier)) (sym here.1)
+    ∙ sym (first_answer-append (given_to w) writes (ended_effects earlier))
+    ∙ ap (λ ws. first_answer (given_to w) (ws ++ ended_effects earlier)) (sym here.1)
 
 pub settled : (h : Header) (w : ℕ) (earlier : List Entry) → WellFormed h earlier
     → IsSettled w earlier
@@ -395,7 +395,7 @@ settled h w (e ∷ earlier) wf = step (ends_committed_block earlier e) refl (set
 
 -- a word's value, where each block's writes take effect at its end
 abbrev pub settled_value : List StartWord → List Entry → ℕ → ℕ
-settled_value starting earlier w = unwrap_or (first_answer (given_to w) (old_effects earlier))
+settled_value starting earlier w = unwrap_or (first_answer (given_to w) (ended_effects earlier))
     (value_at_start starting w)
 
 map_same : (f g : ℕ → ℕ) (k n : ℕ) → ((q : ℕ) → f q ≡ g q) → map f (numbers_from k n)

@@ -18,7 +18,7 @@ use Rattle.vyrd_base.specs.Callers.{open_call, call_or_return}
 use Rattle.vyrd_base.specs.Shape.{Check, first_broken, checks_at, broken_rule, is_held_by_other}
 use Rattle.vyrd_base.specs.Front.{first_break, WellFormed}
 use Rattle.vyrd_base.specs.Words.{with_write, block_writes, given_to, is_passed}
-use Rattle.vyrd_base.specs.FirstVersion.{old_effects_at, old_effects, old_value_after}
+use Rattle.vyrd_base.specs.BlockEnds.{ended_effects_at, ended_effects, ended_value}
 use Rattle.vyrd_base.specs.Verdicts.{is_call_open}
 use Rattle.vyrd_base.proofs.PlaceLaws.{first_answer-append}
 use Rattle.vyrd_base.proofs.Fronts.{break_after}
@@ -116,7 +116,7 @@ last_logged w earlier = unwrap_or (first_answer (λ e. logged_value w e.kind) ea
 -- it that value stands last.
 pub record Sound (h : Header) (w : ℕ) (earlier : List Entry) : Type 0 where
   pub free : ((d : ℕ) → d < h.callers → holds_word d w earlier ≡ false)
-      → old_value_after (old_effects earlier) w ≡ last_logged w earlier
+      → ended_value (ended_effects earlier) w ≡ last_logged w earlier
   pub held : (d : ℕ) → d < h.callers → holds_word d w earlier ≡ true → block_value d w earlier
       ≡ Some (last_logged w earlier)
 
@@ -134,14 +134,14 @@ record Quiet (w c : ℕ) (kind : Kind) (earlier : List Entry) : Type 0 where
   edge : open_or_close kind ≡ None
   word : write_or_open w kind ≡ None
   writes : with_write true kind (block_writes c earlier) ≡ block_writes c earlier
-  effect : old_effects_at earlier c kind ≡ []
+  effect : ended_effects_at earlier c kind ≡ []
   logged : logged_value w kind ≡ None
 
 quiet_sound : (h : Header) (w c : ℕ) (kind : Kind) (earlier : List Entry) → Quiet w c kind earlier
     → Sound h w earlier
     → Sound h w (entry c kind ∷ earlier)
 quiet_sound h w c kind earlier quiet sound = record {
-  free = λ none. ap (λ ws. old_value_after (ws ++ old_effects earlier) w) quiet.effect
+  free = λ none. ap (λ ws. ended_value (ws ++ ended_effects earlier) w) quiet.effect
       ∙ sound.free (λ d low. sym (holds d) ∙ none d low) ∙ sym last;
   held = λ d low holding. value d ∙ sound.held d low (sym (holds d) ∙ holding) ∙ ap Some (sym last);
 }
@@ -192,7 +192,7 @@ open_sound h w c earlier outside sound = record {
 
 record Closes (w c : ℕ) (kind : Kind) (earlier : List Entry) : Type 0 where
   edge : open_or_close kind ≡ Some false
-  effect : old_effects_at earlier c kind ≡ block_writes c earlier
+  effect : ended_effects_at earlier c kind ≡ block_writes c earlier
   logged : logged_value w kind ≡ None
 
 -- the end of a block
@@ -215,9 +215,9 @@ close_sound h w c kind earlier low_c inside closes sound = record {
     last : last_logged w (entry c kind ∷ earlier) ≡ last_logged w earlier
     last = cc (closes.logged)
 
-    new_value : old_value_after (old_effects (entry c kind ∷ earlier)) w
+    new_value : ended_value (ended_effects (entry c kind ∷ earlier)) w
         ≡ unwrap_or (option_or (block_value c w earlier)
-        (first_answer (given_to w) (old_effects earlier))) 0
+        (first_answer (given_to w) (ended_effects earlier))) 0
     new_value = search (first_answer-append, arith)
 
     -- as the block is open, a word is held where the block has a value for it
@@ -227,10 +227,10 @@ close_sound h w c kind earlier low_c inside closes sound = record {
     by_held : ((d : ℕ) → d < h.callers → holds_word d w (entry c kind ∷ earlier) ≡ false)
         → (b : Bool) → holds_word c w earlier ≡ b
         → unwrap_or (option_or (block_value c w earlier)
-        (first_answer (given_to w) (old_effects earlier))) 0 ≡ last_logged w earlier
+        (first_answer (given_to w) (ended_effects earlier))) 0 ≡ last_logged w earlier
     by_held none true holding = cc (sound.held c low_c holding)
     by_held none false free_c =
-        ap (λ o. unwrap_or (option_or o (first_answer (given_to w) (old_effects earlier))) 0)
+        ap (λ o. unwrap_or (option_or o (first_answer (given_to w) (ended_effects earlier))) 0)
         (isnt_some (block_value c w earlier) (sym is_held ∙ free_c))
         ∙ sound.free (λ d low. by_same c d
         (λ same. subst (λ x. holds_word x w earlier ≡ false) same free_c)
@@ -246,7 +246,7 @@ other_value : (d c w word value : ℕ) (earlier : List Entry) → (word == w) �
 other_value d c w word value earlier other = grind (arith, by_same, own_value, value_other)
 
 skipped : (w word value : ℕ) (writes : List (ℕ × ℕ)) → (word == w) ≡ false
-    → old_value_after ((word, value) ∷ writes) w ≡ old_value_after writes w
+    → ended_value ((word, value) ∷ writes) w ≡ ended_value writes w
 skipped w word value writes other = grind arith
 
 -- a write of another word
@@ -265,10 +265,10 @@ write_other_sound h w c word value earlier other sound = record {
     last : last_logged w (entry c (Write word value) ∷ earlier) ≡ last_logged w earlier
     last = cc
 
-    effect : (b : Bool) → old_value_after (cond b [] ((word, value) ∷ []) ++ old_effects earlier) w
-        ≡ old_value_after (old_effects earlier) w
+    effect : (b : Bool) → ended_value (cond b [] ((word, value) ∷ []) ++ ended_effects earlier) w
+        ≡ ended_value (ended_effects earlier) w
     effect true = refl
-    effect false = skipped w word value (old_effects earlier) other
+    effect false = skipped w word value (ended_effects earlier) other
 
 -- a write of the word, in a block or not
 write_own_sound : (h : Header) (w c value : ℕ) (earlier : List Entry) → WriteKept h c w earlier
@@ -330,7 +330,7 @@ block_in_call h c (e ∷ earlier) wf = step (block_in_call h c earlier wf.1)
 -- with no call open, each word has the value logged last
 pub words_at_rest : (h : Header) (w : ℕ) (earlier : List Entry) → WellFormed h earlier
     → is_call_open h earlier ≡ false
-    → old_value_after (old_effects earlier) w ≡ last_logged w earlier
+    → ended_value (ended_effects earlier) w ≡ last_logged w earlier
 words_at_rest h w earlier wf rest = (well_formed_sound h w earlier wf).free (λ d low.
     outside_holds (has_block d earlier) (wrote d w earlier)
     (no_block d (has_block d earlier) refl

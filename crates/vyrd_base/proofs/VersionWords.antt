@@ -15,8 +15,9 @@ use Rattle.vyrd_base.specs.Shape.{checks_at, broken_rule}
 use Rattle.vyrd_base.specs.Shape.{is_held_by_other}
 use Rattle.vyrd_base.specs.Words.{effects_at, effects}
 use Rattle.vyrd_base.specs.Words.{effects_of_others, words_with, words_at}
-use Rattle.vyrd_base.specs.FirstVersion.{old_broken_rule, old_effects_at, old_effects}
-use Rattle.vyrd_base.specs.FirstVersion.{old_words_after}
+use Rattle.vyrd_base.specs.FirstVersion.{old_broken_rule}
+use Rattle.vyrd_base.specs.BlockEnds.{ended_effects_at, ended_effects}
+use Rattle.vyrd_base.specs.BlockEnds.{ended_words}
 use Rattle.vyrd_base.specs.Front.{WellFormed}
 use Rattle.vyrd_base.proofs.BlockLaws.{entry, by_same}
 use Rattle.vyrd_base.proofs.ShadowLaws.{all_kept}
@@ -60,7 +61,7 @@ no_inner_commit h c (e ∷ earlier) first wf = step (no_inner_commit h c earlier
 -- and each entry does what it did
 first_effects_at : (h : Header) (c : ℕ) (kind : Kind) (earlier later : List Entry) → h.version ≡ 1
     → WellFormed h (entry c kind ∷ earlier)
-    → effects_at earlier c kind later ≡ old_effects_at earlier c kind
+    → effects_at earlier c kind later ≡ ended_effects_at earlier c kind
 first_effects_at h c (Call method args) earlier later first wf = refl
 first_effects_at h c (Return reply) earlier later first wf = refl
 first_effects_at h c (Write word value) earlier later first wf = refl
@@ -71,7 +72,7 @@ first_effects_at h c BlockCommit earlier later first wf =
     cc (no_inner_commit h c earlier first wf.1)
 
 pub first_effects : (h : Header) (earlier later : List Entry) → h.version ≡ 1 → WellFormed h earlier
-    → effects earlier later ≡ old_effects earlier
+    → effects earlier later ≡ ended_effects earlier
 first_effects h [] later first wf = refl
 first_effects h (e ∷ earlier) later first wf =
     let here = first_effects_at h e.caller e.kind earlier later first wf in
@@ -80,8 +81,8 @@ first_effects h (e ∷ earlier) later first wf =
 
 pub first_words_at : (h : Header) (place : Place Entry) → h.version ≡ 1
     → WellFormed h (place.here ∷ place.earlier)
-    → words_at h [] place ≡ old_words_after h (place.here ∷ place.earlier)
-unfolding words_at old_words_after
+    → words_at h [] place ≡ ended_words h (place.here ∷ place.earlier)
+unfolding words_at ended_words
 first_words_at h place first wf = ap (words_with h [])
     (first_effects h (place.here ∷ place.earlier) place.later first wf)
 

@@ -1,16 +1,14 @@
 -- The verdict as it was while version 1 was the only one: no log began with words, no commit stood
--- inside a block, and a block's writes took effect at its end. That logs of version 1 keep it is
--- the law `first_version_keeps_its_verdicts`. What the rules share is cited; what stands here is
--- what has changed since.
-use Rattle.std.specs.Prelude.{ℕ, ◌+◌, List, [], ◌∷◌, ◌++◌, map, length, Option, Some, None}
-use Rattle.std.specs.Prelude.{option_map, option_and_then, unwrap_or, slice_get, if◌then◌else◌}
-use Rattle.std.specs.Prelude.{is_none, nat_le, ◌^◌}
+-- inside a block, and a block's writes took effect at its end (`BlockEnds`). That logs of version 1
+-- keep it is the law `first_version_keeps_its_verdicts`. What the rules share is cited; what stands
+-- here is what has changed since.
+use Rattle.std.specs.Prelude.{ℕ, ◌+◌, List, [], ◌∷◌, length, Option, Some, None, option_map}
+use Rattle.std.specs.Prelude.{option_and_then, unwrap_or, slice_get, is_none, nat_le, ◌^◌}
 use Rattle.std.specs.Bool.{then_some}
 use Rattle.std.specs.Option.{option_or}
 use Rattle.vyrd_base.specs.declared.header.Header.{Header}
 use Rattle.vyrd_base.specs.declared.log.Kind.{Kind}
-use Rattle.vyrd_base.specs.declared.log.Kind.TheVariants.{Return, Write, Commit, BlockClose}
-use Rattle.vyrd_base.specs.declared.log.Kind.TheVariants.{BlockCommit}
+use Rattle.vyrd_base.specs.declared.log.Kind.TheVariants.{Return, Write, Commit, BlockCommit}
 use Rattle.vyrd_base.specs.declared.log.Entry.{Entry}
 use Rattle.vyrd_base.specs.declared.verdict.Rule.{Rule}
 use Rattle.vyrd_base.specs.declared.verdict.Rule.TheVariants.{NoCall, WordRange, ValueRange}
@@ -21,10 +19,9 @@ use Rattle.vyrd_base.specs.declared.verdict.Why.{Why}
 use Rattle.vyrd_base.specs.declared.verdict.Verdict.{Verdict}
 use Rattle.vyrd_base.specs.declared.verdict.Verdict.TheVariants.{Violation, Malformed}
 use Rattle.vyrd_base.specs.Places.{Place, places, position_of, newest_first, first_answer}
-use Rattle.vyrd_base.specs.Places.{numbers_below}
 use Rattle.vyrd_base.specs.Callers.{open_call, has_block, has_committed}
 use Rattle.vyrd_base.specs.Layout.{plain_words}
-use Rattle.vyrd_base.specs.Words.{block_writes, given_to}
+use Rattle.vyrd_base.specs.BlockEnds.{ended_words}
 use Rattle.vyrd_base.specs.Shape.{◌breaks◌, Check, first_broken, checks_of, is_observing}
 use Rattle.vyrd_base.specs.Shape.{is_held_by_other}
 use Rattle.vyrd_base.specs.States.{State}
@@ -69,32 +66,10 @@ abbrev pub old_first_break : Header → List Entry → Option Rule
 old_first_break h entries =
     first_answer (λ place. old_broken_rule h place.earlier place.here) (places entries)
 
--- the writes that take effect at an entry, the newest first: a block's writes do so at the block's
--- end
-abbrev pub old_effects_at : List Entry → ℕ → Kind → List (ℕ × ℕ)
-old_effects_at earlier c (Write word value) = if has_block c earlier then [] else (word, value) ∷ []
-old_effects_at earlier c BlockClose = block_writes c earlier
-old_effects_at earlier c BlockCommit = block_writes c earlier
-old_effects_at earlier c _ = []
-
--- the writes that took effect, the last to do so first
-abbrev pub old_effects : List Entry → List (ℕ × ℕ)
-old_effects [] = []
-old_effects (e ∷ earlier) = old_effects_at earlier e.caller e.kind ++ old_effects earlier
-
--- the value of the last effect on the word, and 0 if there is none
-abbrev pub old_value_after : List (ℕ × ℕ) → ℕ → ℕ
-old_value_after writes word = unwrap_or (first_answer (given_to word) writes) 0
-
--- the plain words after these entries
-unfoldable pub old_words_after : Header → List Entry → List ℕ
-old_words_after h earlier =
-    map (old_value_after (old_effects earlier)) (numbers_below (plain_words h))
-
 -- the fault of the commit at a place
 abbrev pub old_fault_of_commit : Header → List State → Place Entry → Option Why
 old_fault_of_commit h states place = option_and_then
-    (commit_fault (rules_of h) (view_of_words h (old_words_after h (place.here ∷ place.earlier)))
+    (commit_fault (rules_of h) (view_of_words h (ended_words h (place.here ∷ place.earlier)))
     (committed_at place))
     (slice_get states (commit_count place.earlier))
 

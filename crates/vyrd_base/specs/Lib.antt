@@ -36,5 +36,6 @@ pub mod Rules
 pub mod Own
 pub mod OwnSamples
 pub mod Starts
+pub mod BlockEnds
 pub mod FirstVersion
 pub mod Added

@@ -31,9 +31,10 @@
 //! (`Views`, `Amounts`), the specification of the structures (`Specification`), rules, which are a
 //! specification as a value, and those of a header (`Rules`), the words and the state at the start
 //! (`Starts`), commit order and its states (`Commits`), the faults (`Faults`), the verdict
-//! (`Verdicts`), the verdict as it was while version 1 was the only one (`FirstVersion`), the text
-//! of a log and what its bytes say (`Spelling`, `Lines`, `Reading`), the verdict about bytes and
-//! its line (`TextVerdicts`, `VerdictText`), histories (`Histories`), words that represent a state
+//! (`Verdicts`), the words with each block's writes taking effect at its end (`BlockEnds`), by them
+//! the verdict as it was while version 1 was the only one (`FirstVersion`), the text of a log and
+//! what its bytes say (`Spelling`, `Lines`, `Reading`), the verdict about bytes and its line
+//! (`TextVerdicts`, `VerdictText`), histories (`Histories`), words that represent a state
 //! (`Represented`), and devices (`Devices`). Shape, words, states, faults and the verdict are those
 //! of any rules, and name no structure.
 //!

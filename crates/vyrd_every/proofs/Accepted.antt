@@ -22,7 +22,7 @@ use Rattle.vyrd_base.specs.States.{State}
 use Rattle.vyrd_base.specs.Specification.{start}
 use Rattle.vyrd_base.specs.Commits.{next_reply, committed_at, commits_after, commits, commit_count}
 use Rattle.vyrd_base.specs.Faults.{fault_of_kind, fault_of_commit, return_fault, fault_at}
-use Rattle.vyrd_base.specs.FirstVersion.{old_words_after}
+use Rattle.vyrd_base.specs.BlockEnds.{ended_words}
 use Rattle.vyrd_base.specs.Views.{view_of_words}
 use Rattle.vyrd_base.proofs.NoStart.{states_along-none, verdict_so_far-none, end_verdict-none}
 use Rattle.vyrd_base.specs.Verdicts.{line_of, violation_at, states_along, first_fault}
@@ -81,7 +81,7 @@ commit_place : (h : Header) → h.version ≡ 1 → (passed : List Amounts) (sta
     ≡ fault_of_commit (rules_of h) [] states (record { earlier = log; here = e; later = logs }))
     → commits_after log (e ∷ logs) ≡ committed_at (record { earlier = log; here = e; later = logs })
     ∷ commits_after (e ∷ log) logs
-    → WellFormed h (e ∷ log) → view_of_words h (old_words_after h (e ∷ log)) ≡ next → length passed
+    → WellFormed h (e ∷ log) → view_of_words h (ended_words h (e ∷ log)) ≡ next → length passed
     ≡ commit_count log
     → ((reply : ℕ) → WillReturn reply rest → next_reply e.caller logs ≡ Some reply)
     → Committing e.caller log rest state next
@@ -105,7 +105,7 @@ commit_place h one passed state next log logs e rest kind_is goes_on wf m count 
 event_place : (h : Header) → h.version ≡ 1 → (c : ℕ) (did : Did) (passed : List Amounts)
     (state next : Amounts) (log logs : List Entry) (rest : Script)
     → WellFormed h (cons_option (logged c did) log)
-    → view_of_words h (old_words_after h (cons_option (logged c did) log)) ≡ next
+    → view_of_words h (ended_words h (cons_option (logged c did) log)) ≡ next
     → length passed ≡ commit_count log
     → (commits_now did ≡ true → (reply : ℕ) → WillReturn reply rest → next_reply c logs
     ≡ Some reply)

@@ -17,7 +17,7 @@ use Rattle.vyrd_base.specs.Amounts.{Amounts, least, first_difference}
 use Rattle.vyrd_base.specs.States.{State, showing}
 use Rattle.vyrd_base.specs.Specification.{next_state, answer_in}
 use Rattle.vyrd_base.specs.Words.{words_at}
-use Rattle.vyrd_base.specs.FirstVersion.{old_words_after}
+use Rattle.vyrd_base.specs.BlockEnds.{ended_words}
 use Rattle.vyrd_base.specs.Front.{WellFormed}
 use Rattle.vyrd_base.proofs.VersionWords.{first_words_at}
 use Rattle.vyrd_base.specs.Views.{view_of_words}
@@ -43,7 +43,7 @@ no_difference state = simp (least, none_kept, same_number)
 pub commit_is_right : (h : Header) → h.version ≡ 1 → (passed : List Amounts) (later : List State)
     (state next : Amounts) (place : Place Entry) (called : Called)
     (reply : ℕ) → WellFormed h (place.here ∷ place.earlier)
-    → view_of_words h (old_words_after h (place.here ∷ place.earlier)) ≡ next
+    → view_of_words h (ended_words h (place.here ∷ place.earlier)) ≡ next
     → length passed ≡ commit_count place.earlier
     → open_call place.here.caller place.earlier ≡ Some called
     → next_reply place.here.caller place.later ≡ Some reply

@@ -8,7 +8,7 @@ use Rattle.vyrd_base.specs.declared.history.Stamped.{Stamped}
 use Rattle.vyrd_base.specs.Amounts.{Amounts}
 use Rattle.vyrd_base.specs.Specification.{start}
 use Rattle.vyrd_base.specs.Commits.{commit_count}
-use Rattle.vyrd_base.specs.FirstVersion.{old_words_after}
+use Rattle.vyrd_base.specs.BlockEnds.{ended_words}
 use Rattle.vyrd_base.specs.Views.{view_of_words}
 use Rattle.vyrd_base.specs.Front.{WellFormed}
 use Rattle.vyrd_memory.specs.declared.act.Act.TheVariants.{Take}
@@ -48,7 +48,7 @@ pub record Keeping (h : Header) (scripts : List Script) : Type 1 where
       → Holds earlier passed state → length passed ≡ commit_count (log_in earlier)
   pub view : (earlier : List Stamped) (passed : List Amounts) (state : Amounts)
       → IsRun h scripts earlier → Holds earlier passed state
-      → view_of_words h (old_words_after h (log_in earlier)) ≡ state
+      → view_of_words h (ended_words h (log_in earlier)) ≡ state
   -- a caller that takes a lock holds only lower ones, and one that is done holds none
   pub upward : (earlier : List Stamped) (passed : List Amounts) (state : Amounts)
       → IsRun h scripts earlier → Holds earlier passed state

@@ -15,7 +15,7 @@ use Rattle.vyrd_base.specs.declared.verdict.Rule.TheVariants.{BlockRaced}
 use Rattle.vyrd_base.specs.Callers.{open_call, has_block, holds_word}
 use Rattle.vyrd_base.specs.Shape.{Check, first_broken, broken_rule, is_held_by_other}
 use Rattle.vyrd_base.specs.Words.{block_writes}
-use Rattle.vyrd_base.specs.FirstVersion.{old_effects, old_value_after}
+use Rattle.vyrd_base.specs.BlockEnds.{ended_effects, ended_value}
 use Rattle.vyrd_base.specs.Histories.{logged}
 use Rattle.vyrd_base.specs.Front.{WellFormed}
 use Rattle.vyrd_base.proofs.BlockLaws.{entry, own_answer, other_answer, own_writes, other_writes}
@@ -33,12 +33,12 @@ use Rattle.vyrd_every.proofs.Acts.{never}
 
 -- one more effect
 pub one_more : (word value : ℕ) (writes : List (ℕ × ℕ)) (w : ℕ)
-    → old_value_after ((word, value) ∷ writes) w ≡ with_cell (λ q. old_value_after writes q) word
+    → ended_value ((word, value) ∷ writes) w ≡ with_cell (λ q. ended_value writes q) word
     value w
 one_more word value writes w = grind (arith, nat_tests)
 
-pub more : (writes others : List (ℕ × ℕ)) → (λ w. old_value_after (writes ++ others) w)
-    ≡ written writes (λ w. old_value_after others w)
+pub more : (writes others : List (ℕ × ℕ)) → (λ w. ended_value (writes ++ others) w)
+    ≡ written writes (λ w. ended_value others w)
 more [] others = refl
 more ((word, value) ∷ writes) others = grind (arith, more writes others)
 
@@ -53,7 +53,7 @@ shown_step S c (Gave lock) s k log block pending reaches = refl
 shown_step S c (Wrote cell value) s k log block pending reaches = cc (by_block s.in_block)
   where
     by_block : (b : Bool)
-        → (λ w. old_value_after (cond b [] ((cell, value) ∷ []) ++ old_effects log) w)
+        → (λ w. ended_value (cond b [] ((cell, value) ∷ []) ++ ended_effects log) w)
         ≡ cond b (shown_by log) (with_cell (shown_by log) cell value)
     by_block b = search (one_more, arith)
 shown_step S c (Marked (Call method args)) s k log block pending reaches = refl

@@ -12,14 +12,14 @@ use Rattle.vyrd_base.specs.declared.log.Entry.{Entry}
 use Rattle.vyrd_base.specs.Layout.{plain_words}
 use Rattle.vyrd_base.specs.Amounts.{Amounts}
 use Rattle.vyrd_base.specs.Specification.{start}
-use Rattle.vyrd_base.specs.FirstVersion.{old_effects, old_value_after, old_words_after}
+use Rattle.vyrd_base.specs.BlockEnds.{ended_effects, ended_value, ended_words}
 use Rattle.vyrd_base.specs.Views.{view_of_words}
 use Rattle.vyrd_base.specs.Histories.{cells_of, is_lock}
 use Rattle.vyrd_memory.specs.Alone.{Memory}
 
 -- the memory that a log shows; the newest entry stands first
 abbrev pub shown_by : List Entry → Memory
-shown_by log = λ w. old_value_after (old_effects log) w
+shown_by log = λ w. ended_value (ended_effects log) w
 
 -- a structure of a header
 pub record Structure : Type 1 where
@@ -51,4 +51,4 @@ pub record Fits (S : Structure) : Type 0 where
   pub locks : (cell : ℕ) → cell < S.words → is_lock (cells_of S.header) (S.guard cell) ≡ true
   pub begins : S.Represents (shown_by []) start.shown
   pub view : (log : List Entry) (state : Amounts) → S.Represents (shown_by log) state
-      → view_of_words S.header (old_words_after S.header log) ≡ state
+      → view_of_words S.header (ended_words S.header log) ≡ state

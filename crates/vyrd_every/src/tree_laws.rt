@@ -12,7 +12,7 @@ ghost use Rattle.vyrd_base.specs.declared.subject.Subject.TheVariants.{Tree};
 ghost use Rattle.vyrd_base.specs.declared.log.Entry.{Entry};
 ghost use Rattle.vyrd_base.specs.Amounts.{Amounts};
 ghost use Rattle.vyrd_base.specs.Specification.{start};
-ghost use Rattle.vyrd_base.specs.FirstVersion.{old_words_after};
+ghost use Rattle.vyrd_base.specs.BlockEnds.{ended_words};
 ghost use Rattle.vyrd_base.specs.Views.{view_of_words};
 ghost use Rattle.vyrd_memory.specs.declared.act.Act.{Act};
 ghost use Rattle.vyrd_memory.specs.Alone.{Memory};
@@ -44,7 +44,7 @@ pub fn tree_begins_linked()
 pub fn linked_trees_show_the_view()
     ensures { (h : Header) (g : Shape) (log : List Entry) (state : Amounts) → h.subject ≡ Tree →
         IsLinked h.size g (shown_by log) → ShowsState g (shown_by log) state →
-        view_of_words h (old_words_after h log) ≡ state }
+        view_of_words h (ended_words h log) ≡ state }
 {}
 
 /// The whole script of any caller of the correct tree does right, from any memory that holds a

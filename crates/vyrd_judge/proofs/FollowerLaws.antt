@@ -43,7 +43,7 @@ use Rattle.vyrd_words.specs.Cuts.{first_with}
 use Rattle.vyrd_words.specs.Effects.{parts_behind, effect_parts, with_effects, cut_if}
 use Rattle.vyrd_words.specs.Effects.{AreFew}
 use Rattle.vyrd_words.proofs.FewLaws.{few_more}
-use Rattle.vyrd_base.specs.FirstVersion.{old_effects_at}
+use Rattle.vyrd_base.specs.BlockEnds.{ended_effects_at}
 use Rattle.vyrd_judge.proofs.PartLaws.{parts_more}
 use Rattle.vyrd_judge.specs.Waiting.{replied, waiting_at}
 use Rattle.vyrd_observers.specs.Watching.{AreCurrent}
@@ -262,7 +262,7 @@ taken_more k n starting log e t keeps shape shape_header words shadow_header vie
     behind = parts_behind (newest_first log) e.caller e.kind
 
     now : List (ℕ × ℕ)
-    now = old_effects_at (newest_first log) e.caller e.kind
+    now = ended_effects_at (newest_first log) e.caller e.kind
 
     apart : false ≡ true → ⊥
     apart p = cc

@@ -23,7 +23,7 @@ use Rattle.vyrd_base.specs.Callers.{Called, open_call, has_committed}
 use Rattle.vyrd_base.specs.Subjects.{is_observer, must_commit}
 use Rattle.vyrd_base.specs.Shape.{broken_rule}
 use Rattle.vyrd_base.specs.Words.{effects_at, effects, words_with}
-use Rattle.vyrd_base.specs.FirstVersion.{old_effects_at}
+use Rattle.vyrd_base.specs.BlockEnds.{ended_effects_at}
 use Rattle.vyrd_base.specs.States.{State}
 use Rattle.vyrd_base.specs.Commits.{is_commit}
 use Rattle.vyrd_base.specs.Faults.{fault_at}
@@ -62,7 +62,7 @@ pub judged_more : (r : Rules) (starting : List StartWord) (log : List Entry) (e 
     (queue : List Waiting) (first : List ℕ) (since : List (List (ℕ × ℕ))) (writes : List (ℕ × ℕ))
     → WellFormed r.header (newest_first log)
     → broken_rule r.header (newest_first log) e ≡ None
-    → ActAlike writes (old_effects_at (newest_first log) e.caller e.kind)
+    → ActAlike writes (ended_effects_at (newest_first log) e.caller e.kind)
     → Judged r starting log state made watches queue first since
     → Judged r starting (log ++ e ∷ []) state made watches
     (map (replied e) queue ++ listed (waiting_at (place_of e (newest_first log) [])))
@@ -91,7 +91,7 @@ judged_more r starting log e state made watches queue first since writes well_fo
           parts (has_parts_more r.header starting first since
           (effect_parts (effects j.earlier j.later) j.earlier j.later) (behind (newest_first log))
           writes
-          (old_effects_at (newest_first log) e.caller e.kind) (is_commit e.kind) alike j.parts);
+          (ended_effects_at (newest_first log) e.caller e.kind) (is_commit e.kind) alike j.parts);
       settled = λ more. ap (effects j.earlier) (append_assoc j.later (e ∷ []) more)
           ∙ j.settled (e ∷ more) ∙ sym (j.settled (e ∷ []));
       ended = end_more j.earlier j.later (e ∷ []) j.ended;
@@ -120,7 +120,7 @@ judged_more r starting log e state made watches queue first since writes well_fo
 
     parts : cut_if (is_commit e.kind)
         (with_effects (behind (newest_first log))
-        (old_effects_at (newest_first log) e.caller e.kind)
+        (ended_effects_at (newest_first log) e.caller e.kind)
         (effect_parts (effects j.earlier j.later) j.earlier j.later))
         ≡ effect_parts (effects j.earlier (j.later ++ e ∷ [])) j.earlier (j.later ++ e ∷ [])
     parts = search (behind, parts_more, arith)

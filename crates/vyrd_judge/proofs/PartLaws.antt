@@ -14,7 +14,7 @@ use Rattle.vyrd_base.specs.Places.{newest_first_onto, first_answer}
 use Rattle.vyrd_base.specs.Callers.{by_caller, has_block, commit_or_open, has_inner_commit}
 use Rattle.vyrd_base.specs.Shape.{checks_at, broken_rule}
 use Rattle.vyrd_base.specs.Words.{block_writes, effects_at, is_lone_commit}
-use Rattle.vyrd_base.specs.FirstVersion.{old_effects_at}
+use Rattle.vyrd_base.specs.BlockEnds.{ended_effects_at}
 use Rattle.vyrd_base.specs.Commits.{is_commit, commit_count}
 use Rattle.vyrd_base.specs.Front.{WellFormed}
 use Rattle.vyrd_base.proofs.BlockLaws.{entry}
@@ -343,7 +343,7 @@ with_nothing behind (part ∷ parts) = by_test (length parts == behind) (with_no
 -- stay.
 quiet_effects : (h : Header) (earlier : List Entry) (e : Entry) → broken_rule h earlier e ≡ None
     → ends_committed_block earlier e ≡ false
-    → (effects_at earlier e.caller e.kind [] ≡ old_effects_at earlier e.caller e.kind)
+    → (effects_at earlier e.caller e.kind [] ≡ ended_effects_at earlier e.caller e.kind)
     × (parts_behind earlier e.caller e.kind ≡ 0)
 quiet_effects h earlier e kept none = search (all_kept, no_number, arith)
 
@@ -362,7 +362,7 @@ pub parts_more : (h : Header) (before : List (ℕ × ℕ)) (earlier later : List
     → effect_parts before earlier (later ++ e ∷ [])
     ≡ cut_if (is_commit e.kind)
     (with_effects (parts_behind (newest_first_onto earlier later) e.caller e.kind)
-    (old_effects_at (newest_first_onto earlier later) e.caller e.kind)
+    (ended_effects_at (newest_first_onto earlier later) e.caller e.kind)
     (effect_parts before earlier later))
 parts_more h before earlier later e wf kept ended =
     cc (
@@ -395,7 +395,7 @@ parts_more h before earlier later e wf kept ended =
     at_end : e.kind ≡ BlockClose → ends_committed_block all e ≡ true
         → cut_if (is_commit e.kind) (with_effects 0 (effects_at all e.caller e.kind []) new)
         ≡ cut_if (is_commit e.kind)
-        (with_effects (parts_behind all e.caller e.kind) (old_effects_at all e.caller e.kind) old)
+        (with_effects (parts_behind all e.caller e.kind) (ended_effects_at all e.caller e.kind) old)
     at_end closes ends =
         let inner = second_true _ (has_inner_commit e.caller all) ends in
         let more : MoreAtCommit e.caller (block_writes e.caller all) all []
@@ -409,7 +409,7 @@ parts_more h before earlier later e wf kept ended =
     by_end : (b : Bool) → ends_committed_block all e ≡ b
         → cut_if (is_commit e.kind) (with_effects 0 (effects_at all e.caller e.kind []) new)
         ≡ cut_if (is_commit e.kind)
-        (with_effects (parts_behind all e.caller e.kind) (old_effects_at all e.caller e.kind) old)
+        (with_effects (parts_behind all e.caller e.kind) (ended_effects_at all e.caller e.kind) old)
     by_end true ends = at_end (ends_alone h all e wf kept ends) ends
     by_end false none =
         let quiet = quiet_effects h all e kept none in

@@ -20,7 +20,7 @@ use Rattle.vyrd_base.specs.Shape.{broken_rule}
 use Rattle.vyrd_base.specs.Starts.{words_at_start}
 use Rattle.vyrd_base.specs.Words.{with_write, block_writes, effects_at, given_to}
 use Rattle.vyrd_base.specs.Words.{words_after}
-use Rattle.vyrd_base.specs.FirstVersion.{old_effects_at, old_effects}
+use Rattle.vyrd_base.specs.BlockEnds.{ended_effects_at, ended_effects}
 use Rattle.vyrd_base.specs.Front.{WellFormed}
 use Rattle.vyrd_base.proofs.EffectLaws.{ends_block}
 use Rattle.vyrd_base.proofs.SettledWords.{settled_value, words_settled, same_here}
@@ -170,7 +170,7 @@ is_map (x ∷ words) f k (suc n) size all =
 -- a value among a block's writes and older ones
 settled_append : (starting : List StartWord) (earlier : List Entry) (e : Entry)
     (writes : List (ℕ × ℕ)) (w : ℕ)
-    → old_effects_at earlier e.caller e.kind ≡ writes
+    → ended_effects_at earlier e.caller e.kind ≡ writes
     → settled_value starting (e ∷ earlier) w ≡ unwrap_or (first_answer (given_to w) writes)
     (settled_value starting earlier w)
 settled_append starting earlier e writes w ends = grind (arith, starting, ends, first_answer-append)
@@ -178,7 +178,7 @@ settled_append starting earlier e writes w ends = grind (arith, starting, ends, 
 -- a block's writes take effect
 words_close : (h : Header) (starting : List StartWord) (earlier : List Entry) (e : Entry)
     (words : List ℕ) (writes : List (ℕ × ℕ))
-    → old_effects_at earlier e.caller e.kind ≡ block_writes e.caller earlier
+    → ended_effects_at earlier e.caller e.kind ≡ block_writes e.caller earlier
     → WellFormed h (e ∷ earlier)
     → length words ≡ plain_words h → words ≡ words_after h starting earlier
     → AllOnce (words_of writes)
@@ -201,7 +201,7 @@ words_close h starting earlier e words writes ends rules size is once values =
 -- a block ends, with a commit or without
 followed_end : (kept : ShadowKept) (starting : List StartWord) (earlier : List Entry) (c : ℕ)
     (kind : Kind) (changed : List ℕ)
-    → old_effects_at earlier c kind ≡ block_writes c earlier → open_or_close kind ≡ Some false
+    → ended_effects_at earlier c kind ≡ block_writes c earlier → open_or_close kind ≡ Some false
     → c < kept.header.callers → c < length kept.blocks → length kept.words ≡ plain_words kept.header
     → is_open kept c ≡ true
     → HasFollowed kept starting earlier → broken_rule kept.header earlier (entry c kind) ≡ None

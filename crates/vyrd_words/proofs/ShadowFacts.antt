@@ -8,7 +8,7 @@ use Rattle.vyrd_base.specs.declared.log.Entry.{Entry}
 use Rattle.vyrd_base.specs.declared.log.StartWord.{StartWord}
 use Rattle.vyrd_base.specs.Shape.{broken_rule}
 use Rattle.vyrd_base.specs.Words.{words_with}
-use Rattle.vyrd_base.specs.FirstVersion.{old_effects}
+use Rattle.vyrd_base.specs.BlockEnds.{ended_effects}
 use Rattle.vyrd_base.proofs.BlockLaws.{entry}
 use Rattle.vyrd_base.proofs.SettledWords.{words_settled}
 use Rattle.vyrd_shadow.specs.Following.{ShadowKept, HasFollowed}
@@ -17,7 +17,7 @@ use Rattle.vyrd_shadow.proofs.FollowLaws.{followed_call, followed_return, follow
 -- its words are those that blocks leave whose writes take effect at their end
 pub words_old : (k : ShadowKept) (starting : List StartWord) (earlier : List Entry)
     → HasFollowed k starting earlier
-    → k.words ≡ words_with k.header starting (old_effects earlier)
+    → k.words ≡ words_with k.header starting (ended_effects earlier)
 words_old k starting earlier f = f.words ∙ words_settled k.header starting earlier f.rules
 
 pub call_followed : (k : ShadowKept) (starting : List StartWord) (earlier : List Entry) (c : ℕ)

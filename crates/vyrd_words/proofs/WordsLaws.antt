@@ -20,7 +20,7 @@ use Rattle.vyrd_base.specs.Places.{first_answer}
 use Rattle.vyrd_base.specs.Callers.{has_block}
 use Rattle.vyrd_base.specs.Layout.{plain_words}
 use Rattle.vyrd_base.specs.Words.{block_writes, given_to}
-use Rattle.vyrd_base.specs.FirstVersion.{old_effects_at, old_effects}
+use Rattle.vyrd_base.specs.BlockEnds.{ended_effects_at, ended_effects}
 use Rattle.vyrd_base.specs.Commits.{is_commit, commit_count}
 use Rattle.vyrd_base.proofs.BlockLaws.{entry, by_same}
 use Rattle.vyrd_base.proofs.ShadowLaws.{caller_kept, open_kept, close_kept, block_commit_kept}
@@ -174,16 +174,16 @@ changed_alike : (l : ShadowKept) (starting : List StartWord) (earlier : List Ent
     → HasFollowed l starting (entry c kind ∷ earlier)
     → All (λ w. w < plain_words l.header) l.changed
     → ((x : ℕ) → list_any (λ y. y == x) l.changed ≡ true → (v : ℕ)
-    × (first_answer (given_to x) (old_effects_at earlier c kind) ≡ Some v))
+    × (first_answer (given_to x) (ended_effects_at earlier c kind) ≡ Some v))
     → ((x : ℕ) → list_any (λ y. y == x) l.changed ≡ false → first_answer (given_to x)
-    (old_effects_at earlier c kind) ≡ None)
-    → ActAlike (written l.words l.changed) (old_effects_at earlier c kind)
+    (ended_effects_at earlier c kind) ≡ None)
+    → ActAlike (written l.words l.changed) (ended_effects_at earlier c kind)
 changed_alike l starting earlier c kind f within there beside =
-    written_alike l.words l.changed (old_effects_at earlier c kind)
+    written_alike l.words l.changed (ended_effects_at earlier c kind)
     (λ x changed. let given = there x changed in
     given.1 ∙ ap Some
     (sym (ap (λ ws. get_or ws x 0) (words_old l starting (entry c kind ∷ earlier) f)
-    ∙ word_is l.header starting (old_effects_at earlier c kind) (old_effects earlier) x given.0
+    ∙ word_is l.header starting (ended_effects_at earlier c kind) (ended_effects earlier) x given.0
     (changed_low (plain_words l.header) x l.changed within changed) given.1)))
     beside
 
@@ -214,7 +214,7 @@ block_few k l starting earlier c f unchanged low inside changed = search (first_
 -- an entry at which nothing takes effect
 nothing_taken : (k : ShadowKept) (inner : List ℕ) (v w : Cuts) (starting : List StartWord)
     (earlier : List Entry) (c : ℕ) (kind : Kind)
-    → old_effects_at earlier c kind ≡ [] → HasWords k inner starting (entry c kind ∷ earlier)
+    → ended_effects_at earlier c kind ≡ [] → HasWords k inner starting (entry c kind ∷ earlier)
     → w.first ≡ v.first → w.since ≡ cut_if (is_commit kind) v.since → w.begun ≡ v.begun
     → HasTaken k inner v w starting (entry c kind) earlier
 nothing_taken k inner v w starting earlier c kind nothing has first since begun =
@@ -223,7 +223,7 @@ nothing_taken k inner v w starting earlier c kind nothing has first since begun 
 -- a call or a return
 pub quiet_taken : (k : ShadowKept) (inner : List ℕ) (v : Cuts) (starting : List StartWord)
     (earlier : List Entry) (c : ℕ) (kind : Kind)
-    → is_commit kind ≡ false → old_effects_at earlier c kind ≡ []
+    → is_commit kind ≡ false → ended_effects_at earlier c kind ≡ []
     → ((commits number : ℕ) → number_at kind commits number ≡ number)
     → HasWords k inner starting earlier → HasFollowed k starting (entry c kind ∷ earlier)
     → HasTaken k inner v v starting (entry c kind) earlier
@@ -259,11 +259,11 @@ acts_taken : (l m : ShadowKept) (inner : List ℕ) (v w : Cuts) (starting : List
     (earlier : List Entry) (c : ℕ) (kind : Kind)
     → HasFollowed l starting (entry c kind ∷ earlier) → m ≡ record l { changed = [] }
     → HasNumbers l.header.callers inner (entry c kind ∷ earlier)
-    → ActAlike (written l.words l.changed) (old_effects_at earlier c kind)
+    → ActAlike (written l.words l.changed) (ended_effects_at earlier c kind)
     → w.first ≡ first_with (parts_behind earlier c kind) (written l.words l.changed) v.first v.since
     → w.since ≡ cut_if (is_commit kind)
     (with_part (parts_behind earlier c kind) (written l.words l.changed) v.since)
-    → length l.changed ≤ length (old_effects_at earlier c kind)
+    → length l.changed ≤ length (ended_effects_at earlier c kind)
     → w.begun ≤ begun_with (parts_behind earlier c kind) (written l.words l.changed) v.begun v.since
     → HasTaken m inner v w starting (entry c kind) earlier
 acts_taken l m inner v w starting earlier c kind f is numbers alike first since few begun =
@@ -305,14 +305,14 @@ write_taken k l m inner v w starting earlier c word value has low f header withi
     few b none = search arith
 
     by_block : (b : Bool) → has_block c earlier ≡ b → ActAlike (written l.words l.changed)
-        (old_effects_at earlier c (Write word value))
+        (ended_effects_at earlier c (Write word value))
     by_block true inside = search (changed_alike, starting, within, apart, here, arith)
       where
         apart : false ≡ true → ⊥
         apart e = cc
     by_block false outside =
         let one : l.changed ≡ word ∷ [] = here ∙ ap (λ b. cond b [] (word ∷ [])) outside in
-        let effects : old_effects_at earlier c (Write word value) ≡ (word, value) ∷ [] =
+        let effects : ended_effects_at earlier c (Write word value) ≡ (word, value) ∷ [] =
         cc in
         changed_alike l starting earlier c (Write word value) f within
         (λ x some. let given = some_given x ((word, value) ∷ [])

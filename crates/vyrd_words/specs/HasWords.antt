@@ -4,7 +4,7 @@ use Rattle.vyrd_base.specs.declared.header.Header.{Header}
 use Rattle.vyrd_base.specs.declared.log.Entry.{Entry}
 use Rattle.vyrd_base.specs.declared.log.StartWord.{StartWord}
 use Rattle.vyrd_base.specs.Shape.{broken_rule}
-use Rattle.vyrd_base.specs.FirstVersion.{old_effects_at}
+use Rattle.vyrd_base.specs.BlockEnds.{ended_effects_at}
 use Rattle.vyrd_base.specs.Commits.{is_commit, commit_count}
 use Rattle.vyrd_shadow.specs.Following.{ShadowKept, HasFollowed}
 use Rattle.vyrd_words.specs.Cuts.{Cuts, first_with, with_part, begun_with}
@@ -46,11 +46,11 @@ pub record HasTaken (shadow : ShadowKept) (inner : List ℕ) (old new : Cuts)
     (e : Entry) (earlier : List Entry) : Type 0 where
   pub words : HasWords shadow inner starting (e ∷ earlier)
   pub writes : List (ℕ × ℕ)
-  pub alike : ActAlike writes (old_effects_at earlier e.caller e.kind)
+  pub alike : ActAlike writes (ended_effects_at earlier e.caller e.kind)
   pub first : new.first
       ≡ first_with (parts_behind earlier e.caller e.kind) writes old.first old.since
   pub since : new.since ≡ cut_if (is_commit e.kind)
       (with_part (parts_behind earlier e.caller e.kind) writes old.since)
-  pub few : length writes ≤ length (old_effects_at earlier e.caller e.kind)
+  pub few : length writes ≤ length (ended_effects_at earlier e.caller e.kind)
   pub begun : new.begun
       ≤ begun_with (parts_behind earlier e.caller e.kind) writes old.begun old.since

@@ -10,7 +10,7 @@ use Rattle.vyrd_base.specs.Layout.{plain_words, plain_words_of}
 use Rattle.vyrd_base.specs.Amounts.{Amounts, collected, given}
 use Rattle.vyrd_base.specs.Buffers.{Buffer, buffer_at, is_buffer, buffer_parts}
 use Rattle.vyrd_base.specs.Specification.{start}
-use Rattle.vyrd_base.specs.FirstVersion.{old_effects, old_value_after, old_words_after}
+use Rattle.vyrd_base.specs.BlockEnds.{ended_effects, ended_value, ended_words}
 use Rattle.vyrd_base.specs.Views.{parts_of, view_of_words}
 use Rattle.vyrd_base.specs.Represented.{is_sound}
 use Rattle.vyrd_base.proofs.SumLaws.{given_nothing}
@@ -57,15 +57,15 @@ empty_represents h is =
 -- the view of the words that the log leaves is the state that they represent
 view_is : (h : Header) (log : List Entry) (state : Amounts) → h.subject ≡ Buffers
     → Represents h (shown_by log) state
-    → view_of_words h (old_words_after h log) ≡ state
-unfolding view_of_words old_words_after
+    → view_of_words h (ended_words h log) ≡ state
+unfolding view_of_words ended_words
 view_is h log state is s = ap (λ t. collected (parts_of t h.size words)) is
     ∙ ap collected (flat_map_alike (λ k. buffer_parts h.size k (buffer_at words k))
     (λ k. buffer_parts h.size k (buffer_at (words_in h (shown_by log)) k)) 0 h.size each)
     ∙ ap (λ t. collected (parts_of t h.size (words_in h (shown_by log)))) (sym is) ∙ s.shows
   where
     words : List ℕ
-    words = map (old_value_after (old_effects log)) (numbers_below (plain_words h))
+    words = map (ended_value (ended_effects log)) (numbers_below (plain_words h))
 
     word : (cell : ℕ) → cell < 8 * h.size → slice_index words cell ≡ shown_by log cell
     word cell low = search (element_below, arith)

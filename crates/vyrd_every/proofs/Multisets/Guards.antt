@@ -10,7 +10,7 @@ use Rattle.vyrd_base.specs.Places.{numbers_below}
 use Rattle.vyrd_base.specs.Layout.{plain_words, plain_words_of}
 use Rattle.vyrd_base.specs.Amounts.{Amounts, collected}
 use Rattle.vyrd_base.specs.Specification.{start}
-use Rattle.vyrd_base.specs.FirstVersion.{old_effects, old_value_after, old_words_after}
+use Rattle.vyrd_base.specs.BlockEnds.{ended_effects, ended_value, ended_words}
 use Rattle.vyrd_base.specs.Multiset.{slot_parts}
 use Rattle.vyrd_base.specs.Views.{parts_of, view_of_words}
 use Rattle.vyrd_base.proofs.SumLaws.{given_nothing}
@@ -24,8 +24,8 @@ use Rattle.vyrd_every.specs.Guarded.{multiset}
 -- the view of the words that the log leaves is the state that they represent
 view_is : (h : Header) (log : List Entry) (state : Amounts) → h.subject ≡ Multiset
     → IsMultiset h (shown_by log) state
-    → view_of_words h (old_words_after h log) ≡ state
-unfolding view_of_words old_words_after
+    → view_of_words h (ended_words h log) ≡ state
+unfolding view_of_words ended_words
 view_is h log state is m = search
     (collected, parts_of, flat_map_alike, shown_by, collected-is, element_below, arith)
 

@@ -14,7 +14,7 @@ use Rattle.vyrd_base.specs.Places.{numbers_from, numbers_below}
 use Rattle.vyrd_base.specs.Callers.{has_block}
 use Rattle.vyrd_base.specs.Layout.{plain_words, plain_words_of}
 use Rattle.vyrd_base.specs.Amounts.{Amounts, amount_of, collected, given}
-use Rattle.vyrd_base.specs.FirstVersion.{old_effects, old_value_after, old_words_after}
+use Rattle.vyrd_base.specs.BlockEnds.{ended_effects, ended_value, ended_words}
 use Rattle.vyrd_base.specs.Views.{view_of_words, parts_of}
 use Rattle.vyrd_base.specs.Tree.{right_of, node_word, entry_parts, node_parts, damage}
 use Rattle.vyrd_base.specs.Tree.{chain_parts_from, chain_parts}
@@ -99,14 +99,14 @@ pub view_from : (h : Header) (g : Shape) (m : Memory) (log : List Entry) (state 
     → h.subject ≡ Tree → IsLinked h.size g m → ShowsState g m state
     → ((n i : ℕ) → g.linked n ≡ true → level_at m n ≡ 0 → i < 12 → shown_by log (12 * n + i)
     ≡ m (12 * n + i))
-    → view_of_words h (old_words_after h log) ≡ state
-unfolding view_of_words old_words_after
+    → view_of_words h (ended_words h log) ≡ state
+unfolding view_of_words ended_words
 view_from h g m log state is t st leaves =
     ap (λ s. collected (parts_of s h.size shown)) is ∙ collected-is (chain_parts h.size shown) state
     st.formed given_is
   where
     shown : List ℕ
-    shown = map (old_value_after (old_effects log)) (numbers_below (plain_words h))
+    shown = map (ended_value (ended_effects log)) (numbers_below (plain_words h))
 
     words : List ℕ
     words = map m (numbers_below (plain_words h))
@@ -115,7 +115,7 @@ view_from h g m log state is t st leaves =
     plain cell low = subst (λ s. cell < plain_words_of s h.size) (sym is) low
 
     shown_word : (cell : ℕ) → cell < 12 * h.size + 2 → slice_index shown cell ≡ shown_by log cell
-    shown_word cell low = element_below (old_value_after (old_effects log)) (plain_words h) cell
+    shown_word cell low = element_below (ended_value (ended_effects log)) (plain_words h) cell
         (plain cell low)
 
     word : (cell : ℕ) → cell < 12 * h.size + 2 → slice_index words cell ≡ m cell
@@ -167,7 +167,7 @@ pub view_between : (h : Header) (scripts : List Script) (earlier : List Stamped)
     (locals : ℕ → TreeLocals) (g : Shape) (m : Memory) (passed : List Amounts)
     (state : Amounts) → h.subject ≡ Tree → AreSoundScripts h scripts → IsRun h scripts earlier
     → TreeInvariant h scripts earlier locals g m passed state
-    → view_of_words h (old_words_after h (log_in earlier)) ≡ state
+    → view_of_words h (ended_words h (log_in earlier)) ≡ state
 view_between h scripts earlier locals g m passed state is sound run inv =
     view_from h g m (log_in earlier) state is inv.tree inv.shows
     (λ n i of_n leaf low. by_ties n i of_n leaf low inv.ties)

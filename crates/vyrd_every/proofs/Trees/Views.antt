@@ -12,7 +12,7 @@ use Rattle.vyrd_base.specs.declared.log.Entry.{Entry}
 use Rattle.vyrd_base.specs.Places.{numbers_below}
 use Rattle.vyrd_base.specs.Layout.{plain_words, plain_words_of}
 use Rattle.vyrd_base.specs.Amounts.{Amounts, amount_of, collected, given}
-use Rattle.vyrd_base.specs.FirstVersion.{old_effects, old_value_after, old_words_after}
+use Rattle.vyrd_base.specs.BlockEnds.{ended_effects, ended_value, ended_words}
 use Rattle.vyrd_base.specs.Views.{view_of_words, parts_of}
 use Rattle.vyrd_base.specs.Tree.{right_of, node_parts, chain_parts_from, chain_parts}
 use Rattle.vyrd_base.proofs.TestLaws.{isnt_same, isnt_at_most}
@@ -259,13 +259,13 @@ leaf_gives size g words t q n used leaf over =
 -- the view of the words that the log leaves is the state that they show
 pub view_is : (h : Header) (g : Shape) (log : List Entry) (state : Amounts) → h.subject ≡ Tree
     → IsLinked h.size g (shown_by log)
-    → ShowsState g (shown_by log) state → view_of_words h (old_words_after h log) ≡ state
-unfolding view_of_words old_words_after
+    → ShowsState g (shown_by log) state → view_of_words h (ended_words h log) ≡ state
+unfolding view_of_words ended_words
 view_is h g log state is t st =
     cc (collected-is (chain_parts h.size words) state st.formed given_is)
   where
     words : List ℕ
-    words = map (old_value_after (old_effects log)) (numbers_below (plain_words h))
+    words = map (ended_value (ended_effects log)) (numbers_below (plain_words h))
 
     word : (cell : ℕ) → cell < 12 * h.size + 2 → slice_index words cell ≡ shown_by log cell
     word cell low = search (element_below, arith)
