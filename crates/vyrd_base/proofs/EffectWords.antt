@@ -1,13 +1,11 @@
 -- The words that effects give, with one effect more.
-use Rattle.std.proofs.Common.{◌≡◌, ℕ, suc, zero, ◌+◌, ◌<◌, false, cond, List, ◌∷◌, map, set, Some}
-use Rattle.std.proofs.Common.{None, refl, ap, ◌∙◌, sym, arith}
-use Rattle.std.specs.Prelude.{◌==◌, unwrap_or}
-use Rattle.std.specs.Option.{option_or}
+use Rattle.std.proofs.Common.{◌≡◌, ℕ, suc, zero, ◌+◌, ◌<◌, false, List, ◌∷◌, map, set, refl, ap}
+use Rattle.std.proofs.Common.{◌∙◌, sym, arith}
+use Rattle.std.specs.Prelude.{◌==◌}
 use Rattle.vyrd_base.specs.declared.header.Header.{Header}
 use Rattle.vyrd_base.specs.declared.log.StartWord.{StartWord}
-use Rattle.vyrd_base.specs.Places.{first_answer, numbers_from}
-use Rattle.vyrd_base.specs.Layout.{plain_words}
-use Rattle.vyrd_base.specs.Words.{given_to, value_at_start, value_after, words_with}
+use Rattle.vyrd_base.specs.Places.{numbers_from}
+use Rattle.vyrd_base.specs.Words.{words_with}
 use Rattle.vyrd_base.proofs.TestLaws.{is_same, lower_isnt, flipped}
 
 -- a map over numbers that changes at one of them alone

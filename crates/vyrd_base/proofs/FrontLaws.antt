@@ -9,7 +9,7 @@ use Rattle.vyrd_base.specs.declared.log.Entry.{Entry}
 use Rattle.vyrd_base.specs.declared.verdict.Rule.{Rule}
 use Rattle.vyrd_base.specs.Places.{newest_first}
 use Rattle.vyrd_base.specs.Shape.{broken_rule}
-use Rattle.vyrd_base.specs.Front.{front, first_break, front_after}
+use Rattle.vyrd_base.specs.Front.{front, first_break}
 use Rattle.vyrd_base.proofs.Fronts.{front_after_whole}
 use Rattle.vyrd_base.proofs.VerdictLaws.{front-append, first_break-append}
 

@@ -1,12 +1,10 @@
 -- What the limits of a header say of its version, its size, its callers and its words.
-use Rattle.std.proofs.Common.{◌≡◌, ℕ, ◌+◌, ◌<◌, ◌≤◌, ◌^◌, true, ◌&&◌, List, length}
-use Rattle.std.proofs.Common.{ap, ◌∙◌, sym, arith}
-use Rattle.std.specs.Prelude.{nat_le, ◌==◌}
+use Rattle.std.proofs.Common.{◌≡◌, ℕ, ◌+◌, ◌<◌, ◌≤◌, ◌^◌, true, ◌∙◌, sym, arith}
+use Rattle.std.specs.Prelude.{nat_le}
 use Rattle.std.proofs.lemmas.Bool.Decides.{nat_tests}
 use Rattle.vyrd_base.specs.declared.header.Header.{Header}
 use Rattle.vyrd_base.specs.declared.subject.Subject.{Subject}
-use Rattle.vyrd_base.specs.Limits.{is_known_version, is_sized, is_within, is_own_sized}
-use Rattle.vyrd_base.specs.Limits.{is_own_within}
+use Rattle.vyrd_base.specs.Limits.{is_known_version, is_sized, is_within, is_own_within}
 use Rattle.vyrd_base.specs.Subjects.{is_built_in, limits_of}
 use Rattle.vyrd_base.specs.Layout.{plain_words_of, lock_words_of, plain_words, lock_words}
 use Rattle.vyrd_base.proofs.StructureLaws.{words_within}
@@ -98,9 +96,3 @@ callers_in_32_bits h = omega (arith, few_callers h)
 -- the words, plain and locks, have numbers of 16 bits
 pub few_words : (h : Header) → plain_words h + lock_words h ≤ 2 ^ 16
 few_words h = (limited h.subject h.version h.size h.callers h.within).short
-
--- as many words as the header has are as many as its subject has
-pub word_count : (h : Header) (subject : Subject) (words : List ℕ) → h.subject ≡ subject
-    → length words ≡ plain_words h
-    → length words ≡ plain_words_of subject h.size
-word_count h subject words is count = count ∙ ap (λ s. plain_words_of s h.size) is

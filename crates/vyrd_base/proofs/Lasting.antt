@@ -3,8 +3,6 @@ use Rattle.std.proofs.Common.{◌≡◌, ℕ, suc, zero, ◌+◌, ◌≤◌, Boo
 use Rattle.std.proofs.Common.{◌++◌, map, length, Option, Some, None, refl, ap, ◌∙◌, sym, arith}
 use Rattle.std.proofs.Common.{slice_get, append_assoc, length-append}
 use Rattle.std.specs.Option.{option_or, option_map}
-use Rattle.std.specs.Bool.{then_some}
-use Rattle.std.specs.List.{cons_option}
 use Rattle.std.proofs.lemmas.List.Sums.{sum_by-cons}
 use Rattle.std.proofs.lemmas.Option.{slice_get_past}
 use Rattle.vyrd_base.specs.declared.log.Entry.{Entry}

@@ -3,10 +3,7 @@ use Rattle.std.proofs.Common.{◌≡◌, ℕ, ◌+◌, ◌<◌, ◌≤◌, ◌^�
 use Rattle.std.proofs.Common.{[], ◌∷◌, ◌++◌, map, length, Option, Some, None, Ok, Err, refl, ap}
 use Rattle.std.proofs.Common.{◌∙◌, sym, arith, append_assoc}
 use Rattle.std.specs.Prelude.{◌==◌, nat_lt, nat_le, codes, decimal, flat_map, ok_or}
-use Rattle.std.specs.Option.{option_or, unwrap_or}
 use Rattle.std.specs.List.{list_all, slice_split, AllByRecursion}
-use Rattle.std.specs.Str.{bytes_eq}
-use Rattle.std.proofs.lemmas.Bool.{not-true}
 use Rattle.std.proofs.lemmas.Bool.Decides.{nat_tests}
 use Rattle.std.proofs.Math.Bool.{Bool-set}
 use Rattle.vyrd_base.specs.declared.header.Header.{Header}
@@ -21,13 +18,12 @@ use Rattle.vyrd_base.specs.Starts.{is_out_of_range, is_out_of_order, start_rule,
 use Rattle.vyrd_base.specs.Starts.{may_start}
 use Rattle.vyrd_base.specs.Spelling.{ended_line, start_line, entry_line, end_line, header_line}
 use Rattle.vyrd_base.specs.Spelling.{subject_name, log_text, is_entry_of}
-use Rattle.vyrd_base.specs.Lines.{start_in, entry_in, header_in, fields_of, header_spelled}
-use Rattle.vyrd_base.specs.Lines.{header_from, header_if, header_of}
-use Rattle.vyrd_base.specs.Reading.{Reading, Input, stopped, ended, after_end_rule, entry_before}
-use Rattle.vyrd_base.specs.Reading.{lines_read, start_before, starts_read, body_read}
-use Rattle.vyrd_base.specs.Reading.{text_read, reading}
-use Rattle.vyrd_base.specs.Verdicts.{verdict_so_far, end_verdict, accepted, verdict}
-use Rattle.vyrd_base.specs.TextVerdicts.{known_verdict, text_verdict}
+use Rattle.vyrd_base.specs.Lines.{start_in, header_in, fields_of, header_spelled, header_from}
+use Rattle.vyrd_base.specs.Lines.{header_if, header_of}
+use Rattle.vyrd_base.specs.Reading.{Reading, Input, stopped, ended, entry_before, lines_read}
+use Rattle.vyrd_base.specs.Reading.{start_before, starts_read, body_read, text_read, reading}
+use Rattle.vyrd_base.specs.Verdicts.{verdict}
+use Rattle.vyrd_base.specs.TextVerdicts.{text_verdict}
 use Rattle.vyrd_base.proofs.SplitLaws.{lacks, split_at, split-join, lacks-join, number_of_decimal}
 use Rattle.vyrd_base.proofs.SplitLaws.{bytes_same}
 use Rattle.vyrd_base.proofs.SplitLaws.{is_plain_field}

@@ -19,8 +19,7 @@ use Rattle.vyrd_base.specs.Callers.{write_or_open, holds_word}
 use Rattle.vyrd_base.specs.Layout.{plain_words}
 use Rattle.vyrd_base.specs.Shape.{checks_at, broken_rule, is_held_by_other}
 use Rattle.vyrd_base.specs.Words.{block_writes, given_to, effects_at, effects, value_at_start}
-use Rattle.vyrd_base.specs.Words.{value_after, words_after, is_lone_commit, effects_of_others}
-use Rattle.vyrd_base.specs.Words.{is_passed}
+use Rattle.vyrd_base.specs.Words.{words_after, is_lone_commit, effects_of_others, is_passed}
 use Rattle.vyrd_base.specs.BlockEnds.{ended_effects_at, ended_effects}
 use Rattle.vyrd_base.specs.Front.{WellFormed}
 use Rattle.vyrd_base.proofs.PlaceLaws.{first_answer-append}

@@ -4,7 +4,7 @@ use Rattle.std.proofs.Common.{◌≡◌, ℕ, suc, zero, ◌+◌, ◌<◌, ◌�
 use Rattle.std.proofs.Common.{◌||◌, List, [], ◌∷◌, ◌++◌, Option, Some, None, refl, ap, subst, ◌∙◌}
 use Rattle.std.proofs.Common.{sym, arith}
 use Rattle.std.specs.Prelude.{◌==◌, is_some, is_none, unwrap_or}
-use Rattle.std.specs.Option.{option_or, option_flatten}
+use Rattle.std.specs.Option.{option_or}
 use Rattle.std.specs.List.{list_any}
 use Rattle.std.proofs.lemmas.Bool.Decides.{nat_tests}
 use Rattle.vyrd_base.specs.declared.header.Header.{Header}
@@ -13,9 +13,8 @@ use Rattle.vyrd_base.specs.declared.log.Kind.TheVariants.{Call, Return, Write, C
 use Rattle.vyrd_base.specs.declared.log.Kind.TheVariants.{BlockClose, BlockCommit}
 use Rattle.vyrd_base.specs.declared.log.Entry.{Entry}
 use Rattle.vyrd_base.specs.Places.{first_answer, numbers_from, newest_first_onto, newest_first}
-use Rattle.vyrd_base.specs.Callers.{open_or_close, has_block, write_or_open, holds_word}
-use Rattle.vyrd_base.specs.Callers.{open_call, call_or_return}
-use Rattle.vyrd_base.specs.Shape.{Check, first_broken, checks_at, broken_rule, is_held_by_other}
+use Rattle.vyrd_base.specs.Callers.{open_or_close, has_block, write_or_open, holds_word, open_call}
+use Rattle.vyrd_base.specs.Shape.{Check, first_broken, checks_at, broken_rule}
 use Rattle.vyrd_base.specs.Front.{first_break, WellFormed}
 use Rattle.vyrd_base.specs.Words.{with_write, block_writes, given_to, is_passed}
 use Rattle.vyrd_base.specs.BlockEnds.{ended_effects_at, ended_effects, ended_value}
@@ -26,7 +25,7 @@ use Rattle.vyrd_base.proofs.BlockLaws.{entry, by_same, own_answer, other_answer,
 use Rattle.vyrd_base.proofs.BlockLaws.{block_value, own_value, own_wrote, other_writes, wrote_is}
 use Rattle.vyrd_base.proofs.BlockLaws.{open_call-quiet}
 use Rattle.vyrd_base.proofs.ListLaws.{both_none, isnt_some}
-use Rattle.vyrd_base.proofs.TestLaws.{above_of, same_number, flipped}
+use Rattle.vyrd_base.proofs.TestLaws.{above_of, same_number}
 
 pub well_formed_after : (h : Header) (earlier xs : List Entry) → WellFormed h earlier
     → break_after h earlier xs ≡ None

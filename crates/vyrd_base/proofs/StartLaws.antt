@@ -1,11 +1,11 @@
 -- Words for which a state stands where all locks are 0, and that zeroed words are the start.
-use Rattle.std.proofs.Common.{◌≡◌, ℕ, zero, suc, ◌+◌, ◌*◌, ◌≤◌, Bool, true}
-use Rattle.std.proofs.Common.{false, not, ◌&&◌, ◌||◌, List, [], ◌∷◌, ◌++◌, length, map, Some, refl}
-use Rattle.std.proofs.Common.{ap, ◌∙◌, sym, arith, length-append}
+use Rattle.std.proofs.Common.{◌≡◌, ℕ, zero, suc, ◌+◌, ◌*◌, ◌≤◌, Bool, true, not, ◌&&◌, ◌||◌, List}
+use Rattle.std.proofs.Common.{[], ◌∷◌, ◌++◌, length, map, Some, refl, ap, ◌∙◌, sym, arith}
+use Rattle.std.proofs.Common.{length-append}
 use Rattle.std.specs.Prelude.{◌==◌, nat_lt, nat_le, drop, flat_map, find, is_none}
 use Rattle.std.specs.Prelude.{replicate, slice_index}
 use Rattle.std.specs.Bool.{then_some}
-use Rattle.std.specs.List.{list_all, list_any}
+use Rattle.std.specs.List.{list_all}
 use Rattle.std.proofs.Math.Seq.{drop-append_seam}
 use Rattle.std.proofs.lemmas.List.{replicate-append-replicate, length-replicate}
 use Rattle.vyrd_base.specs.declared.header.Header.{Header}
@@ -15,8 +15,7 @@ use Rattle.vyrd_base.specs.declared.subject.Subject.TheVariants.{Own}
 use Rattle.vyrd_base.specs.Places.{numbers_from}
 use Rattle.vyrd_base.specs.Layout.{plain_words, lock_words}
 use Rattle.vyrd_base.specs.Amounts.{plus_amount, collected}
-use Rattle.vyrd_base.specs.Tree.{entries_of, entry_parts, node_parts, right_of, damage}
-use Rattle.vyrd_base.specs.Tree.{chain_parts_from}
+use Rattle.vyrd_base.specs.Tree.{entries_of, entry_parts, node_parts, chain_parts_from}
 use Rattle.vyrd_base.specs.Buffers.{buffer_at, is_buffer, buffer_parts}
 use Rattle.vyrd_base.specs.Multiset.{slot_parts}
 use Rattle.vyrd_base.specs.Cache.{chunk_at, chunk_parts}

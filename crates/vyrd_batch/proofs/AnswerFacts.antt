@@ -1,7 +1,7 @@
 -- The lines of verdicts, one after the other.
 use Rattle.std.proofs.Common.{◌≡◌, ℕ, ◌+◌, ◌<◌, List, [], ◌∷◌, ◌++◌, length, take, ap, ◌∙◌, sym}
 use Rattle.std.proofs.Common.{arith, append_assoc, append-nil, add-one}
-use Rattle.std.specs.Prelude.{get_or, Result, Ok, Err, OnErr}
+use Rattle.std.specs.Prelude.{get_or, Result, OnErr}
 use Rattle.std.proofs.lemmas.List.{length-take}
 use Rattle.std.proofs.Math.Seq.{take-suc}
 use Rattle.vyrd_base.specs.declared.verdict.Verdict.{Verdict}

@@ -7,7 +7,6 @@ use Rattle.std.proofs.lemmas.List.{map-append, length-append, length-map, take-a
 use Rattle.std.proofs.lemmas.Grind.{flat_map-append}
 use Rattle.vyrd_base.specs.declared.verdict.Verdict.{Verdict}
 use Rattle.vyrd_base.specs.LogVerdicts.{log_verdict}
-use Rattle.vyrd_base.specs.Limits.{most_lines}
 use Rattle.vyrd_batch.specs.declared.span.Span.{Span}
 use Rattle.vyrd_batch.specs.Batches.{bytes_of}
 use Rattle.vyrd_batch.specs.BatchAnswers.{verdicts_of}

@@ -1,12 +1,10 @@
 -- What the line before a log says, and where its bytes stand.
-use Rattle.std.proofs.Common.{◌≡◌, ℕ, ◌+◌, ◌-◌, ◌<◌, ◌≤◌, ◌^◌, true, cond, not}
-use Rattle.std.proofs.Common.{◌&&◌, List, [], ◌∷◌, ◌++◌, length, drop, Option, Some, None, refl, ap}
-use Rattle.std.proofs.Common.{◌∙◌, sym, arith}
+use Rattle.std.proofs.Common.{◌≡◌, ℕ, ◌+◌, ◌-◌, ◌<◌, ◌≤◌, ◌^◌, true, cond, not, ◌&&◌, List, [], ◌∷◌}
+use Rattle.std.proofs.Common.{◌++◌, length, drop, Option, Some, None, refl, arith}
 use Rattle.std.specs.Prelude.{◌==◌, nat_le}
 use Rattle.std.specs.Str.{bytes_eq}
 use Rattle.std.proofs.lemmas.Bool.{not-true}
 use Rattle.std.proofs.Math.Seq.{drop-append-add}
-use Rattle.vyrd_base.specs.Lines.{number_of}
 use Rattle.vyrd_base.proofs.SplitLaws.{number_of_decimal, bytes_same}
 use Rattle.vyrd_base.proofs.TestLaws.{first_true, second_true, both_true, is_at_most, isnt_at_most}
 use Rattle.vyrd_base.proofs.TestLaws.{same_number}

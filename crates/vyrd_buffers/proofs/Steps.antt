@@ -1,7 +1,7 @@
 -- What a step needs: what holds at a place, cells that are below 2^32, and what is left after a
 -- character.
 use Rattle.std.proofs.Common.{◌≡◌, ℕ, suc, ◌+◌, ◌-◌, ◌*◌, ◌%◌, ◌^◌, ◌<◌, ◌≤◌, true, List, [], ◌∷◌}
-use Rattle.std.proofs.Common.{◌++◌, refl, subst, arith}
+use Rattle.std.proofs.Common.{◌++◌, subst, arith}
 use Rattle.std.specs.Prelude.{◌&&◌, nat_lt, nat_le, drop}
 use Rattle.std.proofs.Math.Logic.{∥∥₁_elim}
 use Rattle.std.proofs.Math.Bool.{Bool-set}
@@ -13,7 +13,7 @@ use Rattle.vyrd_base.proofs.HeaderLaws.{most_size}
 use Rattle.vyrd_base.proofs.TestLaws.{first_true, second_true, is_below, below_of}
 use Rattle.vyrd_memory.specs.declared.act.Act.{Act}
 use Rattle.vyrd_memory.specs.declared.act.Act.TheVariants.{Load, Store, Take, Give}
-use Rattle.vyrd_memory.specs.Scripts.{Script, stop, step, next_act, after_answer}
+use Rattle.vyrd_memory.specs.Scripts.{Script, step, next_act, after_answer}
 use Rattle.vyrd_memory.specs.Soundness.{Situation, IsSound, IsSoundSomewhere, may_act}
 use Rattle.vyrd_buffers.specs.declared.held.Held.{Held}
 use Rattle.vyrd_buffers.specs.declared.text.Text.{Text}

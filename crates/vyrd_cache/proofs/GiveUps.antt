@@ -1,5 +1,5 @@
 -- That no operation gives up: the specification refuses the reply 0.
-use Rattle.std.proofs.Common.{◌≡◌, ℕ, true, false, None, Some, refl, ap, ◌∙◌, sym, subst}
+use Rattle.std.proofs.Common.{◌≡◌, ℕ, true, false, None, Some, refl, sym, subst}
 use Rattle.vyrd_base.specs.declared.header.Header.{Header}
 use Rattle.vyrd_base.specs.declared.subject.Subject.TheVariants.{Cache}
 use Rattle.vyrd_base.specs.declared.subject.Method.{Method}
@@ -16,8 +16,7 @@ use Rattle.vyrd_base.proofs.ListLaws.{none_isnt_some}
 use Rattle.vyrd_memory.specs.declared.op.Op.{Op}
 use Rattle.vyrd_memory.specs.declared.op.Variant.TheVariants.{Correct}
 use Rattle.vyrd_memory.specs.Arguments.{are_small}
-use Rattle.vyrd_memory.specs.Alone.{Memory, state_in, state_after, alone, GivesUpWhere}
-use Rattle.vyrd_memory.specs.Alone.{MeetsSpecification}
+use Rattle.vyrd_memory.specs.Alone.{Memory, state_in, alone, GivesUpWhere, MeetsSpecification}
 use Rattle.vyrd_cache.specs.Procedures.{cache_procedure}
 use Rattle.vyrd_cache.specs.Laws.{cache_is_right_alone}
 

@@ -1,7 +1,7 @@
 -- What a piece costs is paid by what was owed before it, and by what its bytes cost.
-use Rattle.std.proofs.Common.{◌≡◌, ℕ, ◌+◌, ◌≤◌, Bool, true, false, cond, ◌||◌, List, [], ◌++◌, map}
-use Rattle.std.proofs.Common.{Option, Some, None, refl, ap, subst, ◌∙◌, sym, arith}
-use Rattle.std.proofs.Common.{length-append, append_assoc, append-nil}
+use Rattle.std.proofs.Common.{◌≡◌, ℕ, ◌+◌, ◌≤◌, Bool, true, false, ◌||◌, List, [], ◌++◌, map}
+use Rattle.std.proofs.Common.{Option, Some, None, refl, ap, subst, ◌∙◌, sym, arith, length-append}
+use Rattle.std.proofs.Common.{append_assoc, append-nil}
 use Rattle.std.specs.List.{sum_by}
 use Rattle.std.proofs.lemmas.List.{map-append}
 use Rattle.std.proofs.lemmas.List.Sums.{sum_by-append}
@@ -19,11 +19,6 @@ use Rattle.vyrd_check.specs.Costs.{entry_cost, starting_cost, entries_cost, end_
 use Rattle.vyrd_check.specs.Costs.{bytes_cost}
 use Rattle.vyrd_check.specs.Owed.{judge_owes, following_cost, kept_debt, debt_after, checker_debt}
 use Rattle.vyrd_check.proofs.PieceLaws.{header_of_charter}
-
--- the costs of what was read under this header
-abbrev cost_of : Option Header → List StartWord → List Entry → Bool → ℕ
-cost_of o starting entries ended =
-    starting_cost o starting + entries_cost o entries + end_cost o ended
 
 no_end : (o : Option Header) → end_cost o false ≡ 0
 no_end o = search arith
@@ -78,12 +73,6 @@ following_is j read log more done at = search (read, more, header_of_charter, ar
 pub end_is : (j : JudgeView) (read : Reading) (log : List Entry) → IsAt j read log
     → read.ended ≡ true → callers_of j.kept ≡ end_cost read.header read.ended
 end_is j read log at done = grind (arith, read, header_of_charter)
-
--- what a judge that was just made owes
-made_owes : (b : Bool) (o : Option Header) (starting : List StartWord) (j : JudgeView)
-    → IsBegun b o starting None (Some j)
-    → judge_debt price_by (λ charter. 2) j [] ≡ starting_cost o starting
-made_owes b o starting j begun = grind (arith, starting, begun)
 
 paid_on : (d f s e m n : ℕ) (before after : ℕ) → f ≡ m + n → before ≡ s + e + 0
     → after ≡ s + (e + m) + n → d + f + before ≤ d + after
@@ -179,10 +168,6 @@ pub part_paid : (c : CheckerState) (k : CheckerKept) (v : Option Verdict) (bytes
     → n + debt_after v k (bytes ++ part) + bytes_cost c.kept.reader.max_lines bytes
     ≤ m + checker_debt c bytes + bytes_cost c.kept.reader.max_lines (bytes ++ part)
 part_paid c k v bytes part m n none paid = grind (arith, paid, grown_more, after_at_most)
-
-two_parts : (l m n a b c x y z : ℕ) → m + b + x ≤ l + a + y → n + c + y ≤ m + b + z
-    → n + c + x ≤ l + a + z
-two_parts l m n a b c x y z first second = omega (arith, first, second)
 
 -- one part after others
 pub parts_paid : (first before after : CheckerState) (bytes read part all : List ℕ) (l m n : ℕ)

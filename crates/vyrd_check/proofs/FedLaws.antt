@@ -13,8 +13,6 @@ use Rattle.vyrd_base.specs.declared.verdict.Verdict.TheVariants.{Malformed}
 use Rattle.vyrd_base.specs.Starts.{may_start}
 use Rattle.vyrd_base.specs.Subjects.{is_built_in}
 use Rattle.vyrd_base.specs.Reading.{Reading, has_any}
-use Rattle.vyrd_base.specs.Rules.{built_in}
-use Rattle.vyrd_base.specs.Verdicts.{verdict_so_far}
 use Rattle.vyrd_base.specs.TextVerdicts.{text_verdict_so_far}
 use Rattle.vyrd_base.proofs.ReadingGrows.{TextGrown, reading_grows, input_of}
 use Rattle.vyrd_base.proofs.ReadingSound.{reading_writable}
@@ -22,14 +20,12 @@ use Rattle.vyrd_base.proofs.TestLaws.{at_most_of, is_at_most}
 use Rattle.vyrd_base.specs.Limits.{IsLimit}
 use Rattle.vyrd_text.specs.Readers.{ReaderState, HasRead}
 use Rattle.vyrd_text.specs.Answered.{IsGrownBy}
-use Rattle.vyrd_view.specs.Comparing.{price_by}
-use Rattle.vyrd_judge.specs.Costs.{judge_debt}
-use Rattle.vyrd_judge.specs.Following.{JudgeView, HasFollowed}
+use Rattle.vyrd_judge.specs.Following.{JudgeView}
 use Rattle.vyrd_check.specs.LogReadings.{read_so_far}
 use Rattle.vyrd_check.specs.Checking.{IsJudging, IsReady, IsBegun, HasRoom, CheckerKept}
 use Rattle.vyrd_check.specs.Checking.{IsUndecided, IsSomewhere, wrong_in}
 use Rattle.vyrd_check.specs.Checking.{has_begun}
-use Rattle.vyrd_check.specs.Costs.{starting_cost, bytes_cost}
+use Rattle.vyrd_check.specs.Costs.{bytes_cost}
 use Rattle.vyrd_check.specs.Owed.{judge_owes, following_cost, kept_debt}
 use Rattle.vyrd_check.proofs.ReadingFacts.{entries_few, headless_empty, text_right, known_so_far}
 use Rattle.vyrd_check.proofs.ReadingFacts.{entries_right}

@@ -1,24 +1,20 @@
 -- How what is kept goes on with a piece of the text.
-use Rattle.std.proofs.Common.{◌≡◌, ◌≤◌, Bool, true, false, cond, ◌||◌, List, [], ◌∷◌, ◌++◌, length}
-use Rattle.std.proofs.Common.{Option, Some, None, refl, ap, subst, ◌∙◌, sym, arith, length-append}
-use Rattle.std.proofs.Common.{option_map}
+use Rattle.std.proofs.Common.{◌≡◌, ◌≤◌, Bool, true, false, cond, ◌||◌, List, [], ◌++◌, length}
+use Rattle.std.proofs.Common.{Option, Some, None, refl, ◌∙◌, sym, arith, length-append, option_map}
 use Rattle.std.specs.Prelude.{option_and_then, is_none, is_some, IfSome}
 use Rattle.std.specs.Bool.{then_some}
 use Rattle.std.specs.Option.{option_or}
-use Rattle.std.proofs.lemmas.Bool.{or_left, or_right}
 use Rattle.vyrd_base.specs.Rules.{Charter, built_in, rules_of, rules_by}
 use Rattle.vyrd_base.specs.declared.header.Header.{Header}
 use Rattle.vyrd_base.specs.declared.log.Entry.{Entry}
 use Rattle.vyrd_base.specs.declared.log.StartWord.{StartWord}
-use Rattle.vyrd_base.specs.declared.verdict.Rule.TheVariants.{StartState, CallOpen}
+use Rattle.vyrd_base.specs.declared.verdict.Rule.TheVariants.{StartState}
 use Rattle.vyrd_base.specs.declared.verdict.Verdict.TheVariants.{Malformed}
-use Rattle.vyrd_base.specs.Places.{newest_first}
 use Rattle.vyrd_base.specs.Front.{front}
 use Rattle.vyrd_base.specs.Starts.{state_at_start}
 use Rattle.vyrd_base.specs.Reading.{Reading, has_any, reading}
-use Rattle.vyrd_base.specs.Verdicts.{line_of, first_fault, shape_verdict, verdict_so_far}
-use Rattle.vyrd_base.specs.Verdicts.{is_call_open, end_verdict}
-use Rattle.vyrd_base.specs.TextVerdicts.{entries_verdict, text_verdict_so_far}
+use Rattle.vyrd_base.specs.Verdicts.{verdict_so_far, end_verdict}
+use Rattle.vyrd_base.specs.TextVerdicts.{text_verdict_so_far}
 use Rattle.vyrd_base.proofs.ReadingGrows.{TextGrown}
 use Rattle.vyrd_base.proofs.TextLasts.{nothing_so_far}
 use Rattle.vyrd_base.specs.Limits.{most_lines}
@@ -37,10 +33,6 @@ pub counted : (j : JudgeView) (starting : List StartWord) (log : List Entry) →
     → j.kept.entries ≡ length log
 counted j starting log none f = (faultless_of none f).taken_in.entries
 
--- more entries after some
-any_more : (xs more : List Entry) → has_any xs ≡ true → has_any (xs ++ more) ≡ true
-any_more xs more e = search arith
-
 -- what is said of the rules of a header
 of_charter : {B : Type 0} (f : Charter → Option B) (o : Option Header)
     → option_and_then f (option_map built_in o) ≡ option_and_then (λ h. f (built_in h)) o
@@ -56,11 +48,6 @@ pub header_of_charter : (o : Option Header) (l : Charter) → option_map built_i
     → (h : Header) × (o ≡ Some h) × (built_in h ≡ l)
 header_of_charter None l is = cc
 header_of_charter (Some h) l is = (h, refl, cc)
-
--- what has begun goes on
-pub begun_on : (old new : Reading) → TextGrown old new → old.fault ≡ None → has_begun old ≡ true
-    → has_begun new ≡ true
-begun_on old new g none begun = search (has_any, any_more, arith)
 
 -- the judge that was made, if one was
 pub made_from : (h : Header) (starting : List StartWord) (made : Option JudgeView)

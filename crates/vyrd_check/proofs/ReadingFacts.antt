@@ -1,6 +1,6 @@
 -- How many entries a reading has, and what is wrong with them.
 use Rattle.std.proofs.Common.{◌≡◌, ℕ, ◌+◌, ◌≤◌, Bool, true, false, cond, List, [], ◌∷◌, length}
-use Rattle.std.proofs.Common.{Option, Some, None, Result, Ok, Err, refl, ap, ◌∙◌, sym, arith}
+use Rattle.std.proofs.Common.{Option, Some, None, Result, Ok, Err, refl, ◌∙◌, sym, arith}
 use Rattle.std.specs.Prelude.{◌==◌, nat_lt, unwrap_or, option_map, option_and_then}
 use Rattle.std.specs.Option.{option_or}
 use Rattle.std.specs.List.{slice_split}
@@ -17,9 +17,9 @@ use Rattle.vyrd_base.specs.declared.verdict.Verdict.TheVariants.{Malformed}
 use Rattle.vyrd_base.specs.Spelling.{end_line}
 use Rattle.vyrd_base.specs.Starts.{start_rule}
 use Rattle.vyrd_base.specs.Lines.{start_in, entry_in, header_in}
-use Rattle.vyrd_base.specs.Reading.{Reading, TextFault, stopped, ended, after_end_rule}
-use Rattle.vyrd_base.specs.Reading.{entry_before, lines_read, start_before, starts_read, body_read}
-use Rattle.vyrd_base.specs.Reading.{header_before, text_read, reading}
+use Rattle.vyrd_base.specs.Reading.{Reading, stopped, ended, after_end_rule, entry_before}
+use Rattle.vyrd_base.specs.Reading.{lines_read, start_before, starts_read, body_read, header_before}
+use Rattle.vyrd_base.specs.Reading.{text_read, reading}
 use Rattle.vyrd_base.specs.TextVerdicts.{entries_verdict, text_verdict, text_verdict_so_far}
 use Rattle.vyrd_base.specs.Verdicts.{verdict_so_far, end_verdict, accepted, verdict}
 use Rattle.vyrd_base.proofs.ReadingGrows.{so_far}

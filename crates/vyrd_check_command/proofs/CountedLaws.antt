@@ -9,7 +9,6 @@ use Rattle.vyrd_base.specs.LogVerdicts.{log_verdict_so_far}
 use Rattle.vyrd_log_check.specs.Checking.{LogCheckerState, HasChecked}
 use Rattle.vyrd_log_check.specs.Costs.{bytes_cost, finish_cost}
 use Rattle.vyrd_log_check.specs.Owed.{checker_debt}
-use Rattle.vyrd_check_command.specs.Inputs.{IsTaken}
 use Rattle.vyrd_check_command.specs.Checks.{IsCounted}
 use Rattle.vyrd_check_command.specs.Inside.Progress.{IsCounting}
 use Rattle.vyrd_check_command.proofs.TakenLaws.{no_more_bytes, taken_more}

@@ -1,6 +1,5 @@
 -- How much of a text is written, write by write.
-use Rattle.std.proofs.Common.{ℕ, ◌+◌, List, ◌++◌, take, drop, Option, Some, None, ap, ◌∙◌, sym}
-use Rattle.std.proofs.Common.{append_assoc}
+use Rattle.std.proofs.Common.{ℕ, ◌+◌, List, take, drop, Option, Some, None, ap, ◌∙◌, append_assoc}
 use Rattle.std.specs.Prelude.{option_map}
 use Rattle.std.proofs.Math.Seq.{take-add}
 use Rattle.vyrd_base.specs.Devices.{SinkKnown, Takes}

@@ -1,7 +1,7 @@
 -- What was read of an input says the logs of the whole input, and what is judged of it while it is
 -- read.
-use Rattle.std.proofs.Common.{◌≡◌, ℕ, ◌+◌, ◌*◌, ◌≤◌, List, [], ◌++◌, length, refl, ap, ◌∙◌, sym}
-use Rattle.std.proofs.Common.{subst, arith, length-append, append_assoc, append-nil}
+use Rattle.std.proofs.Common.{◌≡◌, ℕ, ◌+◌, ◌*◌, ◌≤◌, List, ◌++◌, length, refl, sym, subst, arith}
+use Rattle.std.proofs.Common.{length-append, append_assoc, append-nil}
 use Rattle.std.specs.Prelude.{IfSome, Result, Ok, Err, IfOk}
 use Rattle.vyrd_base.specs.Devices.{SourceKnown}
 use Rattle.vyrd_base.specs.declared.verdict.Verdict.{Verdict}
@@ -17,8 +17,7 @@ use Rattle.vyrd_check_command.specs.declared.answer.Answer.{Answer}
 use Rattle.vyrd_check_command.proofs.TakenLaws.{taken_more}
 use Rattle.vyrd_command.specs.Inputs.{IsInputRead, IsMoreRead, IsFewTaken}
 use Rattle.vyrd_command.specs.Batches.{IsBatchAnswer, IsReading}
-use Rattle.vyrd_command.specs.Inside.BatchCosts.{round_bytes, IsSinceRound, IsPaidRound, IsReadFor}
-use Rattle.vyrd_command.specs.Inside.BatchCosts.{IsTakenFor}
+use Rattle.vyrd_command.specs.Inside.BatchCosts.{round_bytes, IsSinceRound, IsReadFor, IsTakenFor}
 use Rattle.vyrd_command.proofs.InputLaws.{whole_input, long_refused}
 
 pub logs_are_input : (before after : SourceKnown) (bytes : List ℕ)
@@ -72,11 +71,6 @@ batch_refused bytes status text answer long = by_reading (batch_logs bytes) refl
     by_reading (Ok logs) e answer =
         absurd (long_refused batch_logs bytes batch_of read_batch_is_text
         (λ more. logs_are_settled bytes more (omega (arith, long))) logs e)
-
--- before the first round
-pub first_paid : (judge : BatchView) (bytes : List ℕ) (steps : ℕ) → bytes ≡ [] → IsSpent judge []
-    → IsPaidRound judge bytes round_bytes steps steps 0
-first_paid judge bytes steps none spent = grind arith
 
 -- one more read
 pub since_more : (between after : SourceKnown) (judge : BatchView) (old new : List ℕ)

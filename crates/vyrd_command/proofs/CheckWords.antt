@@ -3,14 +3,13 @@ use Rattle.std.proofs.Common.{◌≡◌, ℕ, Bool, true, false, List, [], ◌�
 use Rattle.std.specs.Prelude.{codes, if◌then◌else◌}
 use Rattle.std.specs.Option.{option_and_then}
 use Rattle.std.specs.Str.{bytes_eq}
-use Rattle.vyrd_base.specs.Lines.{number_of}
 use Rattle.vyrd_explain.specs.declared.about.About.TheVariants.{Fault, Changes}
 use Rattle.vyrd_check_command.specs.Inside.Words.{is_check}
 use Rattle.vyrd_command.specs.declared.show.Show.TheVariants.{Verdict, Log, History}
 use Rattle.vyrd_command.specs.declared.form.Form.{Form}
 use Rattle.vyrd_command.specs.declared.form.Form.TheVariants.{Check, Step, Run, Gen, Movers, Batch}
 use Rattle.vyrd_command.specs.declared.form.Form.TheVariants.{Tell}
-use Rattle.vyrd_command.specs.Forms.{form_in, is_count}
+use Rattle.vyrd_command.specs.Forms.{form_in}
 
 chosen : (b : Bool) (x y : Option Form) → b ≡ true → (if b then x else y) ≡ x
 chosen true x y e = refl

@@ -14,23 +14,8 @@ use Rattle.vyrd_command.specs.Forms.{usage_line}
 use Rattle.vyrd_command.specs.Commands.{IsStatus, IsAnswerStatus, IsAnswer, HasAnswered}
 use Rattle.vyrd_command.specs.Commands.{HasAnsweredInPart, HasRoom, reads, IsEnough}
 
--- no form has an answer of status 3, 4, 5 or 6
-answer_outside : (form : Form) (n : ℕ) → IsAnswerStatus (Some form) n → (n ≤ 2) ⊎ (7 ≤ n)
-answer_outside form n low = search arith
-
 no_answer : (form : Form) (n : ℕ) → 3 ≤ n → n ≤ 6 → IsAnswerStatus (Some form) n → ⊥
 no_answer form n low high answered = grind arith
-
--- The status of an answer is the one that was made ready.
-same_status : (said : Option Form) (form : Form) (status own : ℕ) → said ≡ Some form → (status ≡ 5)
-    ⊎ (status ≡ own)
-    → IsAnswerStatus said status → status ≡ own
-same_status said form status own is e5 answered = search (no_answer, arith)
-
-ready_status : (said : Option Form) (form : Form) (status own : ℕ) → said ≡ Some form → (status ≡ 5)
-    ⊎ (status ≡ own)
-    → IsAnswerStatus said status → IsAnswerStatus (Some form) own
-ready_status said form status own is given answered = search (same_status, arith)
 
 pub written_status : (said : Option Form) (form : Form) (status own : ℕ) → said ≡ Some form
     → (status ≡ 5) ⊎ (status ≡ own)

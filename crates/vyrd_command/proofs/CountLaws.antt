@@ -1,6 +1,6 @@
 -- What the count of faults of a device tells of the reads or writes.
-use Rattle.std.proofs.Common.{◌≡◌, ℕ, ◌≤◌, Bool, true, false, refl, subst, sym, inl, inr, arith}
-use Rattle.std.specs.Prelude.{◌⊎◌, ◌-◌, if◌then◌else◌}
+use Rattle.std.proofs.Common.{◌≡◌, ℕ, ◌≤◌, Bool, true, false, subst, sym, arith}
+use Rattle.std.specs.Prelude.{◌⊎◌, if◌then◌else◌}
 use Rattle.std.proofs.lemmas.Bool.Decides.{nat_tests}
 use Rattle.vyrd_base.specs.Devices.{next_count}
 use Rattle.vyrd_command.specs.Inside.Counts.{HasRisen}

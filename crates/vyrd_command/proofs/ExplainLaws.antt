@@ -1,8 +1,7 @@
 -- What was taken of an input, and what is explained of it.
 use Rattle.std.proofs.Common.{◌≡◌, ℕ, List, [], ◌+◌, ◌-◌, ◌≤◌, ◌++◌, length, length-append, Bool}
-use Rattle.std.proofs.Common.{true, false, Option, Some, None, ap, ◌∙◌, sym, subst, arith}
-use Rattle.std.proofs.Common.{inl, inr}
-use Rattle.std.specs.Prelude.{◌⊎◌, IfSome, option_map}
+use Rattle.std.proofs.Common.{true, false, ap, ◌∙◌, sym, subst, arith, inr}
+use Rattle.std.specs.Prelude.{◌⊎◌, IfSome}
 use Rattle.vyrd_base.specs.declared.verdict.Verdict.{Verdict}
 use Rattle.vyrd_base.specs.Devices.{SourceKnown, IsAtEnd}
 use Rattle.vyrd_base.specs.LogVerdicts.{log_verdict}

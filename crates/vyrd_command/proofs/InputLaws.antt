@@ -1,8 +1,8 @@
 -- What was read of an input, to its end or as far as it is read, and what that says.
-use Rattle.std.proofs.Common.{◌≡◌, ℕ, List, [], ◌∷◌, ◌++◌, length, Option, Some, None, ap, ◌∙◌, sym}
-use Rattle.std.proofs.Common.{arith, inl, inr, length-append}
-use Rattle.std.specs.Prelude.{◌⊎◌, option_map, IfSome, Result, Ok}
-use Rattle.vyrd_base.specs.Devices.{SourceKnown, IsAtEnd}
+use Rattle.std.proofs.Common.{◌≡◌, ℕ, List, [], ◌∷◌, ◌++◌, length, ap, ◌∙◌, sym, arith}
+use Rattle.std.proofs.Common.{length-append}
+use Rattle.std.specs.Prelude.{IfSome, Result, Ok}
+use Rattle.vyrd_base.specs.Devices.{SourceKnown}
 use Rattle.vyrd_check_command.proofs.TakenLaws.{no_more_bytes}
 use Rattle.vyrd_command.specs.Inputs.{IsInputRead, IsInputTaken}
 

@@ -7,7 +7,7 @@ use Rattle.vyrd_base.specs.Devices.{SourceKnown}
 use Rattle.vyrd_mover.specs.declared.blocks.Blocks.{Blocks}
 use Rattle.vyrd_mover.specs.BlocksText.{blocks_text}
 use Rattle.vyrd_mover.specs.EventsRead.{AreBlocksOf}
-use Rattle.vyrd_mover.specs.HistoryText.{Recorded, history_text}
+use Rattle.vyrd_mover.specs.HistoryText.{Recorded}
 use Rattle.vyrd_mover.specs.HistoryReading.{Refusal, history_reading}
 use Rattle.vyrd_mover.specs.HistoryReaders.{ReaderState, HasRead}
 use Rattle.vyrd_mover.specs.LongHistories.{longest_history}

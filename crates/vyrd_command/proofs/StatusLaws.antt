@@ -1,8 +1,7 @@
 -- No answer that a read came before has the status of a failed read.
-use Rattle.std.proofs.Common.{ℕ, ◌≤◌, List, Result, Ok, Err, inl, inr, arith}
+use Rattle.std.proofs.Common.{ℕ, ◌≤◌, List, Result, arith}
 use Rattle.std.specs.Prelude.{◌≢◌}
 use Rattle.vyrd_mover.specs.declared.blocks.Blocks.{Blocks}
-use Rattle.vyrd_mover.specs.declared.blocks.Blocks.TheVariants.{Reducible, Broken}
 use Rattle.vyrd_mover.specs.HistoryText.{Recorded}
 use Rattle.vyrd_mover.specs.HistoryReading as movers
 use Rattle.vyrd_work.specs.Workloads.{Workload}

@@ -1,5 +1,5 @@
 -- What an account tells of a run that ended is the answer.
-use Rattle.std.proofs.Common.{◌≡◌, ℕ, List, [], ◌++◌, length, Option, Some, None, refl, ap, ◌∙◌}
+use Rattle.std.proofs.Common.{◌≡◌, ℕ, List, [], ◌++◌, length, Option, Some, None, refl}
 use Rattle.std.specs.Prelude.{IfSome}
 use Rattle.vyrd_base.specs.Histories.{log_of}
 use Rattle.vyrd_base.specs.Rules.{built_in, rules_of, rules_by}

@@ -1,9 +1,7 @@
 -- The log has no fault, so it is accepted.
-use Rattle.std.proofs.Common.{◌≡◌, ℕ, ◌<◌, true, false, List, [], ◌∷◌, ◌++◌, Some, None}
-use Rattle.std.proofs.Common.{option_map, length, refl, ap, ◌∙◌, subst}
-use Rattle.std.specs.Prelude.{filter_map, unwrap_or}
-use Rattle.std.specs.Option.{option_or}
-use Rattle.std.specs.Bool.{then_some}
+use Rattle.std.proofs.Common.{◌≡◌, ℕ, ◌<◌, true, false, List, [], ◌∷◌, ◌++◌, Some, None, length}
+use Rattle.std.proofs.Common.{refl, ap, ◌∙◌}
+use Rattle.std.specs.Prelude.{filter_map}
 use Rattle.std.specs.List.{cons_option}
 use Rattle.vyrd_base.specs.declared.header.Header.{Header}
 use Rattle.vyrd_base.specs.declared.log.Kind.TheVariants.{Call, Return, Write, Commit, BlockOpen}
@@ -12,21 +10,19 @@ use Rattle.vyrd_base.specs.declared.log.Entry.{Entry}
 use Rattle.vyrd_base.specs.declared.history.Did.{Did}
 use Rattle.vyrd_base.specs.declared.history.Did.TheVariants.{Read, Wrote, Took, Gave, Marked}
 use Rattle.vyrd_base.specs.declared.history.Stamped.{Stamped}
-use Rattle.vyrd_base.specs.declared.verdict.Rule.TheVariants.{CallOpen}
-use Rattle.vyrd_base.specs.declared.verdict.Verdict.TheVariants.{Violation, Malformed}
-use Rattle.vyrd_base.specs.Places.{Place, places, places_after, position_of, first_answer}
-use Rattle.vyrd_base.specs.Places.{newest_first_onto, newest_first}
+use Rattle.vyrd_base.specs.Places.{Place, places, places_after, first_answer, newest_first_onto}
+use Rattle.vyrd_base.specs.Places.{newest_first}
 use Rattle.vyrd_base.specs.Front.{front, first_break, WellFormed}
 use Rattle.vyrd_base.specs.Amounts.{Amounts}
 use Rattle.vyrd_base.specs.States.{State}
 use Rattle.vyrd_base.specs.Specification.{start}
 use Rattle.vyrd_base.specs.Commits.{next_reply, committed_at, commits_after, commits, commit_count}
-use Rattle.vyrd_base.specs.Faults.{fault_of_kind, fault_of_commit, return_fault, fault_at}
+use Rattle.vyrd_base.specs.Faults.{fault_of_kind, fault_of_commit, fault_at}
 use Rattle.vyrd_base.specs.BlockEnds.{ended_words}
 use Rattle.vyrd_base.specs.Views.{view_of_words}
 use Rattle.vyrd_base.proofs.NoStart.{states_along-none, verdict_so_far-none, end_verdict-none}
-use Rattle.vyrd_base.specs.Verdicts.{line_of, violation_at, states_along, first_fault}
-use Rattle.vyrd_base.specs.Verdicts.{shape_verdict, is_call_open, end_verdict, accepted, verdict}
+use Rattle.vyrd_base.specs.Verdicts.{violation_at, states_along, first_fault, shape_verdict}
+use Rattle.vyrd_base.specs.Verdicts.{is_call_open, accepted, verdict}
 use Rattle.vyrd_base.specs.Histories.{cells_of, is_legal, logged, log_of}
 use Rattle.vyrd_base.proofs.HistoryLaws.{log_entry}
 use Rattle.vyrd_base.proofs.BlockLaws.{entry}

@@ -1,7 +1,7 @@
 -- Which states an observer has seen: the commits along the log, and the states from a caller's call
 -- on.
 use Rattle.std.proofs.Common.{◌≡◌, ℕ, zero, suc, ◌+◌, ◌≤◌, Bool, true, false, cond, ◌||◌, List, []}
-use Rattle.std.proofs.Common.{◌∷◌, ◌++◌, length, refl, ap, arith}
+use Rattle.std.proofs.Common.{◌∷◌, ◌++◌, length, refl, arith}
 use Rattle.std.specs.Prelude.{◌==◌}
 use Rattle.std.specs.List.{cons_option, list_any}
 use Rattle.vyrd_base.specs.declared.log.Kind.TheVariants.{Write}

@@ -1,5 +1,5 @@
 -- Scripts one after the other do right, and so do operations, if the procedure of each does.
-use Rattle.std.proofs.Common.{◌≡◌, ℕ, true, List, [], ◌∷◌, Some, None, refl, sym, subst}
+use Rattle.std.proofs.Common.{◌≡◌, ℕ, true, List, [], ◌∷◌, Some, None, refl}
 use Rattle.vyrd_base.specs.declared.log.Kind.TheVariants.{Call, Return, Write, Commit, BlockOpen}
 use Rattle.vyrd_base.specs.declared.log.Kind.TheVariants.{BlockClose, BlockCommit}
 use Rattle.vyrd_base.specs.Amounts.{Amounts}
@@ -12,7 +12,7 @@ use Rattle.vyrd_memory.specs.Alone.{Memory}
 use Rattle.vyrd_memory.specs.Scripts.{Script, stop, step, followed_by, operations}
 use Rattle.vyrd_memory.specs.Soundness.{Situation, at_rest, just_called, after_act}
 use Rattle.vyrd_every.specs.Structures.{Structure}
-use Rattle.vyrd_every.specs.Locals.{Locals, shown_after, answer_at, Rests}
+use Rattle.vyrd_every.specs.Locals.{Locals, shown_after, Rests}
 use Rattle.vyrd_every.specs.RightScripts.{WillReturn, Commits, Leads, ActsRight, DoesRight, IsRight}
 use Rattle.vyrd_every.proofs.Acts.{quiet}
 

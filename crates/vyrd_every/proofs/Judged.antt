@@ -1,6 +1,6 @@
 -- No commit is a fault, and no observer's return is one.
-use Rattle.std.proofs.Common.{◌≡◌, ℕ, Bool, true, false, cond, not, ◌||◌, List, [], ◌∷◌, ◌++◌, map}
-use Rattle.std.proofs.Common.{Option, Some, None, length, refl, ap, ◌∙◌, sym}
+use Rattle.std.proofs.Common.{◌≡◌, ℕ, Bool, true, false, cond, ◌||◌, List, [], ◌∷◌, ◌++◌, map}
+use Rattle.std.proofs.Common.{Option, Some, None, length, refl, ◌∙◌, sym}
 use Rattle.std.specs.Prelude.{◌==◌, filter, slice_get, option_and_then}
 use Rattle.std.specs.Option.{option_and}
 use Rattle.std.specs.List.{list_any}
@@ -16,7 +16,6 @@ use Rattle.vyrd_base.specs.Subjects.{is_observer, is_built_in}
 use Rattle.vyrd_base.specs.Amounts.{Amounts, least, first_difference}
 use Rattle.vyrd_base.specs.States.{State, showing}
 use Rattle.vyrd_base.specs.Specification.{next_state, answer_in}
-use Rattle.vyrd_base.specs.Words.{words_at}
 use Rattle.vyrd_base.specs.BlockEnds.{ended_words}
 use Rattle.vyrd_base.specs.Front.{WellFormed}
 use Rattle.vyrd_base.proofs.VersionWords.{first_words_at}

@@ -1,9 +1,9 @@
 -- What holds between any two events of a legal history in which callers play scripts that do right,
 -- and how one more event
 -- keeps it.
-use Rattle.std.proofs.Common.{◌≡◌, ℕ, ◌<◌, ◌≤◌, ◌⊎◌, inl, inr, Bool, true, false, cond, List, []}
-use Rattle.std.proofs.Common.{◌∷◌, ◌++◌, Option, Some, None, length, refl, ap, ◌∙◌, sym, subst}
-use Rattle.std.specs.Prelude.{◌==◌, ◌&&◌}
+use Rattle.std.proofs.Common.{◌≡◌, ℕ, ◌<◌, ◌⊎◌, inl, inr, Bool, true, false, cond, List, [], ◌∷◌}
+use Rattle.std.proofs.Common.{◌++◌, Option, Some, None, length, refl, ap, ◌∙◌, sym, subst}
+use Rattle.std.specs.Prelude.{◌==◌}
 use Rattle.std.specs.List.{cons_option}
 use Rattle.std.proofs.lemmas.List.{append-nil}
 use Rattle.std.proofs.lemmas.Option.{same_Some}
@@ -18,11 +18,11 @@ use Rattle.vyrd_base.specs.declared.history.Stamped.{Stamped}
 use Rattle.vyrd_base.specs.Callers.{Called, open_call, holds_word, entries_before_call}
 use Rattle.vyrd_base.specs.Subjects.{is_observer}
 use Rattle.vyrd_base.specs.Amounts.{Amounts}
-use Rattle.vyrd_base.specs.Specification.{next_state, answer_in}
+use Rattle.vyrd_base.specs.Specification.{next_state}
 use Rattle.vyrd_base.specs.Commits.{commit_count}
-use Rattle.vyrd_base.specs.Histories.{cells_of, value_in, may_do, is_plain, logged}
+use Rattle.vyrd_base.specs.Histories.{cells_of, may_do, is_plain, logged}
 use Rattle.vyrd_base.specs.Front.{WellFormed}
-use Rattle.vyrd_base.proofs.BlockLaws.{by_same, wrote}
+use Rattle.vyrd_base.proofs.BlockLaws.{by_same}
 use Rattle.vyrd_base.proofs.TestLaws.{second_true, same_of, same_number}
 use Rattle.vyrd_base.proofs.StateLaws.{commits_before_call}
 use Rattle.vyrd_memory.specs.declared.act.Act.TheVariants.{Mark}

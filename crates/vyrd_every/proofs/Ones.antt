@@ -1,6 +1,6 @@
 -- What holds of one caller between any two events, and how one more event keeps it: its own, or
 -- another caller's.
-use Rattle.std.proofs.Common.{◌≡◌, ℕ, Bool, true, false, cond, not, List, ◌∷◌, Some, None, refl, ap}
+use Rattle.std.proofs.Common.{◌≡◌, ℕ, Bool, true, false, cond, not, List, ◌∷◌, Some, None, refl}
 use Rattle.std.proofs.Common.{◌∙◌, sym, subst}
 use Rattle.std.specs.Prelude.{◌==◌, ◌&&◌, ◌||◌, is_some, unwrap_or}
 use Rattle.std.specs.Option.{option_or}
@@ -24,8 +24,7 @@ use Rattle.vyrd_memory.specs.Soundness.{Situation, holds, observes, may_act, aft
 use Rattle.vyrd_memory.proofs.Situations.{act_of_event, situation_after, event_act}
 use Rattle.vyrd_memory.proofs.Agreements.{Agrees, four_true}
 use Rattle.vyrd_every.specs.Structures.{Structure, shown_by}
-use Rattle.vyrd_every.specs.Locals.{Locals, Access, shown_after, pending_after, called_after}
-use Rattle.vyrd_every.specs.Locals.{answer_at}
+use Rattle.vyrd_every.specs.Locals.{Locals, Access, shown_after, answer_at}
 use Rattle.vyrd_every.specs.Others.{Rely, Guarantee}
 use Rattle.vyrd_every.specs.RightScripts.{Reaches, ActsRight, DoesRight}
 use Rattle.vyrd_every.specs.Between.{OfCaller}

@@ -30,7 +30,7 @@ use Rattle.vyrd_every.specs.Guarded.{multiset, cache, buffers}
 use Rattle.vyrd_every.specs.Locals.{Locals}
 use Rattle.vyrd_every.specs.RightScripts.{DoesRight, IsRight}
 use Rattle.vyrd_every.specs.Trees.Shapes.{Shape}
-use Rattle.vyrd_every.specs.Trees.Locals.{TreeLocals, MayLoad, MayStore}
+use Rattle.vyrd_every.specs.Trees.Locals.{TreeLocals}
 use Rattle.vyrd_every.specs.Trees.RightScripts.{TreeRight}
 use Rattle.vyrd_every.proofs.Relies.{rely_same}
 use Rattle.vyrd_every.proofs.Acts.{never}

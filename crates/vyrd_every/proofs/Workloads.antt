@@ -12,7 +12,7 @@ use Rattle.vyrd_base.specs.declared.log.Entry.{Entry}
 use Rattle.vyrd_base.specs.declared.history.Stamped.{Stamped}
 use Rattle.vyrd_base.specs.declared.verdict.Why.{Why}
 use Rattle.vyrd_base.specs.declared.verdict.Verdict.TheVariants.{Violation}
-use Rattle.vyrd_base.specs.Places.{Place, places, position_of, first_answer, newest_first}
+use Rattle.vyrd_base.specs.Places.{Place, places, first_answer, newest_first}
 use Rattle.vyrd_base.specs.Subjects.{is_built_in}
 use Rattle.vyrd_base.specs.Front.{first_break}
 use Rattle.vyrd_base.specs.States.{State}

@@ -1,17 +1,14 @@
 -- Without a state at the start no step is known.
-use Rattle.std.proofs.Common.{◌≡◌, ℕ, List, [], ◌∷◌, ◌++◌, Option, None, refl, ap, ◌∙◌}
-use Rattle.std.specs.Prelude.{map, filter_map, flat_map, slice_get, take}
-use Rattle.std.specs.Option.{option_map_or}
+use Rattle.std.proofs.Common.{◌≡◌, ℕ, List, [], ◌∷◌, None, refl}
+use Rattle.std.specs.Prelude.{map, filter_map, flat_map}
 use Rattle.vyrd_base.specs.declared.log.Entry.{Entry}
 use Rattle.vyrd_base.specs.declared.log.StartWord.{StartWord}
-use Rattle.vyrd_base.specs.Commits.{states_of, commit_count}
-use Rattle.vyrd_base.specs.Places.{newest_first, numbers_below}
+use Rattle.vyrd_base.specs.Places.{numbers_below}
 use Rattle.vyrd_base.specs.Rules.{Charter, rules_by}
 use Rattle.vyrd_base.specs.Starts.{state_at_start}
-use Rattle.vyrd_base.specs.States.{State}
 use Rattle.vyrd_witness.specs.declared.item.Item.{Item}
 use Rattle.vyrd_states.specs.Known.{state_then}
-use Rattle.vyrd_follow.specs.Doings.{done_at, done_by_entry}
+use Rattle.vyrd_follow.specs.Doings.{done_at}
 use Rattle.vyrd_follow.specs.LastSteps.{placed_at, last_item, last_items}
 
 module _ (c : Charter) (starting : List StartWord) (front : List Entry)

@@ -1,6 +1,5 @@
 -- The first of the numbers below a bound for which there is an answer, looked for one by one.
-use Rattle.std.proofs.Common.{◌≡◌, ℕ, ◌+◌, ◌-◌, ◌<◌, ◌≤◌, ◌∷◌, Option, Some, None, ap}
-use Rattle.std.proofs.Common.{arith}
+use Rattle.std.proofs.Common.{◌≡◌, ℕ, ◌+◌, ◌-◌, ◌<◌, ◌∷◌, Option, Some, None, ap, arith}
 use Rattle.std.specs.Option.{option_or}
 use Rattle.vyrd_base.specs.Places.{first_answer, numbers_from}
 
@@ -20,7 +19,3 @@ pub passed : (f : ℕ → Option ℕ) (k n : ℕ) → k < n → f k ≡ None
     → first_answer f (numbers_from k (n - k))
     ≡ first_answer f (numbers_from (k + 1) (n - (k + 1)))
 passed f k n low e = cc (looked f k n low)
-
-pub none_left : (f : ℕ → Option ℕ) (k n : ℕ) → n ≤ k
-    → first_answer f (numbers_from k (n - k)) ≡ None
-none_left f k n high = grind arith

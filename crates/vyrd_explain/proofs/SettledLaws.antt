@@ -1,6 +1,6 @@
 -- When no further byte changes what is answered about a log.
 use Rattle.std.proofs.Common.{◌≡◌, ℕ, ◌*◌, ◌≤◌, true, false, List, [], ◌++◌, length, Option, Some}
-use Rattle.std.proofs.Common.{None, refl, ap, ◌∙◌, sym, arith, append-nil}
+use Rattle.std.proofs.Common.{ap, ◌∙◌, sym, arith, append-nil}
 use Rattle.std.specs.Prelude.{◌&&◌, is_some}
 use Rattle.vyrd_base.specs.declared.verdict.Verdict.{Verdict}
 use Rattle.vyrd_base.specs.LogVerdicts.{log_verdict, log_verdict_so_far}

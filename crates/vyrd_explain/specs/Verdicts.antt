@@ -15,7 +15,7 @@ use Rattle.vyrd_base.specs.declared.verdict.Why.{Why}
 use Rattle.vyrd_base.specs.declared.verdict.Why.TheVariants.{Reply, View, Observer}
 use Rattle.vyrd_base.specs.Front.{front}
 use Rattle.vyrd_base.specs.Own.Reader.{written_in}
-use Rattle.vyrd_base.specs.Rules.{Charter, Rules, built_in, own, rules_by, rules_of}
+use Rattle.vyrd_base.specs.Rules.{Charter, built_in, own, rules_by, rules_of}
 use Rattle.vyrd_base.specs.Places.{first_answer, numbers_below}
 use Rattle.vyrd_witness.specs.declared.item.Item.{Item}
 use Rattle.vyrd_witness.specs.Items.{called_items, view_items}

@@ -2,10 +2,10 @@
 use Rattle.std.proofs.Common.{◌≡◌, ℕ, zero, suc, ◌+◌, ◌<◌, ◌≤◌, Bool, true, false, cond, not, ◌||◌}
 use Rattle.std.proofs.Common.{T, List, [], ◌∷◌, ◌++◌, map, length, drop, Some, None, refl, ap}
 use Rattle.std.proofs.Common.{◌∙◌, sym, subst, arith, append_assoc, append-nil}
-use Rattle.std.specs.Prelude.{◌==◌, ◌≢◌, nat_le, slice_get}
+use Rattle.std.specs.Prelude.{◌==◌, ◌≢◌, slice_get}
 use Rattle.std.specs.Ordering.{nat_cmp, is_lt}
 use Rattle.std.specs.FinMap.Entries.{below_all}
-use Rattle.std.proofs.lemmas.Bool.{or_left, or_right}
+use Rattle.std.proofs.lemmas.Bool.{or_right}
 use Rattle.std.proofs.lemmas.Option.{same_Some}
 use Rattle.vyrd_base.specs.Amounts.{Amounts, IsAmounts, amount_of}
 use Rattle.vyrd_base.proofs.AmountLaws.{apart_from, first_of_and, second_of_and}

@@ -12,14 +12,13 @@ use Rattle.vyrd_base.specs.Places.{numbers_below}
 use Rattle.vyrd_base.specs.Rules.{Charter, rules_by}
 use Rattle.vyrd_base.specs.Starts.{state_at_start}
 use Rattle.vyrd_base.specs.States.{State}
-use Rattle.vyrd_base.specs.Words.{effects}
 use Rattle.vyrd_base.proofs.PlaceLaws.{length_below}
 use Rattle.vyrd_item_text.specs.ItemText.{item_text, items_text}
 use Rattle.vyrd_states.specs.Running.{IsKnown, run_by}
 use Rattle.vyrd_states.proofs.RunLaws.{known_first, never_known}
 use Rattle.vyrd_witness.specs.declared.item.Item.{Item}
 use Rattle.vyrd_witness.specs.Changes.{words_through}
-use Rattle.vyrd_witness.specs.Effects.{effects_by, effects_there}
+use Rattle.vyrd_witness.specs.Effects.{effects_there}
 use Rattle.vyrd_witness.specs.ViewWitnesses.{words_then}
 use Rattle.vyrd_witness.proofs.BelowLaws.{below_next}
 use Rattle.vyrd_witness.proofs.EffectLaws.{entry_there, words_next}

@@ -1,7 +1,5 @@
 -- Keys that are gathered as amounts of 1.
-use Rattle.std.proofs.Common.{◌≡◌, ◌≢◌, ℕ, ◌+◌, ◌*◌, ◌<◌, Bool, cond, List, refl, ap}
-use Rattle.std.proofs.Common.{◌∙◌, sym}
-use Rattle.std.proofs.Common.{subst, arith}
+use Rattle.std.proofs.Common.{◌≡◌, ◌≢◌, ℕ, ◌+◌, ◌*◌, ◌<◌, Bool, cond, List, ◌∙◌, sym, subst, arith}
 use Rattle.std.specs.Prelude.{◌==◌, slice_index}
 use Rattle.vyrd_base.specs.Amounts.{Amounts, amount_of, with_amount}
 use Rattle.vyrd_base.specs.Tree.{node_word}

@@ -1,16 +1,13 @@
 -- The keys that a write to a node turns, from those that the node gives to.
 use Rattle.std.proofs.Common.{◌≡◌, ◌≢◌, ℕ, ◌+◌, ◌*◌, ◌/◌, ◌%◌, ◌^◌, ◌<◌, ◌≤◌, Bool, true, false}
-use Rattle.std.proofs.Common.{not}
-use Rattle.std.proofs.Common.{length, map, get_or, set, take, refl, ap, ◌∙◌, sym, arith}
-use Rattle.std.proofs.Common.{List, []}
-use Rattle.std.specs.Prelude.{◌==◌, filter}
+use Rattle.std.proofs.Common.{not, length, map, get_or, set, take, ap, ◌∙◌, sym, arith, List, []}
+use Rattle.std.specs.Prelude.{filter}
 use Rattle.std.proofs.lemmas.List.{take_all}
 use Rattle.vyrd_base.specs.declared.header.Header.{Header}
 use Rattle.vyrd_base.specs.declared.subject.Subject.TheVariants.{Tree}
 use Rattle.vyrd_base.specs.Amounts.{Amounts, IsAmounts, amount_of, keys_of}
 use Rattle.vyrd_base.specs.Tree.{node_word}
 use Rattle.vyrd_base.specs.Views.{view_of_words}
-use Rattle.vyrd_base.proofs.DifferenceLaws.{is_in}
 use Rattle.vyrd_base.proofs.TestLaws.{same_of, apart_of, is_same}
 use Rattle.vyrd_view.specs.Chains.{is_on_chain}
 use Rattle.vyrd_view.proofs.NodeLaws.{marked_within}

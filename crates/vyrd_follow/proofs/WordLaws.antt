@@ -1,5 +1,5 @@
 -- What the part of a word gives, as it was decoded from the words of all parts.
-use Rattle.std.proofs.Common.{◌≡◌, ℕ, ◌/◌, List, take, ap, ◌∙◌}
+use Rattle.std.proofs.Common.{◌≡◌, ℕ, ◌/◌, List, take}
 use Rattle.vyrd_base.specs.Amounts.{given}
 use Rattle.vyrd_own_states.specs.PartPairs.{pairs_in, part_pairs}
 use Rattle.vyrd_view.specs.Decoded.{Gives}

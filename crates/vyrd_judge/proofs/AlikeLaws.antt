@@ -1,7 +1,6 @@
 -- The words at the commits that wait, by the writes that act as the effects there.
 use Rattle.std.proofs.Common.{◌≡◌, ℕ, suc, ◌<◌, Bool, true, false, cond, List, [], ◌∷◌, ◌++◌}
-use Rattle.std.proofs.Common.{length, map, Option, Some, None, refl, ap, subst, ◌∙◌, sym, arith}
-use Rattle.std.proofs.Common.{append_assoc}
+use Rattle.std.proofs.Common.{length, map, Option, refl, ap, subst, ◌∙◌, sym, arith, append_assoc}
 use Rattle.std.specs.Prelude.{◌==◌}
 use Rattle.std.specs.Option.{option_or}
 use Rattle.vyrd_base.specs.declared.header.Header.{Header}

@@ -2,7 +2,7 @@
 use Rattle.std.proofs.Common.{◌≡◌, ℕ, zero, suc, ◌+◌, ◌-◌, ◌<◌, ◌≤◌, Bool, true, false}
 use Rattle.std.proofs.Common.{List, [], ◌∷◌, ◌++◌, Some, None, slice_get, length}
 use Rattle.std.proofs.Common.{refl, ap, subst, ◌∙◌, sym, arith}
-use Rattle.std.specs.Prelude.{◌==◌, not, is_none, is_some, if◌then◌else◌, replicate}
+use Rattle.std.specs.Prelude.{◌==◌, is_none, is_some, if◌then◌else◌, replicate}
 use Rattle.std.proofs.lemmas.Option.{same_Some, none-some, slice_get_within}
 use Rattle.vyrd_base.specs.declared.header.Header.{Header}
 use Rattle.vyrd_base.specs.declared.subject.Method.{Method}
@@ -11,7 +11,7 @@ use Rattle.vyrd_base.specs.declared.log.Kind.{Kind}
 use Rattle.vyrd_base.specs.declared.log.Kind.TheVariants.{Call, Return}
 use Rattle.vyrd_base.specs.declared.log.Entry.{Entry}
 use Rattle.vyrd_base.specs.Callers.{open_call, has_committed, entries_before_call}
-use Rattle.vyrd_base.specs.Commits.{is_commit, commit_count, next_reply}
+use Rattle.vyrd_base.specs.Commits.{is_commit, commit_count}
 use Rattle.vyrd_base.specs.Entries.{place_of}
 use Rattle.vyrd_base.specs.Shape.{broken_rule}
 use Rattle.vyrd_base.specs.Subjects.{must_commit}

@@ -1,14 +1,13 @@
 -- How many answers are kept of open observers, by what is left open in the log.
 use Rattle.std.proofs.Common.{◌≡◌, ℕ, suc, ◌+◌, ◌≤◌, true, false, List, [], ◌∷◌, length}
 use Rattle.std.proofs.Common.{Option, Some, None, slice_get, refl, ap, subst, ◌∙◌, arith}
-use Rattle.std.specs.Prelude.{◌&&◌, is_none}
 use Rattle.std.specs.List.{cons_option, sum_by}
 use Rattle.std.proofs.lemmas.List.Sums.{sum_by-cons}
 use Rattle.vyrd_base.specs.declared.header.Header.{Header}
 use Rattle.vyrd_base.specs.declared.log.Entry.{Entry}
-use Rattle.vyrd_base.specs.Commits.{is_commit, next_reply}
+use Rattle.vyrd_base.specs.Commits.{is_commit}
 use Rattle.vyrd_base.specs.Entries.{place_of}
-use Rattle.vyrd_base.specs.Places.{newest_first_onto, newest_first, numbers_from, numbers_below}
+use Rattle.vyrd_base.specs.Places.{newest_first_onto, newest_first, numbers_from}
 use Rattle.vyrd_base.specs.Shape.{broken_rule}
 use Rattle.vyrd_base.proofs.Fronts.{break_after}
 use Rattle.vyrd_base.proofs.ListLaws.{both_none}

@@ -1,6 +1,6 @@
 -- What is wrong if `end` stands after entries with which nothing is wrong.
 use Rattle.std.proofs.Common.{◌≡◌, Bool, true, false, List, length, Option, Some, None, Result, Ok}
-use Rattle.std.proofs.Common.{Err, IfOk, refl, ap, ◌∙◌}
+use Rattle.std.proofs.Common.{Err, IfOk, refl, ◌∙◌}
 use Rattle.std.specs.Prelude.{unwrap_or, is_none}
 use Rattle.std.specs.Option.{option_or}
 use Rattle.std.specs.Bool.{then_some}

@@ -2,7 +2,7 @@
 use Rattle.std.proofs.Common.{◌≡◌, ℕ, zero, suc, ◌+◌, ◌*◌, ◌<◌, ◌≤◌, ◌^◌, Bool, true, false, cond}
 use Rattle.std.proofs.Common.{◌&&◌, List, [], ◌∷◌, ◌++◌, map, length, Option, Some, None, refl, ap}
 use Rattle.std.proofs.Common.{subst, ◌∙◌, sym, arith}
-use Rattle.std.specs.Prelude.{count_by, not, replicate, Result, Ok, Err}
+use Rattle.std.specs.Prelude.{count_by, not, replicate, Result}
 use Rattle.std.specs.Result.{MatchResult, is_err}
 use Rattle.std.specs.List.{cons_option}
 use Rattle.std.proofs.lemmas.List.{length_push, length-replicate}
@@ -23,7 +23,6 @@ use Rattle.vyrd_base.specs.declared.verdict.Rule.TheVariants.{CallOpen}
 use Rattle.vyrd_base.specs.Places.{Place, places_after, places, newest_first_onto, newest_first}
 use Rattle.vyrd_base.specs.Callers.{Called, has_committed}
 use Rattle.vyrd_base.specs.Shape.{broken_rule}
-use Rattle.vyrd_base.specs.Front.{first_break}
 use Rattle.vyrd_base.specs.Rules.{Rules, rules_by}
 use Rattle.vyrd_base.specs.States.{State}
 use Rattle.vyrd_base.specs.Starts.{words_at_start, state_at_start}

@@ -22,7 +22,7 @@ use Rattle.vyrd_base.specs.Places.{first_answer}
 use Rattle.vyrd_base.specs.Callers.{Called, open_call, has_committed}
 use Rattle.vyrd_base.specs.Subjects.{is_observer, must_commit}
 use Rattle.vyrd_base.specs.Shape.{broken_rule}
-use Rattle.vyrd_base.specs.Words.{effects_at, effects, words_with}
+use Rattle.vyrd_base.specs.Words.{effects, words_with}
 use Rattle.vyrd_base.specs.BlockEnds.{ended_effects_at}
 use Rattle.vyrd_base.specs.States.{State}
 use Rattle.vyrd_base.specs.Commits.{is_commit}

@@ -1,11 +1,10 @@
 -- The entry that waits first is judged by its event.
 use Rattle.std.proofs.Common.{◌≡◌, ℕ, ◌<◌, ◌^◌, true, false, List, [], ◌∷◌, length, set, get_or}
-use Rattle.std.proofs.Common.{Option, Some, None, slice_get, ap, ◌∙◌, sym, arith}
+use Rattle.std.proofs.Common.{Option, Some, None, slice_get, ap, arith}
 use Rattle.std.specs.Prelude.{◌||◌, Result, Ok, Err, IfOk}
 use Rattle.std.proofs.Math.Logic.{∥∥₁_elim}
 use Rattle.std.proofs.Math.Bool.{Bool-set}
 use Rattle.std.proofs.lemmas.Option.{slice_get_within, slice_get-get_or}
-use Rattle.std.proofs.lemmas.Option.{same_Some}
 use Rattle.vyrd_base.specs.declared.subject.Method.{Method}
 use Rattle.vyrd_base.specs.declared.subject.Args.{Args}
 use Rattle.vyrd_base.specs.declared.log.Entry.{Entry}
@@ -27,8 +26,7 @@ use Rattle.vyrd_observers.specs.Watching.{AreCurrent}
 use Rattle.vyrd_judge.specs.Judged.{Judged, HeadGives, MayJudge, CommitLeads}
 use Rattle.vyrd_base.proofs.ListLaws.{slice_get-set_same, slice_get-set_other}
 use Rattle.vyrd_judge.proofs.Reaching.{OthersStay}
-use Rattle.vyrd_judge.proofs.WaitingLaws.{Waits, begins, commits, returns, waits, IsBegin, IsCommit}
-use Rattle.vyrd_judge.proofs.WaitingLaws.{IsReturn}
+use Rattle.vyrd_judge.proofs.WaitingLaws.{Waits, begins, waits, IsBegin, IsCommit, IsReturn}
 use Rattle.vyrd_judge.proofs.JudgedLaws.{AtHead, judged_head}
 use Rattle.vyrd_judge.proofs.HeadLaws.{head_begins, begin_fits, head_caller, head_answered}
 use Rattle.vyrd_judge.proofs.HeadLaws.{head_unanswered, commit_fits, split_here, head_faults}

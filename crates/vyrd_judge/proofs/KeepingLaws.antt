@@ -1,7 +1,7 @@
 -- What waits to be judged stands behind the commit of an execution that hasn't returned.
-use Rattle.std.proofs.Common.{◌≡◌, ℕ, suc, ◌≤◌, Bool, true, false, List, [], ◌∷◌, ◌++◌, length}
-use Rattle.std.proofs.Common.{Option, Some, None, refl, ap, sym, subst, arith}
-use Rattle.std.specs.Prelude.{◌&&◌, is_none, if◌then◌else◌}
+use Rattle.std.proofs.Common.{◌≡◌, ℕ, suc, ◌≤◌, true, false, List, [], ◌∷◌, ◌++◌, length, Option}
+use Rattle.std.proofs.Common.{Some, None, refl, arith}
+use Rattle.std.specs.Prelude.{is_none, if◌then◌else◌}
 use Rattle.std.specs.List.{cons_option}
 use Rattle.std.proofs.lemmas.List.{append-nil}
 use Rattle.vyrd_base.specs.declared.subject.Method.{Method}
@@ -10,15 +10,13 @@ use Rattle.vyrd_base.specs.declared.log.Entry.{Entry}
 use Rattle.vyrd_base.specs.declared.log.StartWord.{StartWord}
 use Rattle.vyrd_base.specs.Entries.{place_of}
 use Rattle.vyrd_base.specs.Places.{newest_first_onto, newest_first}
-use Rattle.vyrd_base.specs.Rules.{rules_by}
 use Rattle.vyrd_judge.specs.declared.waiting.Event.TheVariants.{Commits}
 use Rattle.vyrd_judge.specs.declared.waiting.Waiting.{Waiting}
-use Rattle.vyrd_judge.specs.Following.{JudgeView, HasFollowed, FollowsBy, IsFaultless}
-use Rattle.vyrd_judge.specs.Judged.{Judged}
+use Rattle.vyrd_judge.specs.Following.{JudgeView, HasFollowed}
 use Rattle.vyrd_judge.specs.Keeping.{is_left_open, from_open_commit}
 use Rattle.vyrd_judge.specs.Queued.{AwaitsReturn}
 use Rattle.vyrd_judge.specs.Waiting.{waiting_at, waiting_after}
-use Rattle.vyrd_judge.proofs.WaitingLaws.{Waits, begins, commits, returns, waits}
+use Rattle.vyrd_judge.proofs.WaitingLaws.{begins, waits}
 
 -- no more entries than there are
 most_open : (later : List Entry) → from_open_commit later ≤ length later

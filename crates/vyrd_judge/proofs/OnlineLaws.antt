@@ -1,6 +1,5 @@
 -- What the online judge answers, by what it keeps.
-use Rattle.std.proofs.Common.{◌≡◌, ◌≤◌, ◌+◌, List, [], ◌++◌, length, Option, Some, None}
-use Rattle.std.proofs.Common.{Result, Ok, Err, refl, ap, subst, sym, arith, append_assoc}
+use Rattle.std.proofs.Common.{◌≡◌, List, [], ◌++◌, Some, None, Result, subst, arith, append_assoc}
 use Rattle.std.specs.Prelude.{OnErr}
 use Rattle.vyrd_base.specs.Rules.{rules_by}
 use Rattle.vyrd_base.specs.declared.log.Entry.{Entry}
@@ -9,8 +8,6 @@ use Rattle.vyrd_base.specs.declared.verdict.Verdict.{Verdict}
 use Rattle.vyrd_base.specs.declared.verdict.Stop.TheVariants.{End}
 use Rattle.vyrd_base.specs.Verdicts.{verdict_so_far, verdict_at, verdict}
 use Rattle.vyrd_base.proofs.VerdictLaws.{verdict_lasts}
-use Rattle.vyrd_judge.specs.declared.waiting.Waiting.{Waiting}
-use Rattle.vyrd_judge.specs.Queued.{AwaitsReturn}
 use Rattle.vyrd_judge.specs.Following.{FollowerKept, JudgeView, FollowsBy, HasFollowed, IsFaultless}
 use Rattle.vyrd_judge.specs.Following.{HasTakenIn}
 use Rattle.vyrd_base.proofs.VerdictParts.{no_first_fault, so_far_kept, verdict_standing}

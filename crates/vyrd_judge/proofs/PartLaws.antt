@@ -4,15 +4,13 @@ use Rattle.std.proofs.Common.{List, [], ◌∷◌, ◌++◌, length, None, refl,
 use Rattle.std.proofs.Common.{append-nil}
 use Rattle.std.specs.Prelude.{◌==◌, unwrap_or}
 use Rattle.std.specs.Option.{option_or}
-use Rattle.std.proofs.lemmas.Bool.{not-false}
 use Rattle.vyrd_base.specs.declared.header.Header.{Header}
 use Rattle.vyrd_base.specs.declared.log.Kind.{Kind}
-use Rattle.vyrd_base.specs.declared.log.Kind.TheVariants.{Call, Return, Write, Commit, BlockOpen}
-use Rattle.vyrd_base.specs.declared.log.Kind.TheVariants.{BlockClose, BlockCommit}
+use Rattle.vyrd_base.specs.declared.log.Kind.TheVariants.{BlockClose}
 use Rattle.vyrd_base.specs.declared.log.Entry.{Entry}
 use Rattle.vyrd_base.specs.Places.{newest_first_onto, first_answer}
-use Rattle.vyrd_base.specs.Callers.{by_caller, has_block, commit_or_open, has_inner_commit}
-use Rattle.vyrd_base.specs.Shape.{checks_at, broken_rule}
+use Rattle.vyrd_base.specs.Callers.{by_caller, commit_or_open, has_inner_commit}
+use Rattle.vyrd_base.specs.Shape.{broken_rule}
 use Rattle.vyrd_base.specs.Words.{block_writes, effects_at, is_lone_commit}
 use Rattle.vyrd_base.specs.BlockEnds.{ended_effects_at}
 use Rattle.vyrd_base.specs.Commits.{is_commit, commit_count}
@@ -27,7 +25,7 @@ use Rattle.vyrd_base.proofs.Lasting.{commit_count-cons}
 use Rattle.vyrd_base.proofs.TestLaws.{is_same, isnt_same, lower_isnt, flipped, first_true}
 use Rattle.vyrd_base.proofs.TestLaws.{second_true}
 use Rattle.vyrd_words.specs.Effects.{effect_parts, with_effects, cut_if, number_at, inner_number}
-use Rattle.vyrd_words.specs.Effects.{parts_since, parts_behind, ends_block, is_ended}
+use Rattle.vyrd_words.specs.Effects.{parts_behind, ends_block, is_ended}
 
 -- The effects at the entries from a place on, in parts as `effect_parts` has them, where these
 -- entries stand after them all.

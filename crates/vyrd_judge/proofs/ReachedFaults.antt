@@ -2,7 +2,6 @@
 use Rattle.std.proofs.Common.{◌≡◌, ℕ, ◌≤◌, true, false, cond, ◌||◌, List, ◌∷◌, length, Option, Some}
 use Rattle.std.proofs.Common.{None, ap, ◌∙◌, sym}
 use Rattle.std.specs.Prelude.{◌==◌, option_map, option_and_then}
-use Rattle.std.specs.Option.{option_and}
 use Rattle.std.specs.List.{list_any}
 use Rattle.vyrd_base.specs.declared.log.Kind.{Kind}
 use Rattle.vyrd_base.specs.declared.log.Kind.TheVariants.{Return}
@@ -16,8 +15,7 @@ use Rattle.vyrd_base.specs.States.{State}
 use Rattle.vyrd_base.specs.Words.{words_at}
 use Rattle.vyrd_base.specs.Commits.{next_reply, committed_at, commits_after, commit_count}
 use Rattle.vyrd_base.specs.Commits.{state_after}
-use Rattle.vyrd_base.specs.Faults.{step_fault, commit_fault, states_since_call, observer_fault}
-use Rattle.vyrd_base.specs.Faults.{fault_at}
+use Rattle.vyrd_base.specs.Faults.{step_fault, states_since_call, observer_fault, fault_at}
 use Rattle.vyrd_base.proofs.BlockLaws.{entry}
 use Rattle.vyrd_base.specs.Entries.{place_of}
 use Rattle.vyrd_observers.specs.Watching.{Seen, has_answer}

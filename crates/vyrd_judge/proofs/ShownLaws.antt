@@ -5,11 +5,10 @@ use Rattle.vyrd_base.specs.declared.log.StartWord.{StartWord}
 use Rattle.vyrd_base.specs.declared.subject.Method.{Method}
 use Rattle.vyrd_base.specs.declared.subject.Args.{Args}
 use Rattle.vyrd_base.specs.Amounts.{IsAmounts, first_difference}
-use Rattle.vyrd_base.specs.Layout.{plain_words}
 use Rattle.vyrd_base.specs.Rules.{Rules, Charter, rules_by}
 use Rattle.vyrd_base.specs.Starts.{words_at_start, state_at_start}
 use Rattle.vyrd_base.specs.States.{State}
-use Rattle.vyrd_base.specs.Words.{value_after, words_with}
+use Rattle.vyrd_base.specs.Words.{words_with}
 use Rattle.vyrd_base.proofs.AmountLaws.{same_amounts}
 use Rattle.vyrd_base.proofs.DifferenceLaws.{first_difference_none}
 use Rattle.vyrd_base.proofs.PlaceLaws.{length-mapped}

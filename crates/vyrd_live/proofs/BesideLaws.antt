@@ -1,9 +1,9 @@
 -- What goes on from one moment to the next.
-use Rattle.std.proofs.Common.{◌≡◌, ◌≤◌, List, [], ◌∷◌, ◌++◌, Bool, true, false, refl, sym, ap, ◌∙◌}
+use Rattle.std.proofs.Common.{◌≡◌, ◌≤◌, List, [], ◌∷◌, ◌++◌, Bool, true, false, refl, sym, ◌∙◌}
 use Rattle.std.proofs.Common.{subst, arith, append-nil, append_assoc}
 use Rattle.vyrd_base.specs.declared.history.Stamped.{Stamped}
-use Rattle.vyrd_relay.specs.Ends.{ReceiverView, with_popped}
-use Rattle.vyrd_verifier.specs.Taken.{SequencerView, has_failed, HasTakenIn, MayRefuse}
+use Rattle.vyrd_relay.specs.Ends.{with_popped}
+use Rattle.vyrd_verifier.specs.Taken.{MayRefuse}
 use Rattle.vyrd_live.specs.declared.watch.Watch.{Watch}
 use Rattle.vyrd_live.specs.Beside.{HasWatched, StaysFixed, TakesIn, GoesOn, HasTakenAll}
 use Rattle.vyrd_live.specs.Beside.{IsSetAsideFor}

@@ -1,7 +1,6 @@
 -- A script that is played on a hand: what comes next may be done, and it stays so.
-use Rattle.std.proofs.Common.{◌≡◌, ◌≢◌, ℕ, ◌+◌, ◌<◌, ◌≤◌, ◌^◌, Bool, true, false, not, cond, ◌&&◌}
-use Rattle.std.proofs.Common.{◌||◌, List, [], ◌∷◌, Some, None, refl, ap, ◌∙◌, sym, subst, arith}
-use Rattle.std.proofs.Common.{eq-eqb, ne_eqb}
+use Rattle.std.proofs.Common.{◌≡◌, ◌≢◌, ℕ, ◌+◌, ◌≤◌, ◌^◌, Bool, true, false, not, ◌&&◌, ◌||◌, List}
+use Rattle.std.proofs.Common.{[], ◌∷◌, Some, None, refl, ap, ◌∙◌, sym, subst, arith, ne_eqb}
 use Rattle.std.specs.Prelude.{nat_lt, nat_le, ◌==◌, is_some, is_none, filter}
 use Rattle.std.specs.List.{list_any}
 use Rattle.std.proofs.Math.Logic.{∥∥₁_elim, ∥∥₁_map}
@@ -16,7 +15,6 @@ use Rattle.vyrd_base.specs.declared.history.Did.{Did}
 use Rattle.vyrd_base.specs.declared.history.Did.TheVariants.{Read, Wrote, Took, Gave, Marked}
 use Rattle.vyrd_base.specs.Layout.{plain_words, lock_words}
 use Rattle.vyrd_base.specs.Histories.{cells_of, is_plain, is_lock, is_write, made_of}
-use Rattle.vyrd_base.specs.Subjects.{same_subject, subject_of, are_args}
 use Rattle.vyrd_base.proofs.TestLaws.{both_true, first_true, second_true, below_of, same_of}
 use Rattle.vyrd_base.proofs.TestLaws.{at_most_of}
 use Rattle.vyrd_memory.specs.declared.act.Act.{Act}
@@ -24,7 +22,7 @@ use Rattle.vyrd_memory.specs.declared.act.Act.TheVariants.{Load, Store, Take, Gi
 use Rattle.vyrd_memory.specs.Scripts.{Script, stop, step, next_act, after_answer, event_of, is_stop}
 use Rattle.vyrd_memory.specs.Scripts.{is_between}
 use Rattle.vyrd_memory.specs.Soundness.{Situation, IsSound, IsSoundSomewhere, at_rest, holds}
-use Rattle.vyrd_memory.specs.Soundness.{is_nil, is_at_rest, may_act, after_act}
+use Rattle.vyrd_memory.specs.Soundness.{is_nil, may_act, after_act}
 use Rattle.vyrd_memory.specs.Laws.Underway.{stop_of}
 use Rattle.vyrd_trace.specs.declared.plan.Plan.{Plan}
 use Rattle.vyrd_trace.specs.declared.look.Look.{Look}

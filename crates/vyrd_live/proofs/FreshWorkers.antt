@@ -1,8 +1,7 @@
 -- Workers that haven't begun: those of a workload's callers.
 use Rattle.std.proofs.Common.{◌≡◌, ℕ, suc, ◌+◌, ◌<◌, ◌≤◌, List, [], ◌∷◌, map, length, refl, ap, ◌∙◌}
-use Rattle.std.proofs.Common.{sym, subst, arith}
-use Rattle.std.specs.Prelude.{slice_index, slice_index_or, Option, Some, None, Result, Ok, Err}
-use Rattle.std.specs.Prelude.{IfOk, IfSome}
+use Rattle.std.proofs.Common.{sym, arith}
+use Rattle.std.specs.Prelude.{slice_index, slice_index_or, Option, None, Result, IfOk, IfSome}
 use Rattle.std.specs.List.{All}
 use Rattle.std.proofs.lemmas.List.{get_or-map, length-map}
 use Rattle.std.proofs.lemmas.List.Elements.{All-map}
@@ -16,7 +15,7 @@ use Rattle.vyrd_memory.specs.Laws.Player.{operations-between}
 use Rattle.vyrd_trace.specs.Hands.{TracedView, HandView, AreNew, AreAll}
 use Rattle.vyrd_work.specs.Workloads.{Workload}
 use Rattle.vyrd_work.specs.WorkLimits.{KeepsLimits}
-use Rattle.vyrd_work.specs.WorkScripts.{procedure_in, ops_of, work_script, work_scripts}
+use Rattle.vyrd_work.specs.WorkScripts.{ops_of, work_script, work_scripts}
 use Rattle.vyrd_every.specs.Schedules.{IsCorrectWithFewEvents, most_few_events}
 use Rattle.vyrd_every.proofs.Workloads.{few_events}
 use Rattle.vyrd_live.specs.declared.worker.Worker.{Worker}

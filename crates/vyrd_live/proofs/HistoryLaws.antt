@@ -1,8 +1,8 @@
 -- A sink that was shown in order what came of a history has taken the history.
 use Rattle.std.proofs.Common.{◌≡◌, ◌≢◌, ℕ, zero, suc, ◌<◌, ◌≤◌, List, [], ◌∷◌, ◌++◌, length, take}
 use Rattle.std.proofs.Common.{Bool, true, false, cond, Option, Some, None, refl, sym, ap, ◌∙◌}
-use Rattle.std.proofs.Common.{subst, arith, eq-eqb}
-use Rattle.std.specs.Prelude.{◌==◌, is_some, slice_get, slice_index_or}
+use Rattle.std.proofs.Common.{subst, arith}
+use Rattle.std.specs.Prelude.{◌==◌, is_some, slice_get}
 use Rattle.std.specs.Option.{option_to_list}
 use Rattle.std.specs.List.{All}
 use Rattle.std.proofs.lemmas.List.{take_all}
@@ -10,7 +10,6 @@ use Rattle.std.proofs.lemmas.Option.{slice_get_within, get_or_from_slice_get}
 use Rattle.vyrd_base.specs.declared.history.Stamped.{Stamped}
 use Rattle.vyrd_base.specs.Histories.{Cells, is_legal}
 use Rattle.vyrd_base.specs.Parts.{part}
-use Rattle.vyrd_base.proofs.TestLaws.{same_of}
 use Rattle.vyrd_trace.proofs.HistoryGrows.{numbered as number_at}
 use Rattle.vyrd_trace.proofs.Parts.{part_in, in_part}
 use Rattle.vyrd_verifier.specs.Taken.{numbered, in_order_below}

@@ -2,7 +2,6 @@
 use Rattle.std.proofs.Common.{◌≡◌, List, [], ◌∷◌, ◌++◌, map, length, ap, ◌∙◌}
 use Rattle.std.proofs.lemmas.List.{length-map}
 use Rattle.vyrd_base.specs.declared.history.Stamped.{Stamped}
-use Rattle.vyrd_base.specs.Places.{newest_first}
 use Rattle.vyrd_base.proofs.PlaceLaws.{newest_first-push}
 use Rattle.vyrd_trace.proofs.HistoryGrows.{length-newest_first}
 use Rattle.vyrd_live.specs.Working.{dids_of}

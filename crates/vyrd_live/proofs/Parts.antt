@@ -1,8 +1,8 @@
 -- What each caller did in a history that was put together from lanes.
 use Rattle.std.proofs.Common.{◌≡◌, ◌≢◌, ℕ, suc, ◌≤◌, Bool, true, false, cond, List, [], ◌∷◌, map}
-use Rattle.std.proofs.Common.{Some, None, refl, ap, ◌∙◌, arith, eq-eqb, ne_eqb}
+use Rattle.std.proofs.Common.{Some, None, refl, ap, ◌∙◌, arith, ne_eqb}
 use Rattle.std.specs.Prelude.{◌==◌, slice_get}
-use Rattle.std.specs.List.{All, cons_option}
+use Rattle.std.specs.List.{cons_option}
 use Rattle.vyrd_base.specs.declared.history.Stamped.{Stamped}
 use Rattle.vyrd_base.specs.Places.{newest_first, newest_first_onto}
 use Rattle.vyrd_base.specs.Histories.{Cells, is_legal}
@@ -49,10 +49,3 @@ no_part c (e ∷ es) apart = ap (λ b. cond b (e ∷ part c es) (part c es))
 pub nothing_done : (z : Cells) (c : ℕ) (history : List Stamped) → is_legal z history ≡ true
     → z.callers ≤ c → done_by c history ≡ []
 nothing_done z c history legal out = search (done_by-part, no_part, numbered, arith)
-
--- events that are all of this caller
-pub part_all : (c : ℕ) (xs : List Stamped) → All (λ (e : Stamped). e.caller ≡ c) xs → part c xs ≡ xs
-part_all c [] own = refl
-part_all c (x ∷ xs) own = ap (λ (b : Bool). cond b (x ∷ part c xs) (part c xs))
-    (eq-eqb x.caller c (own 0 x (omega arith)))
-    ∙ ap (λ (l : List Stamped). x ∷ l) (part_all c xs (λ k d l. own (suc k) d (omega arith)))

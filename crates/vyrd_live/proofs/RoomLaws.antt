@@ -1,6 +1,6 @@
 -- What it says that there is room for an operation.
-use Rattle.std.proofs.Common.{◌≡◌, ℕ, ◌+◌, ◌-◌, ◌<◌, ◌≤◌, max, length, true, false, Some, refl, ap}
-use Rattle.std.proofs.Common.{◌∙◌, sym, subst, arith}
+use Rattle.std.proofs.Common.{◌≡◌, ℕ, ◌+◌, ◌-◌, ◌<◌, ◌≤◌, max, length, true, false, Some, refl, sym}
+use Rattle.std.proofs.Common.{subst, arith}
 use Rattle.std.specs.Prelude.{◌≢◌, nat_le}
 use Rattle.std.proofs.lemmas.Bool.Decides.{nat_tests}
 use Rattle.std.proofs.Math.Logic.{∥∥₁_elim, ∥∥₁_map}
@@ -8,18 +8,15 @@ use Rattle.std.proofs.Math.Bool.{Bool-set}
 use mathlib.Core.Logic.{dite}
 use native.Mathlib.Decide.{dec_lt}
 use Rattle.vyrd_base.specs.declared.header.Header.{Header}
-use Rattle.vyrd_base.specs.declared.log.Kind.TheVariants.{Call, Return, Write, Commit, BlockOpen}
-use Rattle.vyrd_base.specs.declared.log.Kind.TheVariants.{BlockClose, BlockCommit}
+use Rattle.vyrd_base.specs.declared.log.Kind.TheVariants.{Call}
 use Rattle.vyrd_base.specs.declared.subject.Method.{Method}
 use Rattle.vyrd_base.specs.declared.subject.Args.{Args}
 use Rattle.vyrd_base.specs.declared.history.Did.{Did}
-use Rattle.vyrd_base.specs.declared.history.Did.TheVariants.{Read, Wrote, Took, Gave, Marked}
 use Rattle.vyrd_memory.specs.declared.act.Act.{Act}
-use Rattle.vyrd_memory.specs.declared.act.Act.TheVariants.{Load, Store, Take, Give, Mark, Done}
+use Rattle.vyrd_memory.specs.declared.act.Act.TheVariants.{Mark, Done}
 use Rattle.vyrd_memory.specs.Scripts.{Script, stop, step, next_act, after_answer, event_of}
 use Rattle.vyrd_memory.specs.Scripts.{is_between, IsAnswer}
 use Rattle.vyrd_memory.specs.Bounds.{bound_of, is_return, EndsWithin}
-use Rattle.vyrd_memory.specs.Laws.Player.{return_zero}
 use Rattle.vyrd_trace.specs.Hands.{HandView, with_spare}
 use Rattle.vyrd_live.specs.Rooms.{BeginsWithRoom}
 use Rattle.vyrd_live.specs.Working.{HasRoom, HasRoomAhead}

@@ -1,11 +1,9 @@
 -- What is recorded of a run by turns is its run, and that of a correct structure is accepted.
-use Rattle.std.proofs.Common.{◌≡◌, ℕ, List, [], ap, sym, subst, ◌∙◌}
+use Rattle.std.proofs.Common.{◌≡◌, ℕ, List, [], sym, subst, ◌∙◌}
 use Rattle.vyrd_base.specs.declared.history.Stamped.{Stamped}
 use Rattle.vyrd_base.specs.Histories.{log_of}
-use Rattle.vyrd_base.specs.Places.{newest_first}
-use Rattle.vyrd_base.specs.Rules.{Charter, built_in, rules_of, rules_by}
+use Rattle.vyrd_base.specs.Rules.{built_in, rules_by}
 use Rattle.vyrd_base.specs.Verdicts.{accepted, verdict}
-use Rattle.vyrd_memory.specs.Playing.{memory_after}
 use Rattle.vyrd_memory.specs.Showing.{HasRun}
 use Rattle.vyrd_memory.specs.Turns.{RunsTo}
 use Rattle.vyrd_memory.proofs.LegalRuns.{run_is_legal, run_plays}

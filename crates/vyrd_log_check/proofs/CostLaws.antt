@@ -1,10 +1,8 @@
 -- What a piece costs is paid by what was owed before it, and by what its bytes cost.
-use Rattle.std.proofs.Common.{◌≡◌, ℕ, ◌+◌, ◌-◌, ◌≤◌, true, false, cond, List, [], ◌++◌, take}
-use Rattle.std.proofs.Common.{drop, Option, Some, None, Result, Ok, Err, refl, ap, subst, ◌∙◌, sym}
-use Rattle.std.proofs.Common.{arith}
+use Rattle.std.proofs.Common.{◌≡◌, ℕ, ◌+◌, ◌-◌, ◌≤◌, true, false, List, [], ◌++◌, take, drop}
+use Rattle.std.proofs.Common.{Option, Some, None, Result, refl, ap, ◌∙◌, arith}
 use Rattle.std.specs.Prelude.{OnOk}
-use Rattle.std.proofs.lemmas.Result.{on_ok_weaker}
-use Rattle.vyrd_base.specs.Reading.{text_read, reading}
+use Rattle.vyrd_base.specs.Reading.{reading}
 use Rattle.vyrd_base.specs.LogVerdicts.{own_beginning, is_own_text}
 use Rattle.vyrd_base.proofs.SplitLaws.{lacks, split_whole}
 use Rattle.vyrd_check.specs.Checking as first_checking

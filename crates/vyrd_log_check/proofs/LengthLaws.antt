@@ -1,9 +1,6 @@
 -- Bytes without a verdict are at most 201 for each line that there may be.
-use Rattle.std.proofs.Common.{◌≡◌, ℕ, ◌*◌, ◌≤◌, Bool, true, false, List, length, Option, Some, None}
-use Rattle.std.proofs.Common.{refl, ◌∙◌, sym, arith}
-use Rattle.std.specs.Prelude.{option_map}
-use Rattle.vyrd_base.specs.declared.verdict.Verdict.TheVariants.{Malformed}
-use Rattle.vyrd_base.specs.Reading.{TextFault}
+use Rattle.std.proofs.Common.{◌≡◌, ℕ, ◌*◌, ◌≤◌, Bool, true, false, List, length, None, refl, ◌∙◌}
+use Rattle.std.proofs.Common.{sym, arith}
 use Rattle.vyrd_base.specs.Own.LogVerdicts.{own_text_verdict_so_far}
 use Rattle.vyrd_base.specs.LogVerdicts.{is_own_text, log_verdict_so_far}
 use Rattle.vyrd_check.proofs.ReadingFacts.{second_none, text_right}

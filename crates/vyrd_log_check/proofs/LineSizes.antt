@@ -1,6 +1,6 @@
 -- How many bytes lines have, each with its line feed, if none has more than so many.
 use Rattle.std.proofs.Common.{◌≡◌, ℕ, suc, ◌+◌, ◌-◌, ◌*◌, ◌<◌, ◌≤◌, Bool, true, false, cond, ◌&&◌}
-use Rattle.std.proofs.Common.{List, [], ◌∷◌, length, None, ap, ◌∙◌, refl, arith}
+use Rattle.std.proofs.Common.{List, [], ◌∷◌, length, None, ap, ◌∙◌, arith}
 use Rattle.std.specs.Prelude.{◌==◌, nat_lt}
 use Rattle.std.specs.List.{slice_split, onto_first}
 use Rattle.std.proofs.Math.Nat.{mul-suc}

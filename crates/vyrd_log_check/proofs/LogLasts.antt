@@ -1,16 +1,13 @@
 -- A verdict about the bytes of a log of any version that stands stands for all longer bytes.
-use Rattle.std.proofs.Common.{◌≡◌, ℕ, zero, suc, ◌<◌, ◌≤◌, Bool, true, false, cond, ◌&&◌, List, []}
-use Rattle.std.proofs.Common.{◌∷◌, ◌++◌, length, take, Some, None, refl, ap, ◌∙◌, sym, arith}
+use Rattle.std.proofs.Common.{◌≡◌, ℕ, zero, suc, ◌<◌, ◌≤◌, Bool, true, false, cond, List, [], ◌∷◌}
+use Rattle.std.proofs.Common.{◌++◌, length, take, Some, None, refl, ap, ◌∙◌, sym, arith}
 use Rattle.std.specs.Prelude.{◌==◌, nat_lt, not}
 use Rattle.std.proofs.lemmas.Bool.Decides.{nat_tests}
 use Rattle.std.proofs.lemmas.List.{length-take-le}
 use Rattle.std.proofs.Math.Bool.{and-false}
 use Rattle.vyrd_base.specs.declared.verdict.Verdict.{Verdict}
-use Rattle.vyrd_base.specs.declared.verdict.Rule.TheVariants.{TooManyLines, BadHeader, NoLineFeed}
-use Rattle.vyrd_base.specs.declared.verdict.Rule.TheVariants.{NoEnd}
-use Rattle.vyrd_base.specs.Shape.{◌breaks◌, first_broken}
-use Rattle.vyrd_base.specs.Reading.{has_any, stopped, text_read, reading}
-use Rattle.vyrd_base.specs.TextVerdicts.{known_verdict, text_verdict, text_verdict_so_far}
+use Rattle.vyrd_base.specs.Reading.{has_any, reading}
+use Rattle.vyrd_base.specs.TextVerdicts.{text_verdict, text_verdict_so_far}
 use Rattle.vyrd_base.specs.Own.LogVerdicts.{own_text_verdict, own_text_verdict_so_far}
 use Rattle.vyrd_base.specs.LogVerdicts.{own_beginning, is_own_text, log_verdict, log_verdict_so_far}
 use Rattle.vyrd_base.proofs.TestLaws.{both_true, first_true, second_true}

@@ -22,8 +22,7 @@ use Rattle.vyrd_base.specs.Own.Reader.{SoFar, nothing_read, read_next}
 use Rattle.vyrd_base.specs.Own.Entries.{own_entry_in}
 use Rattle.vyrd_base.specs.Own.Log.{OwnReading, own_stopped, own_ended, is_note, own_entry_before}
 use Rattle.vyrd_base.specs.Own.Log.{entries_read, own_start_before, own_starts_read, line_before}
-use Rattle.vyrd_base.specs.Own.Log.{long_rule, specification_read, own_header_in, own_text_read}
-use Rattle.vyrd_base.specs.Own.Log.{own_reading}
+use Rattle.vyrd_base.specs.Own.Log.{specification_read, own_header_in, own_text_read, own_reading}
 use Rattle.vyrd_base.proofs.ReadingGrows.{so_far, some_parts}
 use Rattle.vyrd_base.proofs.TestLaws.{first_true, second_true, not_below_of}
 use Rattle.vyrd_text.proofs.ReadLaws.{no_fault}

@@ -12,15 +12,12 @@ use Rattle.vyrd_base.specs.declared.verdict.Rule.TheVariants.{StartState, CallOp
 use Rattle.vyrd_base.specs.declared.verdict.Why.{Why}
 use Rattle.vyrd_base.specs.declared.verdict.Verdict.{Verdict}
 use Rattle.vyrd_base.specs.declared.verdict.Verdict.TheVariants.{Accepted, Violation, Malformed}
-use Rattle.vyrd_base.specs.Places.{places, newest_first, first_answer}
-use Rattle.vyrd_base.specs.Rules.{Rules, rules_of, own, rules_by}
+use Rattle.vyrd_base.specs.Places.{places, first_answer}
+use Rattle.vyrd_base.specs.Rules.{Rules, own, rules_by}
 use Rattle.vyrd_base.specs.Starts.{state_at_start}
-use Rattle.vyrd_base.specs.Faults.{fault_at}
-use Rattle.vyrd_base.specs.Front.{front, first_break}
 use Rattle.vyrd_base.specs.Reading.{Reading, TextFault, reading}
-use Rattle.vyrd_base.specs.Verdicts.{line_of, violation_at, states_along, first_fault}
-use Rattle.vyrd_base.specs.Verdicts.{shape_verdict, begun_verdict, start_verdict, verdict_so_far}
-use Rattle.vyrd_base.specs.Verdicts.{is_call_open, end_verdict}
+use Rattle.vyrd_base.specs.Verdicts.{violation_at, first_fault, shape_verdict, begun_verdict}
+use Rattle.vyrd_base.specs.Verdicts.{start_verdict, verdict_so_far, end_verdict}
 use Rattle.vyrd_base.specs.TextVerdicts.{entries_verdict, known_verdict, text_verdict_so_far}
 use Rattle.vyrd_base.specs.Own.Log.{OwnReading, own_reading}
 use Rattle.vyrd_base.specs.Own.LogVerdicts.{told_in_text, own_entries_verdict, known_own_verdict}

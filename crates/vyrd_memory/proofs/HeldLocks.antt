@@ -1,18 +1,15 @@
 -- A lock that is held has its holder's number plus 1. So a caller holds exactly the locks that have
 -- its own.
-use Rattle.std.proofs.Common.{◌≡◌, ℕ, ◌+◌, ◌^◌, Bool, true, false, cond, not, ◌||◌, List, [], ◌∷◌}
-use Rattle.std.proofs.Common.{Some, None, refl, ap, ◌∙◌, sym, arith}
-use Rattle.std.specs.Prelude.{◌==◌, nat_lt, is_some, unwrap_or, filter}
-use Rattle.std.specs.Option.{option_or}
+use Rattle.std.proofs.Common.{◌≡◌, ℕ, ◌+◌, Bool, true, false, cond, not, ◌||◌, List, [], ◌∷◌, Some}
+use Rattle.std.proofs.Common.{None, refl, sym, arith}
+use Rattle.std.specs.Prelude.{◌==◌, is_some, filter}
 use Rattle.std.specs.List.{cons_option, list_any}
 use Rattle.std.proofs.lemmas.Bool.Decides.{nat_tests}
 use Rattle.vyrd_base.specs.declared.header.Header.{Header}
 use Rattle.vyrd_base.specs.declared.log.Kind.{Kind}
 use Rattle.vyrd_base.specs.declared.history.Did.{Did}
-use Rattle.vyrd_base.specs.declared.history.Did.TheVariants.{Read, Wrote, Took, Gave, Marked}
 use Rattle.vyrd_base.specs.declared.history.Stamped.{Stamped}
-use Rattle.vyrd_base.specs.Places.{first_answer}
-use Rattle.vyrd_base.specs.Histories.{Cells, cells_of, is_plain, is_lock, made_of, value_in, may_do}
+use Rattle.vyrd_base.specs.Histories.{Cells, cells_of, is_lock, value_in, may_do}
 use Rattle.vyrd_base.proofs.TestLaws.{first_true, second_true, same_number, same_of}
 use Rattle.vyrd_base.proofs.CellLaws.{plain_isnt}
 use Rattle.vyrd_memory.specs.Soundness.{Situation, is_nil, holds, may_act, may_mark, after_act}

@@ -21,8 +21,8 @@ use Rattle.vyrd_base.specs.declared.verdict.Rule.TheVariants.{ValueRange, BlockR
 use Rattle.vyrd_base.specs.declared.verdict.Rule.TheVariants.{ObserverCommit, SecondCommit}
 use Rattle.vyrd_base.specs.declared.verdict.Rule.TheVariants.{CommitInBlock, BlockInBlock, NoBlock}
 use Rattle.vyrd_base.specs.Layout.{plain_words}
-use Rattle.vyrd_base.specs.Subjects.{is_observer, commits_of, never_commits}
-use Rattle.vyrd_base.specs.Subjects.{always_commits, same_subject, subject_of, are_args}
+use Rattle.vyrd_base.specs.Subjects.{is_observer, commits_of, never_commits, always_commits}
+use Rattle.vyrd_base.specs.Subjects.{same_subject, are_args}
 use Rattle.vyrd_base.specs.Callers.{Called, open_call, has_block, has_committed}
 use Rattle.vyrd_base.specs.Shape.{first_broken, checks_of, is_observing, owes_commit, is_raced}
 use Rattle.vyrd_base.specs.Shape.{broken_rule}

@@ -9,14 +9,13 @@ use Rattle.std.proofs.lemmas.Bool.Decides.{nat_tests}
 use Rattle.vyrd_base.specs.declared.header.Header.{Header}
 use Rattle.vyrd_base.specs.declared.log.Kind.{Kind}
 use Rattle.vyrd_base.specs.declared.history.Did.{Did}
-use Rattle.vyrd_base.specs.declared.history.Did.TheVariants.{Took}
 use Rattle.vyrd_base.specs.declared.history.Stamped.{Stamped}
 use Rattle.vyrd_base.specs.Places.{newest_first, numbers_below}
 use Rattle.vyrd_base.specs.Histories.{cells_of, is_lock, value_in, is_write, may_do}
 use Rattle.vyrd_base.specs.Histories.{is_legal}
 use Rattle.vyrd_base.proofs.TestLaws.{both_true, first_true, second_true, same_number, is_below}
 use Rattle.vyrd_memory.specs.declared.act.Act.{Act}
-use Rattle.vyrd_memory.specs.declared.act.Act.TheVariants.{Load, Store, Take, Give, Mark, Done}
+use Rattle.vyrd_memory.specs.declared.act.Act.TheVariants.{Done}
 use Rattle.vyrd_memory.specs.declared.op.Turn.{Turn}
 use Rattle.vyrd_memory.specs.Scripts.{Script, stop, step, next_act, event_of, answer_of, left_after}
 use Rattle.vyrd_memory.specs.Scripts.{Plays}

@@ -1,6 +1,6 @@
 -- The calls in the log of a legal history of sound scripts are of the header's subject, and their
 -- arguments are in range.
-use Rattle.std.proofs.Common.{◌≡◌, ℕ, true, cond, ◌&&◌, List, [], ◌∷◌, Some, None, refl, subst, sym}
+use Rattle.std.proofs.Common.{◌≡◌, ℕ, true, cond, List, [], ◌∷◌, Some, None, refl, subst, sym}
 use Rattle.std.specs.Prelude.{filter_map}
 use Rattle.std.specs.List.{cons_option, AllByRecursion}
 use Rattle.vyrd_base.specs.declared.header.Header.{Header}
@@ -12,7 +12,6 @@ use Rattle.vyrd_base.specs.declared.history.Did.{Did}
 use Rattle.vyrd_base.specs.declared.history.Did.TheVariants.{Read, Wrote, Took, Gave, Marked}
 use Rattle.vyrd_base.specs.declared.history.Stamped.{Stamped}
 use Rattle.vyrd_base.specs.Places.{newest_first_onto, newest_first}
-use Rattle.vyrd_base.specs.Subjects.{same_subject, subject_of, are_args}
 use Rattle.vyrd_base.specs.Histories.{cells_of, is_legal, logged, log_of}
 use Rattle.vyrd_base.proofs.HistoryLaws.{log_entry}
 use Rattle.vyrd_base.proofs.TestLaws.{first_true, same_number}

@@ -1,8 +1,7 @@
 -- What parts give to a key where the part of one number changes.
-use Rattle.std.proofs.Common.{◌≡◌, ℕ, zero, suc, ◌+◌, ◌<◌, ◌≤◌, Bool, true, false, List, refl, ap}
-use Rattle.std.proofs.Common.{◌∙◌, arith}
+use Rattle.std.proofs.Common.{◌≡◌, ℕ, zero, suc, ◌+◌, ◌<◌, ◌≤◌, Bool, true, false, List, refl, ◌∙◌}
+use Rattle.std.proofs.Common.{arith}
 use Rattle.std.specs.Prelude.{◌≢◌, ◌==◌, flat_map}
-use Rattle.std.proofs.lemmas.Bool.Decides.{nat_tests}
 use Rattle.vyrd_base.specs.Places.{numbers_from}
 use Rattle.vyrd_base.specs.Amounts.{Amounts, IsAmounts, amount_of, collected, given}
 use Rattle.vyrd_base.proofs.AmountLaws.{same_amounts}

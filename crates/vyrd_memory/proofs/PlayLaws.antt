@@ -1,9 +1,9 @@
 -- One event of a run by turns, in the plain memory and in the history.
-use Rattle.std.proofs.Common.{◌≡◌, ℕ, zero, suc, ◌+◌, ◌<◌, ◌^◌, Bool, true, false, cond, not, ◌&&◌}
-use Rattle.std.proofs.Common.{List, [], ◌∷◌, ◌++◌, map, Option, Some, None, refl, ap, ◌∙◌, sym}
-use Rattle.std.proofs.Common.{subst, arith}
-use Rattle.std.specs.Prelude.{◌≢◌, ◌==◌, nat_lt, nat_le, is_some, length, slice_get, slice_index}
-use Rattle.std.specs.Prelude.{set, unwrap_or}
+use Rattle.std.proofs.Common.{◌≡◌, ℕ, zero, suc, ◌+◌, ◌<◌, ◌^◌, Bool, true, false, cond, ◌&&◌, List}
+use Rattle.std.proofs.Common.{[], ◌∷◌, ◌++◌, map, Option, Some, None, refl, ap, ◌∙◌, sym, subst}
+use Rattle.std.proofs.Common.{arith}
+use Rattle.std.specs.Prelude.{◌≢◌, ◌==◌, nat_lt, is_some, length, slice_get, slice_index, set}
+use Rattle.std.specs.Prelude.{unwrap_or}
 use Rattle.std.specs.Option.{option_or}
 use Rattle.std.proofs.lemmas.Bool.Decides.{nat_tests}
 use Rattle.std.proofs.lemmas.List.{length-set, get_or-set_same, get_or-set_other}
@@ -14,16 +14,15 @@ use Rattle.vyrd_base.specs.declared.header.Header.{Header}
 use Rattle.vyrd_base.specs.declared.history.Did.{Did}
 use Rattle.vyrd_base.specs.declared.history.Did.TheVariants.{Read, Wrote, Took, Gave, Marked}
 use Rattle.vyrd_base.specs.declared.history.Stamped.{Stamped}
-use Rattle.vyrd_base.specs.Places.{newest_first, numbers_from, first_answer}
+use Rattle.vyrd_base.specs.Places.{newest_first, numbers_from}
 use Rattle.vyrd_base.specs.Layout.{plain_words, lock_words}
-use Rattle.vyrd_base.specs.Histories.{value_in, made_of, cells_of, is_plain, is_lock}
+use Rattle.vyrd_base.specs.Histories.{made_of}
 use Rattle.vyrd_base.proofs.PlaceLaws.{newest_first-push, length-newest_first, map_alike_from}
 use Rattle.vyrd_base.proofs.TestLaws.{first_true, second_true, same_number}
 use Rattle.vyrd_memory.specs.declared.act.Act.{Act}
 use Rattle.vyrd_memory.specs.declared.act.Act.TheVariants.{Load, Store, Take, Give, Mark, Done}
-use Rattle.vyrd_memory.specs.Scripts.{Script, stop, step, next_act, after_answer, answer_of}
-use Rattle.vyrd_memory.specs.Scripts.{left_after}
-use Rattle.vyrd_memory.specs.Soundness.{Situation, IsSound, IsSoundSomewhere, may_act, holds}
+use Rattle.vyrd_memory.specs.Scripts.{Script, step, next_act, after_answer, answer_of, left_after}
+use Rattle.vyrd_memory.specs.Soundness.{Situation, IsSound, IsSoundSomewhere, may_act}
 use Rattle.vyrd_memory.specs.Turns.{part_of, script_of, act_of, event_now, with_event, after_turn}
 use Rattle.vyrd_memory.specs.Playing.{event_in, words_with, IsWithin, IsReady, IsPlaying, HasPlayed}
 use Rattle.vyrd_memory.specs.Playing.{scene, memory_after, total}

@@ -9,8 +9,7 @@ use Rattle.vyrd_base.specs.declared.history.Did.{Did}
 use Rattle.vyrd_base.proofs.PlaceLaws.{length-newest_first}
 use Rattle.vyrd_memory.specs.declared.op.Turn.{Turn}
 use Rattle.vyrd_memory.specs.Scripts.{Script}
-use Rattle.vyrd_memory.specs.Turns.{act_of, event_now, with_event, after_turn, after_turns}
-use Rattle.vyrd_memory.specs.Turns.{turns_of}
+use Rattle.vyrd_memory.specs.Turns.{act_of, event_now, after_turn, after_turns, turns_of}
 use Rattle.vyrd_memory.specs.Playing.{HasPlayed, HaveComeToRest, Scene, rounds_over}
 
 pub after_turns-append : (scripts : List Script) (xs ys : List ℕ) (earlier : List Stamped)

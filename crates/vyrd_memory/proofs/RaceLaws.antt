@@ -2,7 +2,7 @@
 use Rattle.std.proofs.Common.{◌≡◌, ℕ, zero, suc, ◌+◌, ◌<◌, ◌≤◌, Bool, true, false, cond, ◌||◌}
 use Rattle.std.proofs.Common.{List, [], ◌∷◌, Option, Some, None, option_map, refl, ap, ◌∙◌, sym}
 use Rattle.std.proofs.Common.{subst, arith}
-use Rattle.std.specs.Prelude.{is_some, is_none, unwrap_or, filter_map, length}
+use Rattle.std.specs.Prelude.{is_some, unwrap_or, filter_map, length}
 use Rattle.std.specs.Option.{option_or}
 use Rattle.std.specs.Bool.{then_some}
 use Rattle.std.specs.List.{cons_option, list_any}
@@ -15,15 +15,15 @@ use Rattle.vyrd_base.specs.declared.verdict.Rule.TheVariants.{BlockRaced, CallOp
 use Rattle.vyrd_base.specs.declared.verdict.Why.{Why}
 use Rattle.vyrd_base.specs.declared.verdict.Verdict.{Verdict}
 use Rattle.vyrd_base.specs.declared.verdict.Verdict.TheVariants.{Violation, Malformed}
-use Rattle.vyrd_base.specs.Places.{Place, places, position_of, first_answer, newest_first_onto}
+use Rattle.vyrd_base.specs.Places.{Place, position_of, first_answer, newest_first_onto}
 use Rattle.vyrd_base.specs.Places.{newest_first, numbers_from}
 use Rattle.vyrd_base.specs.Callers.{open_call}
 use Rattle.vyrd_base.specs.Shape.{broken_rule}
 use Rattle.vyrd_base.specs.Front.{front, first_break}
 use Rattle.vyrd_base.specs.States.{State}
 use Rattle.vyrd_base.specs.Faults.{fault_at}
-use Rattle.vyrd_base.specs.Verdicts.{line_of, violation_at, states_along, first_fault}
-use Rattle.vyrd_base.specs.Verdicts.{shape_verdict, is_call_open, end_verdict, accepted, verdict}
+use Rattle.vyrd_base.specs.Verdicts.{line_of, violation_at, first_fault, shape_verdict}
+use Rattle.vyrd_base.specs.Verdicts.{is_call_open, accepted, verdict}
 use Rattle.vyrd_base.proofs.NoStart.{verdict_so_far-none, end_verdict-none}
 use Rattle.vyrd_base.specs.Histories.{cells_of, is_legal, logged, log_of}
 use Rattle.vyrd_base.proofs.HistoryLaws.{log_entry, reversed_map}

@@ -1,14 +1,13 @@
 -- The whole run by turns: how it begins, and where it ends.
-use Rattle.std.proofs.Common.{◌≡◌, ℕ, zero, suc, ◌+◌, ◌<◌, ◌^◌, Bool, true, false, not, ◌&&◌}
-use Rattle.std.proofs.Common.{◌||◌, List, [], ◌∷◌, map, replicate, Option, Some, None}
-use Rattle.std.proofs.Common.{option_map, refl, ap, ◌∙◌, sym, subst, arith}
+use Rattle.std.proofs.Common.{◌≡◌, ℕ, zero, suc, ◌+◌, ◌<◌, ◌^◌, Bool, true, false, not, ◌&&◌, ◌||◌}
+use Rattle.std.proofs.Common.{List, [], ◌∷◌, map, replicate, Some, None, option_map, refl, ap, ◌∙◌}
+use Rattle.std.proofs.Common.{sym, subst, arith}
 use Rattle.std.specs.Prelude.{length, slice_get, slice_index, All}
 use Rattle.std.specs.List.{list_all}
 use Rattle.std.proofs.lemmas.List.{length-map, length-replicate}
 use Rattle.std.proofs.lemmas.List.Elements.{All-head, All-tail}
 use Rattle.std.proofs.lemmas.Option.{slice_get-map, get_or_from_slice_get}
 use Rattle.vyrd_base.specs.declared.header.Header.{Header}
-use Rattle.vyrd_base.specs.declared.history.Did.{Did}
 use Rattle.vyrd_base.specs.declared.history.Stamped.{Stamped}
 use Rattle.vyrd_base.specs.Places.{newest_first, numbers_from, numbers_below}
 use Rattle.vyrd_base.specs.Layout.{plain_words, lock_words}
@@ -16,10 +15,9 @@ use Rattle.vyrd_base.specs.Histories.{value_in}
 use Rattle.vyrd_base.proofs.TestLaws.{both_true}
 use Rattle.vyrd_memory.specs.declared.act.Act.{Act}
 use Rattle.vyrd_memory.specs.declared.op.Turn.{Turn}
-use Rattle.vyrd_memory.specs.Scripts.{Script, stop, next_act, left_after}
-use Rattle.vyrd_memory.specs.Turns.{script_of, part_of, act_of, event_now, with_event, after_turn}
-use Rattle.vyrd_memory.specs.Turns.{after_turns, after_rounds, turns_of, run_for, is_done, are_done}
-use Rattle.vyrd_memory.specs.Turns.{is_held_up, are_stuck, RunsTo, GetsStuck}
+use Rattle.vyrd_memory.specs.Scripts.{Script, stop, next_act}
+use Rattle.vyrd_memory.specs.Turns.{act_of, event_now, after_turns, after_rounds, turns_of, run_for}
+use Rattle.vyrd_memory.specs.Turns.{is_done, are_done, is_held_up, are_stuck, RunsTo, GetsStuck}
 use Rattle.vyrd_memory.specs.StuckThere.{AreStuckThere}
 use Rattle.vyrd_memory.specs.Playing.{IsReady, IsPlaying, HasPlayed, HaveComeToRest, Scene}
 use Rattle.vyrd_memory.specs.Playing.{memory_after, rounds_over}

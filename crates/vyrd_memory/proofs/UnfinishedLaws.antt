@@ -1,7 +1,7 @@
 -- A round that leaves out callers that are done is a round over all of them.
-use Rattle.std.proofs.Common.{◌≡◌, ◌≢◌, ℕ, zero, suc, ◌+◌, ◌<◌, ◌≤◌, Bool, true, false, cond, not}
-use Rattle.std.proofs.Common.{List, [], ◌∷◌, ◌++◌, length, get_or, slice_get, Option, Some, None}
-use Rattle.std.proofs.Common.{refl, ap, ◌∙◌, sym, arith, append-nil}
+use Rattle.std.proofs.Common.{◌≡◌, ◌≢◌, ℕ, zero, suc, ◌+◌, ◌<◌, ◌≤◌, Bool, true, false, cond, List}
+use Rattle.std.proofs.Common.{[], ◌∷◌, ◌++◌, length, get_or, slice_get, Option, Some, None, refl}
+use Rattle.std.proofs.Common.{ap, ◌∙◌, sym, arith, append-nil}
 use Rattle.std.specs.List.{filter}
 use Rattle.std.proofs.lemmas.List.Elements.{filter-append}
 use Rattle.vyrd_base.specs.declared.header.Header.{Header}
@@ -11,7 +11,6 @@ use Rattle.vyrd_base.specs.Places.{newest_first, numbers_from, numbers_below}
 use Rattle.vyrd_base.proofs.PlaceLaws.{numbers_below-push}
 use Rattle.vyrd_base.proofs.TestLaws.{isnt_same}
 use Rattle.vyrd_memory.specs.declared.act.Act.{Act}
-use Rattle.vyrd_memory.specs.declared.act.Act.TheVariants.{Done}
 use Rattle.vyrd_memory.specs.Scripts.{Script}
 use Rattle.vyrd_memory.specs.Turns.{act_of, event_now, with_event, after_turn}
 use Rattle.vyrd_memory.specs.Turns.{after_turns, is_done}

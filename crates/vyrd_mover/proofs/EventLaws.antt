@@ -1,7 +1,7 @@
 -- A later line of a history has one reading.
 use Rattle.std.proofs.Common.{◌≡◌, ℕ, ◌<◌, ◌^◌, Bool, true, false, cond, not, ◌&&◌, List, [], ◌∷◌}
 use Rattle.std.proofs.Common.{◌++◌, Option, Some, None, refl, ap, sym, ◌∙◌, arith}
-use Rattle.std.specs.Prelude.{nat_lt, codes, decimal}
+use Rattle.std.specs.Prelude.{nat_lt, decimal}
 use Rattle.std.specs.List.{list_all}
 use Rattle.std.specs.Str.{bytes_eq}
 use Rattle.std.proofs.lemmas.Slice.Eq.{bytes_eq-Decides}
@@ -13,7 +13,7 @@ use Rattle.vyrd_base.specs.declared.history.Did.{Did}
 use Rattle.vyrd_base.specs.declared.history.Did.TheVariants.{Read, Wrote, Took, Gave, Marked}
 use Rattle.vyrd_base.specs.declared.history.Stamped.{Stamped}
 use Rattle.vyrd_base.specs.Spelling.{entry_line, is_entry_of, is_kind_of}
-use Rattle.vyrd_base.specs.Lines.{fields_of, number_of, entry_in}
+use Rattle.vyrd_base.specs.Lines.{fields_of, entry_in}
 use Rattle.vyrd_base.specs.Histories.{is_write}
 use Rattle.vyrd_base.proofs.SplitLaws.{split-join, number_of_decimal, bytes_same}
 use Rattle.vyrd_base.proofs.SplitLaws.{is_plain_field}

@@ -1,7 +1,7 @@
 -- The exchange law over the definitions.
-use Rattle.std.proofs.Common.{◌≡◌, ◌≢◌, ℕ, true, List, [], ◌∷◌, ◌++◌}
+use Rattle.std.proofs.Common.{◌≡◌, ◌≢◌, ℕ, true, List, ◌∷◌, ◌++◌}
 use Rattle.vyrd_base.specs.declared.history.Stamped.{Stamped}
-use Rattle.vyrd_base.specs.Histories.{Cells, value_in, is_legal}
+use Rattle.vyrd_base.specs.Histories.{Cells, is_legal}
 use Rattle.vyrd_mover.specs.RaceFree.{is_race_free}
 use Rattle.vyrd_mover.specs.Exchanges.{is_movable, numbered}
 use Rattle.vyrd_mover.proofs.Running.{legal_runs, runs_legal}

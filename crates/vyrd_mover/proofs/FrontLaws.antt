@@ -1,8 +1,7 @@
 -- Events that are read where they lie: what a reader makes of them is what it makes of their lines.
 use Rattle.std.proofs.Common.{◌≡◌, ℕ, ◌+◌, ◌-◌, ◌<◌, ◌≤◌, ◌^◌, Bool, true, false, List, [], ◌∷◌}
-use Rattle.std.proofs.Common.{◌++◌, length, take, drop, get_or}
-use Rattle.std.proofs.Common.{Option, Some, None, refl, ap, sym, ◌∙◌, subst, arith, append_assoc}
-use Rattle.std.proofs.Common.{length-append}
+use Rattle.std.proofs.Common.{◌++◌, length, take, drop, get_or, Option, Some, refl, ap, sym, ◌∙◌}
+use Rattle.std.proofs.Common.{subst, arith, append_assoc, length-append}
 use Rattle.std.specs.Prelude.{decimal, is_some, IfSome}
 use Rattle.std.proofs.lemmas.List.{append-nil}
 use Rattle.std.proofs.lemmas.Slice.Eq.{bytes_eq-Decides}
@@ -10,7 +9,6 @@ use denote.Ref.{Bor}
 use Rattle.vyrd_base.specs.declared.subject.Subject.{Subject}
 use Rattle.vyrd_base.specs.declared.log.Kind.{Kind}
 use Rattle.vyrd_base.specs.declared.history.Did.{Did}
-use Rattle.vyrd_base.specs.declared.history.Did.TheVariants.{Read}
 use Rattle.vyrd_base.specs.declared.history.Stamped.{Stamped}
 use Rattle.vyrd_base.specs.Spelling.{end_line}
 use Rattle.vyrd_base.specs.Histories.{is_write}
@@ -27,7 +25,7 @@ use Rattle.vyrd_mover.specs.HistoryLines.{event_in}
 use Rattle.vyrd_mover.specs.HistoryFront.{did_text, IsDidAtFront, IsEventAtFront}
 use Rattle.vyrd_mover.specs.HistoryReading.{event_read, line_read, history_reading}
 use Rattle.vyrd_mover.specs.EventsRead.{HaveRead, HaveReadOn}
-use Rattle.vyrd_mover.specs.HistoryReaders.{rest_read, Follows, IsAtBy, IsAt, GoesTo, IsTakenTo}
+use Rattle.vyrd_mover.specs.HistoryReaders.{rest_read, Follows, IsAt, GoesTo, IsTakenTo}
 use Rattle.vyrd_mover.specs.HistoryReaders.{ReaderState, HasRead, IsFedTo}
 use Rattle.vyrd_mover.specs.Refusals.{IsRefusal, IsRefusedAt}
 use Rattle.vyrd_mover.proofs.EventLaws.{event_in-event_line}

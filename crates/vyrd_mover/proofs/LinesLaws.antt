@@ -1,7 +1,6 @@
 -- The lines so far are followed by one more, or by bytes that break a rule.
 use Rattle.std.proofs.Common.{◌≡◌, ℕ, ◌+◌, ◌<◌, ◌≤◌, Bool, true, false, cond, List, [], ◌∷◌, ◌++◌}
-use Rattle.std.proofs.Common.{length, Option, Some, None, refl, ap, sym, ◌∙◌, subst, arith}
-use Rattle.std.proofs.Common.{append_assoc}
+use Rattle.std.proofs.Common.{length, Option, Some, None, ap, ◌∙◌, arith, append_assoc}
 use Rattle.std.specs.Prelude.{is_some}
 use Rattle.vyrd_base.specs.Spelling.{end_line}
 use Rattle.vyrd_base.proofs.SplitLaws.{cut, lacks}
@@ -16,7 +15,7 @@ use Rattle.vyrd_mover.specs.HistoryText.{Recorded}
 use Rattle.vyrd_mover.specs.HistoryReading.{refused, line_read, first_read, unless_too_many}
 use Rattle.vyrd_mover.specs.HistoryReading.{unfinished_rule, history_reading}
 use Rattle.vyrd_mover.specs.EventsRead.{HaveRead, HaveReadOn}
-use Rattle.vyrd_mover.specs.HistoryReaders.{rest_read, Follows, IsAtBy, IsAt, GoesOn}
+use Rattle.vyrd_mover.specs.HistoryReaders.{rest_read, Follows, IsAt, GoesOn}
 use Rattle.vyrd_mover.specs.Refusals.{IsRefusal, IsRefusedAt}
 use Rattle.vyrd_mover.proofs.EventsReadLaws.{read_on}
 use Rattle.vyrd_mover.proofs.SettledLaws.{long_line, long_text}

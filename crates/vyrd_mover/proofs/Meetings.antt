@@ -1,20 +1,19 @@
 -- Two neighbouring events that may be exchanged don't meet: where one changes a cell, the other
 -- doesn't touch it.
-use Rattle.std.proofs.Common.{◌≡◌, ◌≢◌, ℕ, ◌+◌, Bool, true, false, cond, ◌||◌, List}
-use Rattle.std.proofs.Common.{◌∷◌, Some, None, refl, ap, ◌∙◌, sym, arith}
-use Rattle.std.specs.Prelude.{◌==◌, unwrap_or}
+use Rattle.std.proofs.Common.{◌≡◌, ◌≢◌, ℕ, Bool, true, false, ◌||◌, List, ◌∷◌, arith}
+use Rattle.std.specs.Prelude.{◌==◌}
 use Rattle.std.proofs.lemmas.Bool.{or_left, or_right}
 use Rattle.vyrd_base.specs.declared.history.Did.{Did}
-use Rattle.vyrd_base.specs.declared.history.Did.TheVariants.{Read, Wrote, Took, Gave, Marked}
+use Rattle.vyrd_base.specs.declared.history.Did.TheVariants.{Took, Gave}
 use Rattle.vyrd_base.specs.declared.history.Stamped.{Stamped}
 use Rattle.vyrd_base.specs.Histories.{Cells, is_plain, is_lock}
-use Rattle.vyrd_base.proofs.TestLaws.{first_true, second_true, same_of, is_same}
+use Rattle.vyrd_base.proofs.TestLaws.{first_true, same_of}
 use Rattle.vyrd_base.proofs.CellLaws.{plain_isnt}
 use Rattle.vyrd_mover.specs.RaceFree.{is_access_of, is_write_to}
 use Rattle.vyrd_mover.specs.Exchanges.{is_movable}
 use Rattle.vyrd_mover.proofs.TruthLaws.{either_true}
 use Rattle.vyrd_mover.proofs.Running.{step, may, touches, changes, step_same}
-use Rattle.vyrd_mover.proofs.FreeCells.{Free, alone, unwritten, guarded}
+use Rattle.vyrd_mover.proofs.FreeCells.{Free, alone, unwritten}
 
 -- an event at a plain cell leaves each lock as it is
 pub access_keeps : (cells : Cells) (m : ℕ → ℕ) (caller cell lock : ℕ) (did : Did)
@@ -49,18 +48,6 @@ free_cell free x y cell ex ey e = grind (arith, free, either_true, same_of)
 plain_or_lock : (cells : Cells) (x l cell : ℕ) → is_plain cells x ≡ true → is_lock cells l ≡ true
     → (x == cell) ≡ true → (l == cell) ≡ true → ⊥
 plain_or_lock cells x l cell plain kind ex el = grind arith
-
-both_at : (x y cell : ℕ) → (x == cell) ≡ true → (y == cell) ≡ true → (x == y) ≡ true
-both_at x y cell ex ey = is_same x y (same_of x cell ex ∙ sym (same_of y cell ey))
-
--- the value of a lock after it was taken or given
-pub taken_value : (m : ℕ → ℕ) (c x y : ℕ) → (x == y) ≡ true
-    → unwrap_or (cond (x == y) (Some (c + 1)) None) (m y) ≡ c + 1
-taken_value m c x y e = ap (λ b. unwrap_or (cond b (Some (c + 1)) None) (m y)) e
-
-pub given_value : (m : ℕ → ℕ) (x y : ℕ) → (x == y) ≡ true → unwrap_or (cond (x == y) (Some 0) None)
-    (m y) ≡ 0
-given_value m x y e = ap (λ b. unwrap_or (cond b (Some 0) None) (m y)) e
 
 took_took : (cells : Cells) (m : ℕ → ℕ) (k c d x y cell : ℕ) → (x == cell) ≡ true → (y == cell)
     ≡ true

@@ -4,7 +4,7 @@ use Rattle.std.proofs.Common.{List, [], ◌∷◌, length, get_or, set, replicat
 use Rattle.std.proofs.Common.{refl, ap, ◌∙◌, sym, subst, arith}
 use Rattle.std.specs.Prelude.{◌==◌}
 use Rattle.std.specs.Option.{option_or, option_map, option_and_then}
-use Rattle.std.specs.List.{filter_map, cons_option}
+use Rattle.std.specs.List.{cons_option}
 use Rattle.std.proofs.Math.Bool.{and-false}
 use Rattle.std.proofs.lemmas.List.{get_or-set_same, get_or-set_other, get_or-replicate}
 use Rattle.std.proofs.lemmas.List.{length-replicate, length-set}
@@ -13,13 +13,12 @@ use Rattle.vyrd_base.specs.declared.log.Kind.TheVariants.{BlockClose, BlockCommi
 use Rattle.vyrd_base.specs.declared.history.Did.{Did}
 use Rattle.vyrd_base.specs.declared.history.Did.TheVariants.{Read, Wrote, Took, Gave, Marked}
 use Rattle.vyrd_base.specs.declared.history.Stamped.{Stamped}
-use Rattle.vyrd_base.specs.Places.{places_after, first_answer}
 use Rattle.vyrd_base.proofs.TestLaws.{same_of, apart_of, same_number}
 use Rattle.vyrd_mover.specs.declared.ahead.Ahead.{Ahead}
 use Rattle.vyrd_mover.specs.declared.step.Role.{Role}
 use Rattle.vyrd_mover.specs.Movers.{is_right_mover, is_left_mover}
-use Rattle.vyrd_mover.specs.Blocks.{is_mark, is_block_open, is_block_end, up_to_end, events_of}
-use Rattle.vyrd_mover.specs.Blocks.{block_at, broken_lines, broken_at, line_of}
+use Rattle.vyrd_mover.specs.Blocks.{is_mark, is_block_open, is_block_end, events_of, broken_lines}
+use Rattle.vyrd_mover.specs.Blocks.{line_of}
 use Rattle.vyrd_mover.specs.Steps.{role_of}
 use Rattle.vyrd_mover.specs.Ahead.{kept_of, ahead_of, with_line}
 use Rattle.vyrd_mover.specs.Ahead.{Surveyed, with_ahead, opened_before, ahead_at, preceded_by}

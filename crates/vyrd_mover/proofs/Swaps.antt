@@ -1,18 +1,16 @@
 -- Two neighbouring events exchanged: what follows runs as before, and each race-free cell stays
 -- race-free.
-use Rattle.std.proofs.Common.{◌≡◌, ◌≢◌, ℕ, ◌+◌, Bool, true, false, ◌⊎◌, List, [], ◌∷◌}
-use Rattle.std.proofs.Common.{◌++◌, ap, sym, subst, arith}
+use Rattle.std.proofs.Common.{◌≡◌, ◌≢◌, ℕ, ◌+◌, Bool, true, false, ◌⊎◌, List, [], ◌∷◌, ◌++◌, sym}
+use Rattle.std.proofs.Common.{subst, arith}
 use Rattle.std.specs.Prelude.{unwrap_or}
 use Rattle.vyrd_base.specs.declared.history.Did.{Did}
 use Rattle.vyrd_base.specs.declared.history.Stamped.{Stamped}
 use Rattle.vyrd_base.specs.Histories.{Cells, is_lock, made_of}
-use Rattle.vyrd_base.proofs.TestLaws.{first_true, second_true, same_of}
-use Rattle.vyrd_base.proofs.CellLaws.{plain_isnt}
 use Rattle.vyrd_mover.specs.Exchanges.{is_movable}
 use Rattle.vyrd_mover.proofs.TruthLaws.{true_or_false}
 use Rattle.vyrd_mover.proofs.Running.{step, may, Runs, changes, may_same, step_same}
 use Rattle.vyrd_mover.proofs.FreeCells.{Free, alone, unwritten, guarded, Only, Unwritten, Guards}
-use Rattle.vyrd_mover.proofs.Meetings.{Apart, apart, changed_is_touched, taken_value, given_value}
+use Rattle.vyrd_mover.proofs.Meetings.{Apart, apart, changed_is_touched}
 
 -- the memory is the same in both orders
 order_of_steps : (m : ℕ → ℕ) (a b : Stamped) → Apart a.did b.did → step (step m a) b

@@ -3,7 +3,7 @@ use Rattle.std.proofs.Common.{◌≡◌, ℕ, ◌+◌, ◌≤◌, ◌^◌, Bool,
 use Rattle.std.proofs.Common.{◌∷◌, ◌++◌, map, length}
 use Rattle.std.proofs.Common.{Option, Some, None, Ok, refl, ap, subst, sym, ◌∙◌, arith}
 use Rattle.std.proofs.Common.{append_assoc}
-use Rattle.std.specs.Prelude.{nat_lt, codes, decimal}
+use Rattle.std.specs.Prelude.{nat_lt, decimal}
 use Rattle.std.specs.List.{list_all, join_with_byte, AllByRecursion}
 use Rattle.std.specs.Str.{bytes_eq}
 use Rattle.std.proofs.lemmas.List.{append-nil}
@@ -18,7 +18,7 @@ use Rattle.vyrd_base.specs.declared.history.Stamped.{Stamped}
 use Rattle.vyrd_base.specs.Spelling.{end_line, is_kind_of}
 use Rattle.vyrd_base.specs.Reading.{has_any}
 use Rattle.vyrd_base.specs.Places.{Place, places, places_after, newest_first}
-use Rattle.vyrd_base.specs.Histories.{cells_of, is_legal_at, is_legal, is_write}
+use Rattle.vyrd_base.specs.Histories.{cells_of, is_legal_at, is_legal}
 use Rattle.vyrd_base.proofs.HeaderLaws.{size_in_32_bits, callers_in_32_bits}
 use Rattle.vyrd_base.proofs.PlaceLaws.{with_later, places_after-append, length-newest_first}
 use Rattle.vyrd_base.proofs.SplitLaws.{cut, join_lines, cut_lines, lacks, all_lack, lacks-join}

@@ -2,7 +2,7 @@
 use Rattle.std.proofs.Common.{◌≡◌, ◌≢◌, ℕ, zero, suc, ◌+◌, ◌-◌, ◌<◌, ◌≤◌, Bool, true, false, cond}
 use Rattle.std.proofs.Common.{◌⊎◌, inl, ⊎_elim, List, [], ◌∷◌, length, map, set, get_or, Option}
 use Rattle.std.proofs.Common.{Some, None, slice_get, refl, ap, subst, ◌∙◌, sym, arith}
-use Rattle.std.specs.Prelude.{◌==◌, sum_by, unwrap_or}
+use Rattle.std.specs.Prelude.{◌==◌, sum_by}
 use Rattle.std.proofs.lemmas.List.Sums.{sum_by-cons, sum_by-set, count_by-le-length}
 use Rattle.std.proofs.lemmas.List.{length-set}
 use Rattle.std.proofs.lemmas.Option.{slice_get_within, unwrap_or-slice_get, slice_get-get_or}

@@ -1,8 +1,7 @@
 -- What each caller sees of a state that comes, and of a call.
-use Rattle.std.proofs.Common.{◌≡◌, ℕ, zero, suc, ◌<◌, ◌≤◌, Bool, true, false, cond}
-use Rattle.std.proofs.Common.{◌||◌, List, [], ◌∷◌, ◌++◌, length}
-use Rattle.std.proofs.Common.{drop, map, set, get_or, Option, Some, None, slice_get, refl, ap}
-use Rattle.std.proofs.Common.{subst, ◌∙◌, sym, arith, length-append}
+use Rattle.std.proofs.Common.{◌≡◌, ℕ, zero, suc, ◌<◌, ◌≤◌, Bool, true, false, cond, ◌||◌, List, []}
+use Rattle.std.proofs.Common.{◌∷◌, ◌++◌, length, drop, map, set, get_or, Option, Some, None}
+use Rattle.std.proofs.Common.{slice_get, refl, ap, ◌∙◌, sym, arith, length-append}
 use Rattle.std.specs.Prelude.{◌==◌, option_map, unwrap_or, replicate}
 use Rattle.std.specs.List.{list_any}
 use Rattle.std.proofs.lemmas.List.{drop-append-le, length-map, map-set, set-get_or}

@@ -1,7 +1,7 @@
 -- What is kept and what observers have seen, as the steps are paid by it.
-use Rattle.std.proofs.Common.{◌≡◌, ℕ, zero, suc, ◌+◌, ◌*◌, ◌<◌, ◌≤◌, Bool, List}
-use Rattle.std.proofs.Common.{[], ◌∷◌, length, drop, map, set, get_or, Option, Some, None}
-use Rattle.std.proofs.Common.{slice_get, refl, ap, arith, length-drop, length-append}
+use Rattle.std.proofs.Common.{◌≡◌, ℕ, zero, suc, ◌+◌, ◌*◌, ◌<◌, ◌≤◌, Bool, List, [], ◌∷◌, length}
+use Rattle.std.proofs.Common.{drop, map, set, get_or, Option, Some, None, slice_get, refl, arith}
+use Rattle.std.proofs.Common.{length-drop, length-append}
 use Rattle.std.specs.Prelude.{replicate}
 use Rattle.std.proofs.lemmas.List.Sums.{sum_by-cons}
 use Rattle.std.proofs.lemmas.Option.{slice_get-get_or}

@@ -372,11 +372,6 @@ on_moved trails watches i n t here low on = λ c w there.
               (on c w there),
         )
 
--- an open observer that asks this question, and of which the last state that it saw answers this,
--- is on a trail of it
-first_same : {a b : ℕ} {xs ys : List ℕ} → a ∷ xs ≡ b ∷ ys → a ≡ b
-first_same e = cc
-
 pub trail_of_seen : (trails : List Asked) (watches : List (Option Watch)) (c : ℕ) (seen : Seen)
     (before : List ℕ) (method : Method) (args : Args) (answer : ℕ)
     → AreOn trails watches → slice_get (map (seen_by trails) watches) c ≡ Some seen → seen.is_open

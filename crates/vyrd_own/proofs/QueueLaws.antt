@@ -1,7 +1,7 @@
 -- Lists with two ends, and the room in them.
 use Rattle.std.proofs.Common.{◌≡◌, ℕ, List, [], ◌∷◌, refl, ap, ◌∙◌}
 use Rattle.std.proofs.Common.{arith, ◌<◌, ◌≤◌, length, take, zero, suc}
-use Rattle.std.specs.Prelude.{◌-◌, map, slice_index_or, slice_set}
+use Rattle.std.specs.Prelude.{map, slice_index_or, slice_set}
 use Rattle.vyrd_own.specs.Queues.{Queued, queue_at}
 use Rattle.vyrd_own.specs.Apart.{listed}
 

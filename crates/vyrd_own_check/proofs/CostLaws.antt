@@ -1,7 +1,7 @@
 -- What a piece costs is paid by what was owed before it, and by what its bytes cost.
-use Rattle.std.proofs.Common.{◌≡◌, ℕ, ◌+◌, ◌≤◌, Bool, true, false, cond, ◌||◌, List, [], ◌∷◌, ◌++◌}
-use Rattle.std.proofs.Common.{Option, Some, None, refl, ap, subst, ◌∙◌, sym, arith}
-use Rattle.std.proofs.Common.{append_assoc, append-nil, option_map}
+use Rattle.std.proofs.Common.{◌≡◌, ℕ, ◌+◌, ◌≤◌, Bool, true, false, cond, ◌||◌, List, [], ◌++◌}
+use Rattle.std.proofs.Common.{Option, Some, None, refl, ap, subst, ◌∙◌, sym, arith, append_assoc}
+use Rattle.std.proofs.Common.{append-nil, option_map}
 use Rattle.std.specs.List.{sum_by}
 use Rattle.std.specs.Option.{option_map_or}
 use Rattle.std.proofs.lemmas.List.Sums.{sum_by-append}
@@ -223,10 +223,6 @@ pub part_paid : (c : CheckerState) (k : OwnCheckerKept) (v : Option Verdict) (by
     → n + debt_after v k (bytes ++ part) + bytes_cost (limit_of c.kept) bytes
     ≤ m + checker_debt c bytes + bytes_cost (limit_of c.kept) (bytes ++ part)
 part_paid c k v bytes part m n none paid = grind (arith, paid, grown_more, after_at_most)
-
-two_parts : (l m n a b c x y z : ℕ) → m + b + x ≤ l + a + y → n + c + y ≤ m + b + z
-    → n + c + x ≤ l + a + z
-two_parts l m n a b c x y z first second = omega (arith, first, second)
 
 -- one part after others
 pub parts_paid : (first before after : CheckerState) (bytes read part all : List ℕ) (l m n : ℕ)

@@ -1,22 +1,20 @@
 -- How what is kept goes on with a piece of the text.
-use Rattle.std.proofs.Common.{◌≡◌, ℕ, ◌≤◌, Bool, true, false, cond, ◌||◌, List, [], ◌∷◌, ◌++◌}
-use Rattle.std.proofs.Common.{length, Option, Some, None, refl, ap, ◌∙◌, sym, arith}
-use Rattle.std.proofs.Common.{length-append, option_map}
-use Rattle.std.specs.Prelude.{option_and_then, is_none}
+use Rattle.std.proofs.Common.{◌≡◌, ℕ, ◌≤◌, Bool, true, false, cond, ◌||◌, List, [], ◌++◌, length}
+use Rattle.std.proofs.Common.{Option, Some, None, refl, ap, ◌∙◌, sym, arith, length-append}
+use Rattle.std.proofs.Common.{option_map}
+use Rattle.std.specs.Prelude.{is_none}
 use Rattle.std.specs.Bool.{then_some}
 use Rattle.std.specs.Option.{option_or}
 use Rattle.vyrd_base.specs.Rules.{own, Rules, rules_by}
 use Rattle.vyrd_base.specs.declared.header.Header.{Header}
 use Rattle.vyrd_base.specs.declared.log.Entry.{Entry}
 use Rattle.vyrd_base.specs.declared.log.StartWord.{StartWord}
-use Rattle.vyrd_base.specs.declared.verdict.Rule.TheVariants.{StartState, CallOpen}
+use Rattle.vyrd_base.specs.declared.verdict.Rule.TheVariants.{StartState}
 use Rattle.vyrd_base.specs.declared.verdict.Verdict.TheVariants.{Malformed}
-use Rattle.vyrd_base.specs.Places.{newest_first}
 use Rattle.vyrd_base.specs.Front.{front}
 use Rattle.vyrd_base.specs.Starts.{state_at_start}
 use Rattle.vyrd_base.specs.Reading.{has_any}
-use Rattle.vyrd_base.specs.Verdicts.{line_of, first_fault, shape_verdict, verdict_so_far}
-use Rattle.vyrd_base.specs.Verdicts.{is_call_open, end_verdict}
+use Rattle.vyrd_base.specs.Verdicts.{verdict_so_far, end_verdict}
 use Rattle.vyrd_base.specs.Own.Log.{OwnReading, own_reading}
 use Rattle.vyrd_base.specs.Own.LogVerdicts.{own_text_verdict_so_far}
 use Rattle.vyrd_base.specs.Limits.{most_lines}
@@ -24,10 +22,9 @@ use Rattle.vyrd_own_log.specs.Grown.{has_begun, IsGrown}
 use Rattle.vyrd_own_log.specs.Readers.{ReaderState, HasRead}
 use Rattle.vyrd_judge.specs.Following.{JudgeView, HasFollowed}
 use Rattle.vyrd_judge.proofs.OnlineLaws.{faultless_of}
-use Rattle.vyrd_own_check.specs.Checking.{untold_by, untold_in, IsJudging, IsBefore}
-use Rattle.vyrd_own_check.specs.Checking.{IsReady, HasRoom, IsMade, IsBegun, IsUndecided}
+use Rattle.vyrd_own_check.specs.Checking.{untold_in, IsJudging, IsBefore, IsReady, HasRoom, IsMade}
+use Rattle.vyrd_own_check.specs.Checking.{IsBegun, IsUndecided}
 use Rattle.vyrd_own_check.proofs.PlaceLaws.{nothing_so_far}
-use Rattle.vyrd_own_check.proofs.LastLaws.{charter_stays}
 
 -- a judge without a verdict has counted the entries that it has followed
 counted : (j : JudgeView) (starting : List StartWord) (log : List Entry) → j.so_far ≡ None

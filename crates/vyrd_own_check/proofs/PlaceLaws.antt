@@ -10,19 +10,19 @@ use Rattle.vyrd_base.specs.declared.header.Header.{Header}
 use Rattle.vyrd_base.specs.declared.log.Entry.{Entry}
 use Rattle.vyrd_base.specs.declared.log.StartWord.{StartWord}
 use Rattle.vyrd_base.specs.declared.verdict.Rule.{Rule}
-use Rattle.vyrd_base.specs.declared.verdict.Rule.TheVariants.{StartState, CallOpen}
+use Rattle.vyrd_base.specs.declared.verdict.Rule.TheVariants.{StartState}
 use Rattle.vyrd_base.specs.declared.verdict.Why.{Why}
 use Rattle.vyrd_base.specs.declared.verdict.Verdict.{Verdict}
 use Rattle.vyrd_base.specs.declared.verdict.Verdict.TheVariants.{Accepted, Violation, Malformed}
-use Rattle.vyrd_base.specs.Places.{places_after, newest_first, first_answer}
+use Rattle.vyrd_base.specs.Places.{places_after, first_answer}
 use Rattle.vyrd_base.specs.States.{State}
 use Rattle.vyrd_base.specs.Shape.{broken_rule}
 use Rattle.vyrd_base.specs.Front.{front, front_after, first_break}
 use Rattle.vyrd_base.specs.Starts.{state_at_start}
 use Rattle.vyrd_base.specs.Faults.{fault_at}
 use Rattle.vyrd_base.specs.Rules.{Rules}
-use Rattle.vyrd_base.specs.Verdicts.{line_of, violation_at, states_along, first_fault}
-use Rattle.vyrd_base.specs.Verdicts.{shape_verdict, verdict_so_far, is_call_open, end_verdict}
+use Rattle.vyrd_base.specs.Verdicts.{violation_at, states_along, first_fault, shape_verdict}
+use Rattle.vyrd_base.specs.Verdicts.{verdict_so_far, end_verdict}
 use Rattle.vyrd_base.specs.Own.LogVerdicts.{told_in_text}
 use Rattle.vyrd_base.proofs.Fronts.{break_after}
 

@@ -2,13 +2,11 @@
 use Rattle.std.proofs.Common.{◌≡◌, ℕ, suc, zero, ◌+◌, ◌<◌, ◌≤◌, Bool, true, false, cond, ◌&&◌, List}
 use Rattle.std.proofs.Common.{[], ◌∷◌, ◌++◌, length, Option, Some, None, refl, ap, ◌∙◌, subst}
 use Rattle.std.proofs.Common.{arith, length-append}
-use Rattle.std.specs.Prelude.{◌==◌, ◌||◌, not, nat_le, nat_lt, codes, Ok, Err}
+use Rattle.std.specs.Prelude.{◌==◌, ◌||◌, not, nat_le, codes, Ok, Err}
 use Rattle.std.specs.List.{list_all}
-use Rattle.std.specs.Str.{bytes_eq}
 use Rattle.std.proofs.lemmas.List.Folds.{list_all-append}
 use Rattle.std.proofs.lemmas.Bool.Decides.{nat_tests}
 use Rattle.vyrd_base.specs.declared.own.last.Last.{Last}
-use Rattle.vyrd_base.specs.declared.own.rule.SpecificationRule.{SpecificationRule}
 use Rattle.vyrd_base.specs.Own.Expressions.{Expr}
 use Rattle.vyrd_base.specs.Own.Reading.{Taken, Found, is_word_byte, word_of, after_word, number_in}
 use Rattle.vyrd_base.specs.Own.Programs.{Method, Written}
@@ -20,13 +18,9 @@ use Rattle.vyrd_base.specs.Own.Outer.{is_list, is_part, is_past_constants, part_
 use Rattle.vyrd_base.specs.Own.Outer.{outer_read}
 use Rattle.vyrd_base.specs.Own.Methods.{last_in, is_unfinished, is_method, parameters_read}
 use Rattle.vyrd_base.specs.Own.Methods.{named_method, method_read}
-use Rattle.vyrd_base.specs.Own.Changes.{within_read}
-use Rattle.vyrd_base.specs.Own.Reader.{is_remark, of_method, method_line_read, or_method, line_read}
-use Rattle.vyrd_base.specs.Own.Reader.{SoFar, unfinished, ended_with, read_next}
-use Rattle.vyrd_base.specs.Own.Reader as reader
+use Rattle.vyrd_base.specs.Own.Reader.{method_line_read, line_read, SoFar, unfinished, ended_with}
+use Rattle.vyrd_base.specs.Own.Reader.{read_next}
 use Rattle.vyrd_base.specs.declared.own.rule.SpecificationRule.TheVariants as refusals
-use Rattle.vyrd_base.specs.declared.own.line.SpecificationLine.{SpecificationLine}
-use Rattle.vyrd_base.specs.declared.own.line.SpecificationLine.TheVariants as told
 use Rattle.vyrd_base.proofs.SplitLaws.{lacks}
 use Rattle.vyrd_base.proofs.TestLaws.{both_true, first_true, second_true, is_at_most, above_of}
 use Rattle.vyrd_own_text.proofs.PieceLaws.{after_or, after_inv, taken_inv, then_inv, past, kept}

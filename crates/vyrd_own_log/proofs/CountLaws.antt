@@ -1,32 +1,27 @@
 -- What whole lines bring, counted.
 use Rattle.std.proofs.Common.{◌≡◌, ℕ, ◌+◌, ◌≤◌, Bool, true, false, cond, List, [], ◌∷◌, ◌++◌}
-use Rattle.std.proofs.Common.{length, Option, Some, None, refl, ap, arith}
-use Rattle.std.proofs.Common.{length-append}
+use Rattle.std.proofs.Common.{length, Option, Some, None, refl, arith, length-append}
 use Rattle.std.specs.Prelude.{nat_lt, is_some}
-use Rattle.std.specs.Str.{bytes_eq}
 use Rattle.vyrd_base.specs.declared.header.Header as headers
 use Rattle.vyrd_base.specs.declared.own.line.SpecificationLine.{SpecificationLine}
-use Rattle.vyrd_base.specs.declared.own.line.SpecificationLine.TheVariants as told
 use Rattle.vyrd_base.specs.declared.log.Entry.{Entry}
 use Rattle.vyrd_base.specs.declared.log.StartWord.{StartWord}
 use Rattle.vyrd_base.specs.declared.verdict.Rule.{Rule}
 use Rattle.vyrd_base.specs.declared.verdict.Rule.TheVariants as rules
-use Rattle.vyrd_base.specs.Spelling.{end_line}
 use Rattle.vyrd_base.specs.Starts.{start_rule}
 use Rattle.vyrd_base.specs.Lines.{start_in}
 use Rattle.vyrd_base.specs.Reading.{has_any}
 use Rattle.vyrd_base.specs.Own.Reader.{SoFar, read_next}
-use Rattle.vyrd_base.specs.Own.Entries.{own_entry_in}
 use Rattle.vyrd_base.specs.Own.Log.{is_note, own_header_in}
 use Rattle.vyrd_own_log.specs.declared.stage.Stage.{Stage}
 use Rattle.vyrd_own_log.specs.declared.stage.Stage.TheVariants as stages
 use Rattle.vyrd_own_log.specs.declared.stage.Found.{Found}
 use Rattle.vyrd_own_log.specs.declared.stage.Found.TheVariants as found
 use Rattle.vyrd_own_log.specs.States.{LineState, has_ended}
-use Rattle.vyrd_own_log.specs.Steps.{next, broken, header_step, specification_step, spelled_step}
-use Rattle.vyrd_own_log.specs.Steps.{entry_step, word_step, start_step, starts_step, stage_step}
-use Rattle.vyrd_own_log.specs.Steps.{own_step, Brought, nothing_brought, brought_then, brought_by}
-use Rattle.vyrd_own_log.specs.Steps.{starts_of, entries_of, numbers_of}
+use Rattle.vyrd_own_log.specs.Steps.{next, broken, header_step, specification_step, entry_step}
+use Rattle.vyrd_own_log.specs.Steps.{word_step, start_step, starts_step, stage_step, own_step}
+use Rattle.vyrd_own_log.specs.Steps.{Brought, nothing_brought, brought_then, brought_by, starts_of}
+use Rattle.vyrd_own_log.specs.Steps.{entries_of, numbers_of}
 use Rattle.vyrd_own_log.specs.Grown.{ends}
 use Rattle.vyrd_own_log.proofs.ReaderLaws.{and_nothing}
 

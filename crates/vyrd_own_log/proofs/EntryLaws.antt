@@ -23,8 +23,8 @@ use Rattle.vyrd_base.specs.Lines.{fields_of, number_of, args_from}
 use Rattle.vyrd_base.specs.Own.Expressions.{most}
 use Rattle.vyrd_base.specs.Own.Programs.{Written}
 use Rattle.vyrd_base.specs.Own.OwnRules.{own_arity}
-use Rattle.vyrd_base.specs.Own.Entries.{own_name, named_from, call_fields, takes_args, own_fields}
-use Rattle.vyrd_base.specs.Own.Entries.{own_entry_line, is_own_kind, is_own_entry, guessed_own_kind}
+use Rattle.vyrd_base.specs.Own.Entries.{own_name, named_from, own_fields, own_entry_line}
+use Rattle.vyrd_base.specs.Own.Entries.{is_own_kind, is_own_entry, guessed_own_kind}
 use Rattle.vyrd_base.specs.Own.Entries.{guessed_own_entry, own_entry_in}
 use Rattle.vyrd_base.proofs.SplitLaws.{lacks, all_lack, split-join, lacks-join, decimal_lacks}
 use Rattle.vyrd_base.proofs.SplitLaws.{no_space, no_line_feed, number_of_decimal, bytes_same}

@@ -1,8 +1,8 @@
 -- What a reader makes of entries that are read where they lie: what it makes of their lines.
-use Rattle.std.proofs.Common.{◌≡◌, ℕ, ◌+◌, ◌<◌, ◌≤◌, ◌^◌, Bool, true, false, cond, not, List}
-use Rattle.std.proofs.Common.{[], ◌∷◌, ◌++◌, length, None, refl, ap, sym, ◌∙◌, arith, append_assoc}
+use Rattle.std.proofs.Common.{◌≡◌, ℕ, ◌+◌, ◌<◌, ◌≤◌, ◌^◌, Bool, true, false, not, List, [], ◌∷◌}
+use Rattle.std.proofs.Common.{◌++◌, length, None, refl, ap, sym, ◌∙◌, arith, append_assoc}
 use Rattle.std.proofs.Common.{length-append}
-use Rattle.std.specs.Prelude.{◌==◌, nat_lt, decimal, is_some}
+use Rattle.std.specs.Prelude.{◌==◌, decimal, is_some}
 use Rattle.std.specs.Str.{bytes_eq}
 use Rattle.std.proofs.Math.Bool.{and-false}
 use Rattle.std.proofs.lemmas.Bool.{not-true}
@@ -11,7 +11,7 @@ use Rattle.std.proofs.lemmas.Slice.Eq.{bytes_eq-Decides}
 use Rattle.vyrd_base.specs.declared.header.Header.{Header}
 use Rattle.vyrd_base.specs.declared.log.Entry as entries
 use Rattle.vyrd_base.specs.Spelling.{end_line}
-use Rattle.vyrd_base.specs.Own.Entries.{own_entry_line, own_entry_in}
+use Rattle.vyrd_base.specs.Own.Entries.{own_entry_line}
 use Rattle.vyrd_base.specs.Own.Log.{is_note}
 use Rattle.vyrd_base.proofs.SplitLaws.{lacks, decimal_lacks}
 use Rattle.vyrd_base.proofs.TestLaws.{first_true, second_true, below_of, isnt_below}
@@ -21,8 +21,7 @@ use Rattle.vyrd_own_log.specs.declared.stage.Found.TheVariants as found
 use Rattle.vyrd_own_log.specs.Spelled.{own_kind_text}
 use Rattle.vyrd_own_log.specs.Quick.{IsOwnEntryAtFront}
 use Rattle.vyrd_own_log.specs.States.{LineState}
-use Rattle.vyrd_own_log.specs.Steps.{next, broken, spelled_step, stage_step, own_step}
-use Rattle.vyrd_base.specs.declared.verdict.Rule.TheVariants.{TooManyLines}
+use Rattle.vyrd_own_log.specs.Steps.{next, broken, own_step}
 use Rattle.vyrd_own_log.specs.Readers.{OwnReaderKept, IsSafe, IsSound, IsFed, IsFedFront}
 use Rattle.vyrd_own_log.proofs.EntryLaws.{AllCallable, own_line_is, entry_complete, entry_one_line}
 use Rattle.vyrd_own_log.proofs.EntryLaws.{below_64}

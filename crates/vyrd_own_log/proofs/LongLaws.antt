@@ -2,7 +2,7 @@
 use Rattle.std.proofs.Common.{◌≡◌, ℕ, suc, zero, ◌<◌, ◌≤◌, ◌^◌, Bool, true, false, cond, ◌&&◌, List}
 use Rattle.std.proofs.Common.{[], ◌∷◌, map, take, length, Option, Some, None, refl, ap, sym, ◌∙◌}
 use Rattle.std.proofs.Common.{arith, length-append}
-use Rattle.std.specs.Prelude.{nat_lt, nat_le, codes, decimal, drop, Ok, Err}
+use Rattle.std.specs.Prelude.{nat_lt, nat_le, codes, decimal, drop, Err}
 use Rattle.std.specs.List.{join_with_byte}
 use Rattle.std.specs.Str.{bytes_eq}
 use Rattle.std.proofs.lemmas.Slice.Eq.{bytes_eq-Decides}
@@ -19,8 +19,6 @@ use Rattle.vyrd_base.specs.Own.Programs.{Written}
 use Rattle.vyrd_base.specs.Own.Entries.{own_name, own_fields, is_own_kind, own_entry_in}
 use Rattle.vyrd_base.specs.Own.Reader.{SoFar, line_read, column, read_next}
 use Rattle.vyrd_base.specs.Own.Reader as reader
-use Rattle.vyrd_base.specs.Own.Lines.{remark}
-use Rattle.vyrd_base.specs.Own.Outer.{outer_read}
 use Rattle.vyrd_base.specs.Own.Log.{is_note, own_header_in}
 use Rattle.vyrd_base.proofs.LongLines.{spaced_length, short_number, short_value}
 use Rattle.vyrd_base.proofs.TestLaws.{first_true, second_true, below_of, is_below, isnt_below}

@@ -1,13 +1,12 @@
 -- What a reader that has been fed bytes says of them.
-use Rattle.std.proofs.Common.{◌≡◌, ℕ, ◌+◌, ◌-◌, ◌≤◌, Bool, true, false, cond, List, [], ◌∷◌, ◌++◌}
-use Rattle.std.proofs.Common.{length, Option, Some, None, Result, Ok, Err, refl, ap, sym, ◌∙◌}
-use Rattle.std.proofs.Common.{subst, arith, append_assoc}
+use Rattle.std.proofs.Common.{◌≡◌, ℕ, ◌+◌, ◌-◌, ◌≤◌, Bool, true, false, List, [], ◌∷◌, ◌++◌, length}
+use Rattle.std.proofs.Common.{Option, Some, None, Result, refl, ap, sym, ◌∙◌, subst, arith}
+use Rattle.std.proofs.Common.{append_assoc}
 use Rattle.std.specs.Prelude.{◌==◌, nat_lt, OnOk, is_some, option_map}
 use Rattle.std.specs.Result.{is_err}
 use Rattle.vyrd_own_log.specs.declared.fault.LineFault.{LineFault}
 use Rattle.vyrd_own_log.specs.StateView.{fault_of}
 use Rattle.vyrd_base.proofs.TestLaws.{below_of, is_below, not_below_of, isnt_below}
-use Rattle.vyrd_base.specs.declared.verdict.Rule.TheVariants.{NoLineFeed, NoEnd}
 use Rattle.std.specs.Option.{option_or}
 use Rattle.std.proofs.lemmas.List.{append-nil}
 use Rattle.vyrd_base.specs.declared.log.Entry.{Entry}
@@ -17,7 +16,6 @@ use Rattle.vyrd_base.specs.Own.Log.{own_reading}
 use Rattle.vyrd_base.proofs.SplitLaws.{cut, split_whole}
 use Rattle.vyrd_base.specs.Limits.{most_lines}
 use Rattle.vyrd_text.specs.declared.fault.TextFault as fault
-use Rattle.vyrd_text.specs.declared.fault.TextFault.TheVariants.{Memory}
 use Rattle.vyrd_text.specs.Answered.{IsAnswer, UnlessMemory}
 use Rattle.vyrd_own_log.specs.declared.stage.Found.{Found}
 use Rattle.vyrd_own_log.specs.States.{LineState, input_to, known, unless_faulty, reads_on}
@@ -31,8 +29,8 @@ use Rattle.vyrd_own_log.specs.Readers.{HasReached}
 use Rattle.vyrd_own_log.specs.Readers.{brought_in, HasRead, is_one_line, IsSound, IsTaken, IsFed}
 use Rattle.vyrd_own_log.specs.Readers.{IsGrownBy}
 use Rattle.vyrd_own_log.proofs.RestLaws.{rest_whole}
-use Rattle.vyrd_own_log.proofs.ReaderLaws.{and_nothing, taken_then, empty_taken, faulty_taken}
-use Rattle.vyrd_own_log.proofs.ReaderLaws.{broken_taken, line_taken, line_sound, read_now}
+use Rattle.vyrd_own_log.proofs.ReaderLaws.{and_nothing, taken_then, empty_taken, broken_taken}
+use Rattle.vyrd_own_log.proofs.ReaderLaws.{line_taken, line_sound, read_now}
 
 -- no bytes were fed
 pub nothing_fed : (k : OwnReaderKept) (es : List Entry) (ns : List ℕ) → IsFed k [] es es ns ns k
@@ -245,12 +243,6 @@ module _ (old new : ReaderState) (bytes piece : List ℕ) (es fs : List Entry) (
 
   pub fed_fault : new.kept.lines.fault ≡ (own_reading (so_far old) (bytes ++ piece)).fault
   fed_fault = fed_read.fault ∙ ap (λ input. (own_reading input (bytes ++ piece)).fault) same_input
-
--- a reader with a fault is fed nothing
-pub faulty_fed : (k : OwnReaderKept) (f : TextFault) (piece : List ℕ) (es : List Entry)
-    (ns : List ℕ)
-    → k.lines.fault ≡ Some f → IsFed k piece es es ns ns k
-faulty_fed k f piece es ns is = taken_fed k k piece es ns (faulty_taken k f piece is) refl refl
 
 pub unless : {P : Type 0} (r : Result (Unit {0}) fault.TextFault) → P → UnlessMemory r P
 unless e0 p = grind arith

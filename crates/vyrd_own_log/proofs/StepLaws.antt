@@ -1,6 +1,6 @@
 -- A step over a whole line is what the definition makes of the line.
 use Rattle.std.proofs.Common.{◌≡◌, ℕ, ◌+◌, ◌≤◌, Bool, true, false, cond, not, ◌&&◌, ◌||◌, List, []}
-use Rattle.std.proofs.Common.{◌∷◌, Option, Some, None, refl, ap, sym, subst}
+use Rattle.std.proofs.Common.{◌∷◌, Option, Some, None, refl, ap, sym}
 use Rattle.std.specs.Prelude.{nat_lt, nat_le, codes, Ok, Err}
 use Rattle.std.specs.Str.{bytes_eq}
 use Rattle.vyrd_base.specs.declared.header.Header as headers

@@ -1,9 +1,7 @@
 -- How many keys a step touches, and how many it shows then.
 use Rattle.std.proofs.Common.{◌≡◌, ℕ, zero, suc, ◌+◌, ◌*◌, ◌≤◌, Bool, true, false, cond, List, []}
-use Rattle.std.proofs.Common.{◌∷◌, ◌++◌, length, map, Option, Some, None, ap}
-use Rattle.std.proofs.Common.{arith}
-use Rattle.std.specs.Prelude.{not, ◌==◌, filter, find, option_map, option_and_then}
-use Rattle.std.specs.Prelude.{slice_get}
+use Rattle.std.proofs.Common.{◌∷◌, length, map, Option, Some, arith}
+use Rattle.std.specs.Prelude.{filter, find, option_map, option_and_then, slice_get}
 use Rattle.std.proofs.lemmas.Option.{same_Some, none-some}
 use Rattle.std.specs.List.{list_any}
 use Rattle.std.specs.FinMap.{put}
@@ -26,9 +24,8 @@ use Rattle.vyrd_base.specs.Own.Expressions.{holds, value}
 use Rattle.vyrd_base.specs.Own.Programs.{Case, Method, Written}
 use Rattle.vyrd_base.specs.Own.OwnRules.{own_method}
 use Rattle.vyrd_base.specs.Own.Steps.{with_effect, with_effects, shown_keys, is_clearing}
-use Rattle.vyrd_base.specs.Own.Steps.{effects_of}
-use Rattle.vyrd_base.specs.Own.Steps.{allowed_effects, effect_of, at_hand}
-use Rattle.vyrd_own_spec.specs.Effects.{most_of, line_count, longest_case, most_effects}
+use Rattle.vyrd_base.specs.Own.Steps.{effects_of, allowed_effects, effect_of}
+use Rattle.vyrd_own_spec.specs.Effects.{most_of, line_count, most_effects}
 use Rattle.vyrd_own_spec.specs.Touched.{touched_by, effects_by}
 
 -- one key more at most

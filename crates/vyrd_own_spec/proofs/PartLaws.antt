@@ -1,7 +1,6 @@
 -- How many parts there are, and how wide they are.
-use Rattle.std.proofs.Common.{◌≡◌, ℕ, ◌/◌, ◌≤◌, Bool, true, false, cond, length, arith}
-use Rattle.std.specs.Prelude.{◌==◌, max}
-use Rattle.std.proofs.Math.Nat.{div-le_self}
+use Rattle.std.proofs.Common.{◌≡◌, ℕ, ◌/◌, ◌≤◌, Bool, cond, length, arith}
+use Rattle.std.specs.Prelude.{max}
 use Rattle.vyrd_base.specs.declared.header.Header.{Header}
 use Rattle.vyrd_base.proofs.HeaderLaws.{most_size}
 use Rattle.vyrd_base.specs.Own.Programs.{Written}

@@ -1,9 +1,8 @@
 -- What the lines of a specification spell is within its limits.
-use Rattle.std.proofs.Common.{◌≡◌, ℕ, zero, suc, ◌+◌, ◌-◌, ◌<◌, ◌≤◌, Bool, true, false, cond, ◌&&◌}
-use Rattle.std.proofs.Common.{List, [], ◌∷◌, ◌++◌}
-use Rattle.std.proofs.Common.{Option, Some, None, Ok, Err, refl, ap, ◌∙◌, sym, subst, arith, length}
-use Rattle.std.proofs.Common.{length-append}
-use Rattle.std.specs.Prelude.{nat_le, nat_lt, codes, slice_get, not, ◌==◌, ◌||◌}
+use Rattle.std.proofs.Common.{◌≡◌, ℕ, zero, suc, ◌+◌, ◌<◌, ◌≤◌, Bool, true, false, cond, List, []}
+use Rattle.std.proofs.Common.{◌∷◌, ◌++◌, Option, Some, None, Ok, Err, refl, ◌∙◌, sym, subst, arith}
+use Rattle.std.proofs.Common.{length, length-append}
+use Rattle.std.specs.Prelude.{nat_le, codes, slice_get, ◌||◌}
 use Rattle.std.specs.Str.{bytes_eq}
 use Rattle.vyrd_base.proofs.TestLaws.{at_most_of, second_true}
 use Rattle.vyrd_base.specs.Own.Programs.{Method, Written}
@@ -12,23 +11,16 @@ use Rattle.vyrd_base.specs.Own.Lines.{constant, register, list, holds, hidden, p
 use Rattle.vyrd_base.specs.Own.Lines.{inner}
 use Rattle.vyrd_base.specs.Own.Lines.{with_inner, change_last, with_line, has_any}
 use Rattle.vyrd_base.specs.Own.Reading.{Taken, and_then, after, if_after, word_of}
-use Rattle.vyrd_base.specs.Own.Reading.{number_in}
-use Rattle.vyrd_base.specs.Own.Pieces.{taken_with, ended, named_number, last_number, two_numbers}
-use Rattle.vyrd_base.specs.Own.Pieces.{two_read, last_read}
+use Rattle.vyrd_base.specs.Own.Pieces.{taken_with, ended}
 use Rattle.vyrd_base.specs.Own.Names.{is_known, is_among, new_name}
-use Rattle.vyrd_base.specs.Own.Outer.{is_past_constants, constant_read, register_read}
-use Rattle.vyrd_base.specs.Own.Outer.{list_line_read, holds_read, is_list, hidden_read}
-use Rattle.vyrd_base.specs.Own.Outer.{part_of, part_read, is_part, part_scope, shows_read}
-use Rattle.vyrd_base.specs.Own.Outer.{outer_read}
-use Rattle.vyrd_base.specs.Own.Methods.{last_in, is_closed, is_unfinished, is_method}
-use Rattle.vyrd_base.specs.Own.Methods.{parameters_read, named_method, method_read}
-use Rattle.vyrd_base.specs.Own.Methods.{method_scope, named_expr, naming_read, answer_read}
-use Rattle.vyrd_base.specs.Own.Methods.{allow_read, inner_read}
-use Rattle.vyrd_base.specs.Own.Changes.{changes_in, change_read, case_line_read, if_line}
-use Rattle.vyrd_base.specs.Own.Changes.{within_read}
-use Rattle.vyrd_base.specs.Own.Reader.{is_remark, of_method, method_line_read, or_method, line_read}
-use Rattle.vyrd_base.specs.Own.Reader.{SoFar, nothing_read, unfinished}
-use Rattle.vyrd_base.specs.Own.Reader.{ended_with, told, read_next, read_lines, written_in}
+use Rattle.vyrd_base.specs.Own.Outer.{constant_read, register_read, list_line_read, holds_read}
+use Rattle.vyrd_base.specs.Own.Outer.{hidden_read, part_of, part_read, shows_read, outer_read}
+use Rattle.vyrd_base.specs.Own.Methods.{last_in, parameters_read, method_read, naming_read}
+use Rattle.vyrd_base.specs.Own.Methods.{answer_read, allow_read, inner_read}
+use Rattle.vyrd_base.specs.Own.Changes.{case_line_read, if_line, within_read}
+use Rattle.vyrd_base.specs.Own.Reader.{of_method, method_line_read, or_method, line_read, SoFar}
+use Rattle.vyrd_base.specs.Own.Reader.{nothing_read, unfinished, ended_with, told, read_next}
+use Rattle.vyrd_base.specs.Own.Reader.{read_lines, written_in}
 use Rattle.vyrd_base.specs.declared.own.last.Last.{Last}
 use Rattle.vyrd_base.specs.declared.own.line.SpecificationLine.{SpecificationLine}
 use Rattle.vyrd_base.specs.declared.own.rule.SpecificationRule.{SpecificationRule}

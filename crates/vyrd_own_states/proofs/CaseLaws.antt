@@ -8,7 +8,7 @@ use Rattle.vyrd_base.specs.declared.own.effect.Effect.{Effect}
 use Rattle.vyrd_base.specs.States.{State}
 use Rattle.vyrd_base.specs.Own.Expressions.{holds, value}
 use Rattle.vyrd_base.specs.Own.Programs.{Case, Method, Written}
-use Rattle.vyrd_base.specs.Own.Steps.{at_hand, effects_of, next_of, with_effects}
+use Rattle.vyrd_base.specs.Own.Steps.{at_hand, next_of, with_effects}
 
 -- none of them holds if there is none of which something is said
 none_holds : {A : Type 0} (s : State) (values : List ℕ) (f : Case → A) (cases : List Case)

@@ -14,7 +14,3 @@ item_more f n first before after item so is next =
     ∙ append_assoc first (map f (numbers_below n)) (f n ∷ [])
     ∙ ap (λ xs. first ++ xs) (sym (ap (map f) (numbers_below-push n)
     ∙ map-append f (numbers_below n) (n ∷ [])))
-
--- four lists of them
-pub four_behind : (t a b c d : List Item) → t ++ a ++ b ++ c ++ d ≡ t ++ (a ++ b ++ c ++ d)
-four_behind t a b c d = simp (append_assoc)

@@ -1,12 +1,11 @@
 -- What own words show after one of them has changed, of all whole parts.
-use Rattle.std.proofs.Common.{◌≡◌, ℕ, ◌*◌, ◌/◌, ◌<◌, ◌≤◌, List, length-set, set, take, ap, ◌∙◌, sym}
+use Rattle.std.proofs.Common.{◌≡◌, ℕ, ◌<◌, ◌≤◌, List, length-set, set, take}
 use Rattle.std.proofs.lemmas.List.{take-set-le}
 use Rattle.std.proofs.Math.Seq.{take-set-lt}
 use Rattle.vyrd_base.specs.Amounts.{amount_of}
 use Rattle.vyrd_base.specs.Own.OwnRules.{own_view}
 use Rattle.vyrd_base.specs.Own.Programs.{Written}
 use Rattle.vyrd_base.specs.Rules.{Charter, rules_by}
-use Rattle.vyrd_own_spec.specs.Parts.{width_of}
 use Rattle.vyrd_own_states.proofs.OwnShownLaws.{AreWhole, whole_seen}
 
 module _ {p : Written} {charter : Charter} {words : List ℕ} {whole : ℕ}
@@ -14,7 +13,7 @@ module _ {p : Written} {charter : Charter} {words : List ℕ} {whole : ℕ}
     (is : before ≡ amount_of ((rules_by charter).view (set words w v)) q) where
   -- the same of the words with the other value
   changed_whole : AreWhole p charter (set words w v) whole
-  changed_whole = record { is = cc (known.is, length-set words w v); seen = known.seen; }
+  changed_whole = record { is = cc (known.is, length-set words w v); seen = known.seen }
 
   -- a word behind them shows nothing
   pub behind_whole : whole ≤ w → before ≡ amount_of ((rules_by charter).view words) q

@@ -1,11 +1,11 @@
 -- What the parts of own words give, each by its number.
-use Rattle.std.proofs.Common.{◌≡◌, ℕ, ◌+◌, ◌*◌, ◌/◌, ◌<◌, ◌≤◌, Bool, true, false, cond, List, []}
-use Rattle.std.proofs.Common.{◌∷◌, ◌++◌, length, take, refl, ap, ◌∙◌, sym, arith}
-use Rattle.std.specs.Prelude.{◌==◌, flat_map, slice_range, slice_index_or}
+use Rattle.std.proofs.Common.{◌≡◌, ℕ, ◌*◌, ◌/◌, ◌<◌, Bool, true, false, cond, List, [], ◌∷◌, ◌++◌}
+use Rattle.std.proofs.Common.{length, take, refl, ap, ◌∙◌, sym, arith}
+use Rattle.std.specs.Prelude.{◌==◌, flat_map, slice_index_or}
 use Rattle.vyrd_base.specs.declared.header.Header.{Header}
 use Rattle.vyrd_base.specs.declared.subject.Subject.TheVariants.{Own}
 use Rattle.vyrd_base.specs.Amounts.{given}
-use Rattle.vyrd_base.specs.Layout.{plain_words, plain_words_of}
+use Rattle.vyrd_base.specs.Layout.{plain_words}
 use Rattle.vyrd_base.specs.Own.Programs.{Written}
 use Rattle.vyrd_base.specs.Own.Reader.{written_in}
 use Rattle.vyrd_base.specs.Own.Steps.{part_gives, part_words}

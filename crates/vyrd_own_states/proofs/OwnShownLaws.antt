@@ -1,8 +1,7 @@
 -- The words of all whole parts show what all words show.
-use Rattle.std.proofs.Common.{◌≡◌, ℕ, zero, suc, ◌+◌, ◌-◌, ◌*◌, ◌/◌, ◌<◌, ◌≤◌, Bool, true, false}
-use Rattle.std.proofs.Common.{cond, List, [], ◌++◌, length, take, drop, refl, ap, ◌∙◌, sym}
-use Rattle.std.proofs.Common.{arith}
-use Rattle.std.specs.Prelude.{◌≢◌, ◌==◌, flat_map}
+use Rattle.std.proofs.Common.{◌≡◌, ℕ, zero, suc, ◌+◌, ◌-◌, ◌*◌, ◌/◌, ◌<◌, ◌≤◌, List, ◌++◌, length}
+use Rattle.std.proofs.Common.{take, drop, refl, ap, ◌∙◌, sym, arith}
+use Rattle.std.specs.Prelude.{flat_map}
 use Rattle.std.proofs.lemmas.List.{drop-take, take-take, length-take}
 use Rattle.std.proofs.lemmas.Nat.{div-mul-add}
 use Rattle.std.proofs.Math.Nat.{div-add-mod}
@@ -17,7 +16,6 @@ use Rattle.vyrd_base.specs.Own.Reader.{written_in}
 use Rattle.vyrd_base.specs.Own.Steps.{part_gives, part_words, view_of}
 use Rattle.vyrd_base.specs.Rules.{Charter, own, rules_by}
 use Rattle.vyrd_base.proofs.TestLaws.{apart_of}
-use Rattle.vyrd_view.proofs.DecodedLaws.{part_within}
 use Rattle.vyrd_own_spec.specs.Parts.{width_of}
 
 -- ---- words behind the last whole part

@@ -1,7 +1,7 @@
 -- What the pairs of parts give to a key, one place and one part after the other.
-use Rattle.std.proofs.Common.{◌≡◌, ℕ, ◌+◌, ◌*◌, ◌<◌, List, map, get_or, refl, ap, ◌∙◌, sym, arith}
+use Rattle.std.proofs.Common.{◌≡◌, ℕ, ◌+◌, ◌*◌, ◌<◌, List, map, get_or, arith}
 use Rattle.std.specs.Prelude.{◌≢◌, flat_map, slice_range}
-use Rattle.vyrd_base.specs.Amounts.{Amounts, amount_of, collected, given, part_given}
+use Rattle.vyrd_base.specs.Amounts.{Amounts, amount_of, collected, given}
 use Rattle.vyrd_base.specs.Places.{numbers_below}
 use Rattle.vyrd_base.proofs.PlaceLaws.{map_alike}
 use Rattle.vyrd_base.proofs.SumLaws.{own_part, other_part, amount_of-collected}

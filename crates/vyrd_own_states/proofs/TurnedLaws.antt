@@ -1,10 +1,10 @@
 -- What words show after one of them has changed: only what its part gives can be other than before.
-use Rattle.std.proofs.Common.{◌≡◌, ◌≢◌, ℕ, ◌+◌, ◌-◌, ◌*◌, ◌/◌, ◌<◌, ◌≤◌, Bool, true, false, List}
-use Rattle.std.proofs.Common.{length, length-set, set, take, drop, refl, ap, ◌∙◌, sym, arith}
-use Rattle.std.specs.Prelude.{nat_lt, flat_map, map, slice_range}
+use Rattle.std.proofs.Common.{◌≡◌, ◌≢◌, ℕ, ◌+◌, ◌-◌, ◌*◌, ◌/◌, ◌<◌, ◌≤◌, List, length, length-set}
+use Rattle.std.proofs.Common.{set, take, drop, ap, ◌∙◌, arith}
+use Rattle.std.specs.Prelude.{flat_map, slice_range}
 use Rattle.std.proofs.lemmas.List.{drop-set-lt, drop-set-add, take-set-le}
 use Rattle.std.proofs.Math.Seq.{take-set-lt}
-use Rattle.std.proofs.Math.Nat.{mod-add-div', mod-lt, mul-le-mul_right}
+use Rattle.std.proofs.Math.Nat.{mod-add-div', mod-lt}
 use Rattle.vyrd_base.specs.Amounts.{Amounts, amount_of, collected, given}
 use Rattle.vyrd_base.specs.Places.{numbers_below}
 use Rattle.vyrd_base.proofs.TestLaws.{below_of, not_below_of}

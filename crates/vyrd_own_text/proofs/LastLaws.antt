@@ -1,9 +1,8 @@
 -- The last of a list, changed.
 use Rattle.std.proofs.Common.{◌≡◌, ℕ, List, [], ◌∷◌, ◌++◌, length, Some, refl, ap, ◌∙◌}
 use Rattle.std.proofs.Common.{arith, length-append}
-use Rattle.std.specs.Prelude.{◌-◌, slice_get}
+use Rattle.std.specs.Prelude.{slice_get}
 use Rattle.vyrd_own_text.specs.declared.took.Took.{Took}
-use Rattle.vyrd_own_text.specs.declared.took.Took.TheVariants.{In}
 use Rattle.vyrd_base.specs.Own.Reading.{Taken}
 use Rattle.vyrd_base.specs.Own.Programs.{Change, Case, Method, Written}
 use Rattle.vyrd_base.specs.Own.Lines.{Inner, inner, holding, with_change, with_inner, with_line}

@@ -1,7 +1,7 @@
 -- How the open blocks, and the effects before a place, change with one more entry.
 use Rattle.std.proofs.Common.{◌≡◌, ℕ, ◌+◌, ◌<◌, true, false, ◌&&◌, List, [], ◌∷◌, ◌++◌, length}
 use Rattle.std.proofs.Common.{take, drop, replicate, set, Option, Some, None, slice_get, refl, ap}
-use Rattle.std.proofs.Common.{subst, ◌∙◌, sym, arith, length-append}
+use Rattle.std.proofs.Common.{◌∙◌, sym, arith, length-append}
 use Rattle.std.specs.Prelude.{◌==◌, unwrap_or}
 use Rattle.std.proofs.Math.Seq.{drop-append_seam}
 use Rattle.std.proofs.lemmas.List.{drop-append-le, length-take}
@@ -14,8 +14,7 @@ use Rattle.vyrd_base.specs.Places.{newest_first}
 use Rattle.vyrd_base.specs.Callers.{open_or_close, has_block, commit_or_open}
 use Rattle.vyrd_base.specs.Callers.{has_inner_commit}
 use Rattle.vyrd_base.specs.Layout.{plain_words}
-use Rattle.vyrd_base.specs.Words.{with_write, block_writes, effects_at, effects, words_with}
-use Rattle.vyrd_base.specs.Words.{words_at}
+use Rattle.vyrd_base.specs.Words.{with_write, block_writes, effects_at, effects, words_at}
 use Rattle.vyrd_base.proofs.PlaceLaws.{newest_first-push}
 use Rattle.vyrd_base.proofs.BlockLaws.{entry, by_same, own_answer, other_answer, no_answer}
 use Rattle.vyrd_base.proofs.BlockLaws.{own_writes, other_writes, own_block}

@@ -3,7 +3,6 @@ use Rattle.std.proofs.Common.{◌≡◌, ◌⊎◌, inl, inr, ℕ, ◌+◌, Bool
 use Rattle.std.proofs.Common.{List, [], ◌∷◌, take, drop, set, Option, Some, None, Result, slice_get}
 use Rattle.std.proofs.Common.{refl, ap, subst, ◌∙◌, sym}
 use Rattle.std.specs.Prelude.{◌==◌, option_map, option_and_then}
-use Rattle.std.specs.Option.{option_and}
 use Rattle.std.specs.List.{list_any}
 use Rattle.std.specs.Result.{IfOk}
 use Rattle.vyrd_base.specs.declared.subject.Method.{Method}
@@ -31,7 +30,7 @@ use Rattle.vyrd_base.proofs.BlockLaws.{entry, own_answer}
 use Rattle.vyrd_plain.specs.declared.execution.Execution.{Execution}
 use Rattle.vyrd_plain.specs.declared.outcome.Outcome.{Outcome}
 use Rattle.vyrd_plain.specs.declared.outcome.Outcome.TheVariants.{Goes, Faults, Ends}
-use Rattle.vyrd_plain.specs.Executions.{is_reply, answers, begun, IsExecution}
+use Rattle.vyrd_plain.specs.Executions.{answers, begun, IsExecution}
 use Rattle.vyrd_plain.specs.Tracking.{Tracks}
 use Rattle.vyrd_base.specs.Entries.{place_of}
 use Rattle.vyrd_plain.specs.Outcomes.{CommitGives, PlaceGives, return_outcome}

@@ -1,7 +1,5 @@
 -- What a commit leads to, by what its steps answered.
-use Rattle.std.proofs.Common.{◌≡◌, ℕ, Option, Some, None, ap, subst, ◌∙◌}
-use Rattle.std.specs.Prelude.{option_map}
-use Rattle.vyrd_base.specs.declared.verdict.Why.{Why}
+use Rattle.std.proofs.Common.{◌≡◌, ℕ, Option, Some, None, subst}
 use Rattle.vyrd_base.specs.declared.verdict.Why.TheVariants.{Reply, View}
 use Rattle.vyrd_base.specs.Amounts.{Amounts, first_difference}
 use Rattle.vyrd_base.specs.States.{State}

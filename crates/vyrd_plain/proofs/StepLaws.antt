@@ -22,7 +22,7 @@ use Rattle.vyrd_base.specs.Callers.{Called, open_call}
 use Rattle.vyrd_base.specs.Shape.{broken_rule}
 use Rattle.vyrd_base.specs.Front.{first_break}
 use Rattle.vyrd_base.specs.States.{State}
-use Rattle.vyrd_base.specs.Commits.{commits, commit_count, states_of}
+use Rattle.vyrd_base.specs.Commits.{commits, commit_count}
 use Rattle.vyrd_base.specs.Faults.{fault_at}
 use Rattle.vyrd_base.specs.Verdicts.{line_of, violation_at, states_along, first_fault}
 use Rattle.vyrd_base.proofs.BlockLaws.{entry}

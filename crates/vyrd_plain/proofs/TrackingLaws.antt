@@ -1,6 +1,6 @@
 -- What tracks a front up to a place tracks it up to the next one, entry by entry.
-use Rattle.std.proofs.Common.{◌≡◌, ℕ, ◌+◌, true, false, cond, ◌&&◌, List, [], ◌∷◌, map, drop, set}
-use Rattle.std.proofs.Common.{Option, Some, None, slice_get, refl, ap, subst, ◌∙◌, sym}
+use Rattle.std.proofs.Common.{◌≡◌, ℕ, ◌+◌, true, false, List, [], ◌∷◌, map, drop, set, Option, Some}
+use Rattle.std.proofs.Common.{None, slice_get, refl, ap, subst, ◌∙◌, sym}
 use Rattle.std.specs.Prelude.{◌==◌, option_map}
 use Rattle.std.specs.Option.{option_flatten}
 use Rattle.std.specs.List.{list_any}
@@ -12,7 +12,6 @@ use Rattle.vyrd_base.specs.declared.log.Kind.{Kind}
 use Rattle.vyrd_base.specs.declared.log.Kind.TheVariants.{Call, Return}
 use Rattle.vyrd_base.specs.declared.log.Entry.{Entry}
 use Rattle.vyrd_base.specs.Callers.{Called, call_or_return, commit_or_call, is_call}
-use Rattle.vyrd_base.specs.Callers.{entries_before_call}
 use Rattle.vyrd_base.specs.States.{State}
 use Rattle.vyrd_base.specs.Commits.{is_commit, returned, next_reply, Committed, committed_at}
 use Rattle.vyrd_base.specs.Commits.{commits_after, state_after, states_from, commit_count}

@@ -1,12 +1,11 @@
 -- Laws of the events that are held by their numbers.
-use Rattle.std.proofs.Common.{◌≡◌, ◌≢◌, ℕ, zero, suc, ◌+◌, ◌-◌, ◌<◌, ◌≤◌, List, [], ◌∷◌, ◌++◌}
-use Rattle.std.proofs.Common.{length, set, get_or, take, drop, replicate, Bool, true, false, cond}
-use Rattle.std.proofs.Common.{ltb, Option, Some, None, refl, sym, ap, ◌∙◌, arith, eq-eqb, ne_eqb}
-use Rattle.std.specs.Prelude.{◌==◌, slice_index_or, slice_set, ◌||◌, is_some, if◌then◌else◌}
-use Rattle.std.proofs.lemmas.List.{take_all, get_or-set_same, get_or-set_other, get_or-drop}
-use Rattle.std.proofs.lemmas.Bool.Decides.{nat_tests}
+use Rattle.std.proofs.Common.{◌≡◌, ℕ, zero, suc, ◌+◌, ◌-◌, ◌<◌, ◌≤◌, List, [], ◌∷◌, ◌++◌, length}
+use Rattle.std.proofs.Common.{take, drop, replicate, false, Option, None, refl, sym, ◌∙◌, arith}
+use Rattle.std.proofs.Common.{eq-eqb, ne_eqb}
+use Rattle.std.specs.Prelude.{◌==◌, slice_index_or, slice_set, is_some, if◌then◌else◌}
+use Rattle.std.proofs.lemmas.List.{take_all, get_or-set_same, get_or-set_other}
 use mathlib.Core.Logic.{dite}
-use native.Mathlib.Decide.{ℕ_discrete, dec_lt}
+use native.Mathlib.Decide.{ℕ_discrete}
 use Rattle.std.specs.Ordering.{nat_cmp}
 use Rattle.std.specs.Map.{lookup}
 use Rattle.std.specs.BTreeMap.{is_at}

@@ -1,8 +1,8 @@
 -- Where the writes stand that blocks keep.
-use Rattle.std.proofs.Common.{◌≡◌, ℕ, suc, zero, ◌+◌, ◌-◌, ◌<◌, Bool, true, false, cond}
-use Rattle.std.proofs.Common.{◌||◌, List, [], ◌∷◌, ◌++◌, length, Option, Some, None, refl, ap, ◌∙◌}
-use Rattle.std.proofs.Common.{sym, subst, arith, get_or, set, get_or-set_other, get_or-set_same}
-use Rattle.std.proofs.Common.{length-set, length-append}
+use Rattle.std.proofs.Common.{◌≡◌, ℕ, suc, zero, ◌+◌, ◌<◌, Bool, true, false, cond, ◌||◌, List, []}
+use Rattle.std.proofs.Common.{◌∷◌, ◌++◌, length, Option, Some, None, refl, ap, ◌∙◌, sym, subst}
+use Rattle.std.proofs.Common.{arith, get_or, set, get_or-set_other, get_or-set_same, length-set}
+use Rattle.std.proofs.Common.{length-append}
 use Rattle.std.specs.Prelude.{◌==◌, unwrap_or, is_some}
 use Rattle.std.specs.List.{list_any}
 use Rattle.std.proofs.Math.ListN.{get_or-append}
@@ -104,13 +104,6 @@ pub not_kept : (blocks : List (Option (List (ℕ × ℕ)))) (holders : List (ℕ
     → is_at (get_or holders w (0, 0)).1 w (kept_by blocks c) ≡ false → (i : ℕ)
     → is_at i w (kept_by blocks c) ≡ false
 not_kept blocks holders c w placed nowhere i = grind (arith, placed, nowhere, is_at, never)
-
--- and if no other caller keeps it, it is new
-pub new_word : (blocks : List (Option (List (ℕ × ℕ)))) (holders : List (ℕ × ℕ)) (c w : ℕ)
-    → ArePlaced blocks holders → IsFree blocks c w
-    → is_at (get_or holders w (0, 0)).1 w (kept_by blocks c) ≡ false → (d i : ℕ)
-    → is_at i w (kept_by blocks d) ≡ false
-new_word blocks holders c w placed free nowhere d i = search (is_at, never, not_kept, arith)
 
 -- a new word comes last
 pub pushed_is : (ws : List (ℕ × ℕ)) (w v : ℕ) → ((i : ℕ) → is_at i w ws ≡ false) → ws ++ (w, v) ∷ []

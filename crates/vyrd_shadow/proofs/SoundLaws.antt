@@ -1,6 +1,6 @@
 -- What stays true of the words, the blocks and the changed words.
 use Rattle.std.proofs.Common.{◌≡◌, ℕ, ◌+◌, ◌^◌, ◌<◌, ◌≤◌, ◌-◌, List, [], length, length-append}
-use Rattle.std.proofs.Common.{Option, Some, None, ap, ◌∙◌, sym, subst, arith, get_or, set}
+use Rattle.std.proofs.Common.{Option, Some, None, ◌∙◌, sym, subst, arith, get_or, set}
 use Rattle.std.proofs.Common.{get_or-set_other, get_or-set_same, length-set, take, drop, ◌++◌}
 use Rattle.std.specs.Prelude.{unwrap_or}
 use Rattle.std.specs.List.{All}

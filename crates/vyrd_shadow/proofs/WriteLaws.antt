@@ -1,6 +1,5 @@
 -- The writes that are left, of those that take effect.
-use Rattle.std.proofs.Common.{◌≡◌, ℕ, ◌+◌, List, [], ◌∷◌, ◌++◌, refl}
-use Rattle.std.proofs.Common.{set}
+use Rattle.std.proofs.Common.{◌≡◌, ℕ, List, [], ◌∷◌, ◌++◌, refl, set}
 use Rattle.vyrd_shadow.specs.Blocks.{with_writes}
 
 -- writes in two parts

@@ -1,7 +1,7 @@
 -- Where a write last took effect on a word: what one more entry changes, and which words are
 -- passed.
-use Rattle.std.proofs.Common.{◌≡◌, ℕ, ◌+◌, ◌≤◌, max, Bool, true, false, cond, not, ◌&&◌, ◌||◌, List}
-use Rattle.std.proofs.Common.{[], ◌∷◌, ◌++◌, length, Some, None, refl, ap, ◌∙◌, sym, subst, arith}
+use Rattle.std.proofs.Common.{◌≡◌, ℕ, ◌+◌, ◌≤◌, Bool, true, false, cond, not, ◌&&◌, ◌||◌, List, []}
+use Rattle.std.proofs.Common.{◌∷◌, ◌++◌, length, Some, None, refl, ap, ◌∙◌, sym, arith}
 use Rattle.std.specs.Prelude.{◌==◌, nat_lt, is_some}
 use Rattle.std.specs.Option.{option_or}
 use Rattle.std.proofs.lemmas.List.Folds.{list_any-append}
@@ -16,10 +16,9 @@ use Rattle.vyrd_base.specs.Shape.{broken_rule}
 use Rattle.vyrd_base.specs.Words.{block_writes, effects_at, effects_of_others, given_to}
 use Rattle.vyrd_base.specs.Words.{is_lone_commit}
 use Rattle.vyrd_base.specs.Front.{WellFormed}
-use Rattle.vyrd_base.proofs.BlockLaws.{entry, by_same, wrote, wrote_is}
+use Rattle.vyrd_base.proofs.BlockLaws.{entry, by_same, wrote_is}
 use Rattle.vyrd_base.proofs.EffectLaws.{SameEffects, MoreAtCommit, ends_block, same_after}
-use Rattle.vyrd_base.proofs.EffectLaws.{more_after, own_inner, other_inner, committed_since_open}
-use Rattle.vyrd_base.proofs.EffectLaws.{never}
+use Rattle.vyrd_base.proofs.EffectLaws.{more_after, own_inner, other_inner, never}
 use Rattle.vyrd_base.proofs.EffectLaws.MoreAt.{at_commit, own, other}
 use Rattle.vyrd_base.proofs.ShadowLaws.{close_kept, block_commit_kept}
 use Rattle.vyrd_base.proofs.TestLaws.{same_number, is_same, is_below, isnt_below, first_true}

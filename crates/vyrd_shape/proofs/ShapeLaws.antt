@@ -1,9 +1,9 @@
 -- How phases and holders go on with one more entry.
 use Rattle.std.proofs.Common.{◌≡◌, ◌≢◌, ℕ, suc, zero, ◌+◌, ◌-◌, ◌<◌, ◌≤◌, Bool, true, false, cond}
-use Rattle.std.proofs.Common.{not, ◌&&◌, ◌||◌, List, [], ◌∷◌, length, map, Option, Some, None, refl}
-use Rattle.std.proofs.Common.{ap, ◌∙◌, sym, subst, arith, get_or, set, slice_get, get_or-set_other}
+use Rattle.std.proofs.Common.{◌&&◌, ◌||◌, List, [], ◌∷◌, length, map, Option, Some, None, refl, ap}
+use Rattle.std.proofs.Common.{◌∙◌, sym, subst, arith, get_or, set, slice_get, get_or-set_other}
 use Rattle.std.proofs.Common.{get_or-set_same}
-use Rattle.std.specs.Prelude.{◌==◌, nat_lt, unwrap_or, option_map, is_some, is_none, replicate}
+use Rattle.std.specs.Prelude.{◌==◌, nat_lt, option_map, is_some, is_none, replicate}
 use Rattle.std.specs.Option.{option_or}
 use Rattle.std.specs.Bool.{then_some}
 use Rattle.std.proofs.lemmas.Option.{get_or_from_slice_get}
@@ -16,7 +16,7 @@ use Rattle.vyrd_base.specs.declared.log.Kind.TheVariants.{Call, Return, Write, C
 use Rattle.vyrd_base.specs.declared.log.Kind.TheVariants.{BlockClose, BlockCommit}
 use Rattle.vyrd_base.specs.declared.log.Entry.{Entry}
 use Rattle.vyrd_base.specs.declared.verdict.Rule.{Rule}
-use Rattle.vyrd_base.specs.Places.{first_answer, numbers_from}
+use Rattle.vyrd_base.specs.Places.{numbers_from}
 use Rattle.vyrd_base.specs.Layout.{plain_words}
 use Rattle.vyrd_base.specs.Callers.{Called, by_caller}
 use Rattle.vyrd_base.specs.Callers.{open_or_close, write_or_open, open_call}
@@ -87,10 +87,6 @@ holds_quiet d c w kind earlier edge word = grind (arith, no_answer)
 -- a word is held by whom its holder says
 abbrev pub Held : List ℕ → ℕ → ℕ → List Entry → Type 0
 Held by_word d w earlier = holds_word d w earlier ≡ (get_or by_word w 0 == d + 1)
-
-no_block_no_word : (c w : ℕ) (earlier : List Entry) → has_block c earlier ≡ false
-    → holds_word c w earlier ≡ false
-no_block_no_word c w earlier e = cc
 
 held_open : (by_word : List ℕ) (c d w : ℕ) (earlier : List Entry) → has_block c earlier ≡ false
     → Held by_word d w earlier

@@ -1,7 +1,6 @@
 -- The steps of string buffers.
-use Rattle.std.proofs.Common.{◌≡◌, ◌≢◌, ℕ, ◌+◌, ◌^◌, ◌%◌, ◌<◌, ◌≤◌, Bool, true, false, cond, not}
-use Rattle.std.proofs.Common.{[], ◌∷◌}
-use Rattle.std.proofs.Common.{Some, refl, ap, ◌∙◌, sym, arith}
+use Rattle.std.proofs.Common.{◌≡◌, ◌≢◌, ℕ, ◌+◌, ◌^◌, ◌%◌, ◌<◌, ◌≤◌, Bool, true, false, cond, []}
+use Rattle.std.proofs.Common.{◌∷◌, Some, refl, ap, ◌∙◌, sym, arith}
 use Rattle.std.specs.Prelude.{◌==◌, nat_lt}
 use Rattle.std.proofs.Math.Nat.{mod-lt, one-le-pow, pow-le-pow_right}
 use Rattle.vyrd_base.specs.declared.buffers.BuffersMethod.{BuffersMethod}
@@ -18,11 +17,9 @@ use Rattle.vyrd_base.proofs.TextLaws.{length_at_most, joined_below, cut_below}
 use Rattle.vyrd_spec.specs.Bounds.{AreTexts}
 use Rattle.vyrd_spec.specs.Touching.{is_touched, CanChange}
 use Rattle.vyrd_spec.specs.Touching.Buffers.{touches}
-use Rattle.vyrd_spec.proofs.StepLaws.{StepsWell, Stays, by_replies, where_allowed, where_true}
-use Rattle.vyrd_spec.proofs.StepLaws.{other_key}
-use Rattle.vyrd_spec.proofs.StepLaws.{or_false, same_amount, of_first, set_amount, lone}
-use Rattle.vyrd_spec.proofs.StepLaws.{lone_amount}
-use Rattle.vyrd_spec.proofs.StepLaws.{lone_formed, AllAmounts-with_amount}
+use Rattle.vyrd_spec.proofs.StepLaws.{StepsWell, by_replies, other_key, or_false, same_amount}
+use Rattle.vyrd_spec.proofs.StepLaws.{of_first, set_amount, lone, lone_amount, lone_formed}
+use Rattle.vyrd_spec.proofs.StepLaws.{AllAmounts-with_amount}
 
 -- what holds of a state, and of the one with a text appended to a buffer, holds after an append
 by_append : (Q : Amounts → Type 0) (reply b more : ℕ) (s t : Amounts) → Q s

@@ -1,10 +1,6 @@
 -- The pairs that chunks of words show.
-use Rattle.std.proofs.Common.{◌≡◌, ℕ, ◌^◌, ◌<◌, Bool, true, false, cond, not, ◌&&◌, ◌||◌, List}
-use Rattle.std.proofs.Common.{[], ◌∷◌, arith}
-use Rattle.std.specs.Prelude.{◌==◌}
-use Rattle.vyrd_base.specs.Cache.{Chunk, chunk_at, is_chunk, chunk_parts, pair_amount, cached_pair}
-use Rattle.vyrd_base.specs.Cache.{stored_pair}
-use Rattle.vyrd_base.specs.Cache.{is_sound_chunk}
+use Rattle.std.proofs.Common.{◌≡◌, ℕ, ◌^◌, ◌<◌, Bool, true, List, [], ◌∷◌, arith}
+use Rattle.vyrd_base.specs.Cache.{chunk_at, chunk_parts, pair_amount, is_sound_chunk}
 use Rattle.vyrd_base.proofs.TestLaws.{first_true, second_true, below_of}
 use Rattle.vyrd_spec.specs.Chunks.{shown_pair}
 

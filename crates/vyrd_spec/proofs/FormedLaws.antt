@@ -13,10 +13,9 @@ use Rattle.vyrd_base.specs.Amounts.{IsAmounts}
 use Rattle.vyrd_base.specs.Own.Programs.{Written}
 use Rattle.vyrd_base.specs.Own.OwnRules.{own_method, own_next}
 use Rattle.vyrd_base.specs.Own.Reader.{written_in}
-use Rattle.vyrd_base.specs.Own.Steps.{with_effect, with_effects, effects_of, next_of}
+use Rattle.vyrd_base.specs.Own.Steps.{with_effect, with_effects, next_of}
 use Rattle.vyrd_base.specs.Rules.{Charter, built_in, own, rules_by, given}
-use Rattle.vyrd_base.specs.Specification.{next_state}
-use Rattle.vyrd_base.specs.States.{State, showing}
+use Rattle.vyrd_base.specs.States.{State}
 use Rattle.vyrd_base.specs.Subjects.{own_number}
 use Rattle.vyrd_base.proofs.AmountLaws.{IsAmounts-with_amount, no_amounts}
 use Rattle.vyrd_spec.proofs.StepMeets.{next_state-formed}

@@ -1,7 +1,6 @@
 -- The steps of the multiset.
-use Rattle.std.proofs.Common.{◌≡◌, ℕ, ◌+◌, ◌-◌, ◌^◌, ◌<◌, ◌≤◌, true, false, not, ◌||◌}
-use Rattle.std.proofs.Common.{[]}
-use Rattle.std.proofs.Common.{Some, refl, ap, ◌∙◌, arith}
+use Rattle.std.proofs.Common.{◌≡◌, ℕ, ◌+◌, ◌-◌, ◌^◌, ◌<◌, ◌≤◌, true, false, not, ◌||◌, [], Some}
+use Rattle.std.proofs.Common.{refl, ap, arith}
 use Rattle.std.specs.Prelude.{◌==◌, ◌≢◌}
 use Rattle.std.specs.Bool.{then_some}
 use Rattle.vyrd_base.specs.declared.multiset.MultisetMethod.{MultisetMethod}
@@ -17,11 +16,9 @@ use Rattle.vyrd_base.proofs.TestLaws.{same_of, apart_of, neither_true, same_numb
 use Rattle.vyrd_spec.specs.Bounds.{AllAmounts}
 use Rattle.vyrd_spec.specs.Touching.{is_touched, CanChange}
 use Rattle.vyrd_spec.specs.Touching.Multiset.{touches}
-use Rattle.vyrd_spec.proofs.StepLaws.{StepsWell, Stays, by_replies, where_allowed, other_key}
-use Rattle.vyrd_spec.proofs.StepLaws.{or_false}
+use Rattle.vyrd_spec.proofs.StepLaws.{StepsWell, by_replies, where_allowed, other_key, or_false}
 use Rattle.vyrd_spec.proofs.StepLaws.{of_first, set_amount, lone, lone_amount, lone_formed}
-use Rattle.vyrd_spec.proofs.StepLaws.{lone_present}
-use Rattle.vyrd_spec.proofs.StepLaws.{AllAmounts-with_amount}
+use Rattle.vyrd_spec.proofs.StepLaws.{lone_present, AllAmounts-with_amount}
 
 -- a step leaves amounts
 formed : (method : MultisetMethod) (args : Args) (reply : ℕ) (s t : Amounts) → IsAmounts s

@@ -87,9 +87,6 @@ pushed : (n a : ℕ) (s : Amounts) → AllByRecursion (λ p. p.0 < n) s
 pushed n a [] all = (omega arith, tt)
 pushed n a (e ∷ s) all = (omega (arith, all.0), pushed n a s all.1)
 
-pub has_none : (row : List ℕ) → HasBelow row 0 []
-has_none row = grind arith
-
 pub has_pushed : (row : List ℕ) (n a : ℕ) (view : Amounts) → get_or row n 0 ≡ a → a ≢ 0
     → HasBelow row n view
     → HasBelow row (n + 1) (view ++ (n, a) ∷ [])

@@ -6,7 +6,7 @@ use Rattle.std.proofs.Common.{List, [], ◌∷◌, ◌++◌, map, length, Some, 
 use Rattle.std.proofs.Common.{◌∙◌, sym, arith, length-append}
 use Rattle.std.specs.Prelude.{◌==◌, ◌||◌, not, nat_le, filter, flat_map, option_map, T}
 use Rattle.std.specs.Bool.{then_some}
-use Rattle.std.specs.List.{list_any, list_all}
+use Rattle.std.specs.List.{list_any}
 use Rattle.std.specs.Ordering.{nat_cmp}
 use Rattle.std.specs.FinMap.Entries.{put, is_sorted, length-put}
 use Rattle.std.proofs.Math.Nat.{div-le_self}
@@ -29,7 +29,7 @@ use Rattle.vyrd_base.specs.Multiset.{slot_parts}
 use Rattle.vyrd_base.specs.Own.OwnRules.{own_view, own_shown, own_start}
 use Rattle.vyrd_base.specs.Own.Programs.{Written}
 use Rattle.vyrd_base.specs.Own.Reader.{written_in}
-use Rattle.vyrd_base.specs.Own.Steps.{given_by, part_gives, part_words, view_of}
+use Rattle.vyrd_base.specs.Own.Steps.{part_gives, part_words, view_of}
 use Rattle.vyrd_base.specs.Places.{numbers_from, numbers_below}
 use Rattle.vyrd_base.specs.Represented.{is_sound}
 use Rattle.vyrd_base.specs.Rules.{Rules, Charter, built_in, own, rules_by}

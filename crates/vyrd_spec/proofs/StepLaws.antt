@@ -44,11 +44,6 @@ pub where_allowed : (Q : Amounts → Type 0) (b : Bool) (s : Amounts) → Q s �
 where_allowed Q true s h = h
 where_allowed Q false s h = tt
 
-pub where_true : (Q : Amounts → Type 0) (b : Bool) (s : Amounts) → (b ≡ true → Q s)
-    → IfSome (then_some b s) Q
-where_true Q true s h = h refl
-where_true Q false s h = tt
-
 -- what holds of each key with its amount holds after a key gets an amount of which it holds
 pub AllAmounts-with_amount : (passes : ℕ → ℕ → Type 0) (s : Amounts) (k a : ℕ) → AllAmounts passes s
     → (a ≢ 0 → passes k a)

@@ -1,6 +1,6 @@
 -- The steps of the tree.
-use Rattle.std.proofs.Common.{◌≡◌, ℕ, ◌+◌, ◌-◌, ◌^◌, ◌<◌, ◌≤◌, true, false, not, [], Some}
-use Rattle.std.proofs.Common.{refl, ap, arith}
+use Rattle.std.proofs.Common.{◌≡◌, ℕ, ◌+◌, ◌^◌, ◌<◌, ◌≤◌, true, false, not, [], Some, refl, ap}
+use Rattle.std.proofs.Common.{arith}
 use Rattle.std.specs.Bool.{then_some}
 use Rattle.vyrd_base.specs.declared.tree.TreeMethod.{TreeMethod}
 use Rattle.vyrd_base.specs.declared.tree.TreeMethod.TheVariants.{Insert, Delete, Lookup}

@@ -1,12 +1,8 @@
 -- The built-in structures refuse each reply from 3 on.
-use Rattle.std.proofs.Common.{arith, ◌≡◌, ℕ, ◌≤◌, ◌-◌, suc, None}
+use Rattle.std.proofs.Common.{arith, ◌≡◌, ℕ, ◌≤◌, suc, None}
 use Rattle.vyrd_base.specs.declared.header.Header.{Header}
 use Rattle.vyrd_base.specs.declared.subject.Args.{Args}
 use Rattle.vyrd_base.specs.declared.subject.Method.{Method}
-use Rattle.vyrd_base.specs.declared.multiset.MultisetMethod.TheVariants as multiset
-use Rattle.vyrd_base.specs.declared.cache.CacheMethod.TheVariants as cache
-use Rattle.vyrd_base.specs.declared.tree.TreeMethod.TheVariants as tree
-use Rattle.vyrd_base.specs.declared.buffers.BuffersMethod.TheVariants as buffers
 use Rattle.vyrd_base.specs.Rules.{rules_of}
 use Rattle.vyrd_base.specs.States.{State}
 

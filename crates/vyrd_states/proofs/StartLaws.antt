@@ -1,6 +1,6 @@
 -- The words at the start are small, so that a specification can start from them.
-use Rattle.std.proofs.Common.{◌≡◌, ℕ, zero, suc, ◌+◌, ◌<◌, ◌^◌, Bool, true, false, not, cond, ◌||◌}
-use Rattle.std.proofs.Common.{List, [], ◌∷◌, ◌++◌, map, Option, Some, None, ap, arith}
+use Rattle.std.proofs.Common.{◌≡◌, ℕ, zero, suc, ◌+◌, ◌<◌, ◌^◌, Bool, true, false, cond, List, []}
+use Rattle.std.proofs.Common.{◌∷◌, ◌++◌, map, Option, Some, None, ap, arith}
 use Rattle.std.specs.Prelude.{◌==◌, All, unwrap_or, option_map, replicate}
 use Rattle.std.specs.Option.{option_or}
 use Rattle.std.proofs.lemmas.List.Elements.{All-nil, All-cons}
@@ -9,8 +9,8 @@ use Rattle.vyrd_base.specs.declared.log.StartWord.{StartWord}
 use Rattle.vyrd_base.specs.Layout.{lock_words}
 use Rattle.vyrd_base.specs.Places.{numbers_from, first_answer}
 use Rattle.vyrd_base.specs.Rules.{rules_of}
-use Rattle.vyrd_base.specs.Starts.{is_out_of_range, is_out_of_order, do_follow, may_start}
-use Rattle.vyrd_base.specs.Starts.{words_at_start, state_at_start}
+use Rattle.vyrd_base.specs.Starts.{is_out_of_range, do_follow, may_start, words_at_start}
+use Rattle.vyrd_base.specs.Starts.{state_at_start}
 use Rattle.vyrd_base.specs.States.{showing}
 use Rattle.vyrd_base.specs.Represented.{state_of_words}
 use Rattle.vyrd_base.specs.Words.{given_to, value_at_start}

@@ -1,7 +1,7 @@
 -- Laws of values by key.
 use Rattle.std.proofs.Common.{◌≡◌, ℕ, Bool, true, false, cond, not, List, [], ◌∷◌, Option, Some}
-use Rattle.std.proofs.Common.{None, refl, ap, ◌∙◌, sym, subst, T, arith, length, ◌+◌, ◌≤◌}
-use Rattle.std.specs.Prelude.{◌==◌, unwrap_or, filter, is_some}
+use Rattle.std.proofs.Common.{None, refl, ap, ◌∙◌, sym, T, arith, length, ◌+◌, ◌≤◌}
+use Rattle.std.specs.Prelude.{◌==◌, filter, is_some}
 use Rattle.std.specs.Ordering.{nat_cmp, eq_by_cmp, is_lt, match_ordering}
 use Rattle.std.specs.declared.cmp.Ordering.{Ordering}
 use Rattle.std.specs.declared.cmp.Ordering.TheVariants.{Less, Equal, Greater}

@@ -385,13 +385,6 @@ module _ {V : Type 0} (nothing : V) (is_nothing : V → Bool) where
       module _ (shift : ℕ) (places rest : List (ℕ × V)) (i q : ℕ) (v : V)
           (table : ArePlaces nothing is_nothing shift places rest)
           (found : IsFoundAt nothing shift places q (Some i)) where
-        pub found_places : ArePlaces nothing is_nothing shift (set places i (q, v)) rest
-        found_places =
-            written_places shift places rest table i q v (omega (arith, table.room q, found.0.1))
-            found.0 found.2
-            (others_of shift places rest table q i found) (λ taken. found.1)
-            (rest_found shift places rest table q i found)
-
         pub found_entries : entries_in is_nothing (set places i (q, v)) rest
             ≡ with_value is_nothing (entries_in is_nothing places rest) q v
         found_entries =

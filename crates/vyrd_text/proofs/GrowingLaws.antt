@@ -1,6 +1,6 @@
 -- What longer bytes say to a reader.
 use Rattle.std.proofs.Common.{◌≡◌, ℕ, ◌≤◌, ◌||◌, true, false, List, [], ◌++◌, Option, Some, None}
-use Rattle.std.proofs.Common.{refl, ap, sym, ◌∙◌}
+use Rattle.std.proofs.Common.{refl, ap, ◌∙◌}
 use Rattle.std.proofs.lemmas.List.{append-nil}
 use Rattle.vyrd_base.specs.declared.log.Entry.{Entry}
 use Rattle.vyrd_base.specs.declared.log.StartWord.{StartWord}
@@ -36,7 +36,7 @@ module _ (r : ReaderState) (bytes more : List ℕ) (low : 1 ≤ r.max_lines) whe
       by_fault : (o : Option TextFault) → old.fault ≡ o → (found : List Entry)
           × (new.entries ≡ old.entries ++ found)
       by_fault None e = grown.grown.entries e
-      by_fault (Some f) e = ([], cc (grown.grown.fault f e, append-nil old.entries),)
+      by_fault (Some f) e = ([], cc (grown.grown.fault f e, append-nil old.entries))
 
   pub starts_last : (found : List StartWord) × (new.starting ≡ old.starting ++ found)
   starts_last = by_fault old.fault refl
@@ -44,7 +44,7 @@ module _ (r : ReaderState) (bytes more : List ℕ) (low : 1 ≤ r.max_lines) whe
       by_fault : (o : Option TextFault) → old.fault ≡ o → (found : List StartWord)
           × (new.starting ≡ old.starting ++ found)
       by_fault None e = grown.grown.starting e
-      by_fault (Some f) e = ([], cc (grown.grown.fault f e, append-nil old.starting),)
+      by_fault (Some f) e = ([], cc (grown.grown.fault f e, append-nil old.starting))
 
   pub starts_stay : (has_any old.entries || old.ended) ≡ true → new.starting ≡ old.starting
   starts_stay begun = by_fault old.fault refl

@@ -4,7 +4,6 @@ use Rattle.std.proofs.Common.{Option, Some, None, Err, refl, ap, sym, ◌∙◌,
 use Rattle.std.specs.Prelude.{nat_lt, codes, decimal, ok_or}
 use Rattle.std.specs.List.{list_all}
 use Rattle.std.specs.Str.{bytes_eq}
-use Rattle.std.proofs.lemmas.List.{append_cancel_left}
 use Rattle.std.proofs.lemmas.Slice.Eq.{bytes_eq-Decides}
 use Rattle.std.proofs.Math.Bool.{Bool-set}
 use Rattle.vyrd_base.specs.declared.header.Header.{Header}

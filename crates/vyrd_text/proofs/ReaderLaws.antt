@@ -1,7 +1,6 @@
 -- How a reader goes on.
-use Rattle.std.proofs.Common.{◌≡◌, ℕ, ◌+◌, ◌≤◌, Bool, true, false, List, [], ◌∷◌, ◌++◌, length}
-use Rattle.std.proofs.Common.{Option, Some, None, refl, ap, sym, subst, ◌∙◌, arith, append_assoc}
-use Rattle.std.proofs.Common.{length-append}
+use Rattle.std.proofs.Common.{◌≡◌, ℕ, ◌≤◌, Bool, true, false, List, [], ◌∷◌, ◌++◌, Option, Some}
+use Rattle.std.proofs.Common.{None, refl, ap, sym, ◌∙◌, arith, append_assoc, length-append}
 use Rattle.std.specs.Prelude.{◌==◌, is_some, IsSome}
 use Rattle.std.specs.List.{slice_split}
 use Rattle.std.proofs.lemmas.List.{append-nil}
@@ -12,7 +11,7 @@ use Rattle.vyrd_base.specs.Reading.{Reading, TextFault, reading}
 use Rattle.vyrd_base.proofs.ReadingGrows.{reading_grows, input_of}
 use Rattle.vyrd_text.specs.Readers.{LineState, ReaderState, fresh, input_to, with_read, known}
 use Rattle.vyrd_text.specs.Readers.{unless_faulty, goes_on, Follows, HasRead}
-use Rattle.vyrd_text.specs.Ahead.{starts_in_lines, starts_ahead}
+use Rattle.vyrd_text.specs.Ahead.{starts_ahead}
 use Rattle.vyrd_text.specs.Steps.{with_line, IsTaken, IsLineTaken}
 
 -- what was read before, before what was read before

@@ -19,7 +19,7 @@ use Rattle.vyrd_trace.specs.declared.record.Record.{Record}
 use Rattle.vyrd_trace.specs.declared.plan.Plan.{Plan}
 use Rattle.vyrd_trace.specs.declared.record.Lane.{Lane}
 use Rattle.vyrd_trace.specs.declared.record.Stage.TheVariants.{Rest}
-use Rattle.vyrd_trace.specs.Rule.{Ghost, InHand, FitsCell, HasLane, Knows, TraceKept}
+use Rattle.vyrd_trace.specs.Rule.{Ghost, FitsCell, HasLane, Knows, TraceKept}
 use Rattle.vyrd_trace.specs.Records.{own_lane}
 use Rattle.vyrd_trace.specs.Hands.{HandView}
 use Rattle.vyrd_trace.proofs.Parts.{below, below_more, below_none, below_all}

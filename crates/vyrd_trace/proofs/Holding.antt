@@ -1,11 +1,10 @@
 -- Which locks a hand holds once it has one event more.
-use Rattle.std.proofs.Common.{◌≡◌, ◌≢◌, ℕ, Option, None, refl, ap, ◌∙◌, eq-eqb, ne_eqb}
-use Rattle.std.specs.Prelude.{unwrap_or}
+use Rattle.std.proofs.Common.{◌≡◌, ◌≢◌, ℕ, None, refl, ◌∙◌, eq-eqb, ne_eqb}
 use Rattle.vyrd_base.specs.declared.history.Did.{Did}
 use Rattle.vyrd_base.specs.declared.history.Did.TheVariants.{Took, Gave}
 use Rattle.vyrd_base.specs.Histories.{made_of}
 use Rattle.vyrd_trace.specs.declared.look.Look.{Look}
-use Rattle.vyrd_trace.specs.Lanes.{stamp, last_value}
+use Rattle.vyrd_trace.specs.Lanes.{stamp}
 use Rattle.vyrd_trace.specs.Hands.{HandView, Holds, with_one_more}
 use Rattle.vyrd_trace.proofs.Parts.{value-snoc}
 

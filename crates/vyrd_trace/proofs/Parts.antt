@@ -1,7 +1,7 @@
 -- One caller's part of a history, and what it says of the whole.
 use Rattle.std.proofs.Common.{◌≡◌, ◌≢◌, ℕ, zero, suc, ◌+◌, ◌*◌, ◌<◌, ◌≤◌, List, [], ◌∷◌, ◌++◌}
-use Rattle.std.proofs.Common.{length, get_or, Bool, true, false, cond, eqb, Some, refl, sym, ap}
-use Rattle.std.proofs.Common.{◌∙◌, subst, arith, append-nil, eq-eqb, ne_eqb, suc-mul}
+use Rattle.std.proofs.Common.{length, get_or, Bool, true, false, cond, eqb, Some, refl, ◌∙◌, subst}
+use Rattle.std.proofs.Common.{arith, append-nil, eq-eqb, ne_eqb, suc-mul}
 use Rattle.std.specs.Prelude.{slice_get, slice_index_or, ltb}
 use Rattle.std.specs.List.{All}
 use Rattle.std.proofs.lemmas.List.Elements.{filter-append, All-filter}

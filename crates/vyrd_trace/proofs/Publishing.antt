@@ -1,6 +1,6 @@
 -- A publish keeps the rule: the word is twice the value again.
-use Rattle.std.proofs.Common.{◌≡◌, ◌≢◌, ℕ, ◌+◌, ◌*◌, ◌<◌, List, length, set, true, Some, None, refl}
-use Rattle.std.proofs.Common.{sym, ap, ◌∙◌, subst, arith, length-set, get_or-set_same}
+use Rattle.std.proofs.Common.{◌≡◌, ◌≢◌, ℕ, ◌+◌, ◌*◌, ◌<◌, List, length, true, Some, None, refl, sym}
+use Rattle.std.proofs.Common.{ap, ◌∙◌, subst, arith, length-set, get_or-set_same}
 use Rattle.std.specs.Prelude.{slice_index}
 use Rattle.std.proofs.lemmas.List.{get_or-set_other}
 use mathlib.Core.Option.{some, none}
@@ -14,7 +14,7 @@ use Rattle.vyrd_trace.specs.declared.record.Stage.{Stage}
 use Rattle.vyrd_trace.specs.declared.record.Stage.TheVariants.{Rest, Claimed, Drawn, Giving}
 use Rattle.vyrd_trace.specs.Lanes.{last_value}
 use Rattle.vyrd_trace.specs.Records.{acting}
-use Rattle.vyrd_trace.specs.Rule.{Ghost, IsAt, InHand, TraceKept}
+use Rattle.vyrd_trace.specs.Rule.{Ghost, InHand, TraceKept}
 use Rattle.vyrd_trace.specs.Steps.{Sitting, published, Ends}
 use Rattle.vyrd_trace.proofs.Stays.{St, turned}
 use Rattle.vyrd_trace.proofs.CellMoves.{in_hand, moved, claims_moved, same_moved, nowhere_drawn}

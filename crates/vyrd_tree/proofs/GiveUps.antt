@@ -1,6 +1,6 @@
 -- The leaf of a key, and when an insert gives up.
 use Rattle.std.proofs.Common.{◌≡◌, ◌≢◌, ℕ, zero, suc, ◌+◌, ◌<◌, ◌≤◌, ◌^◌, ◌⊎◌, inl, inr, Bool, cond}
-use Rattle.std.proofs.Common.{Some, ap, ◌∙◌, sym, subst, arith}
+use Rattle.std.proofs.Common.{Some, ◌∙◌, sym, arith}
 use Rattle.vyrd_base.specs.declared.header.Header.{Header}
 use Rattle.vyrd_base.specs.declared.subject.Subject.TheVariants.{Tree}
 use Rattle.vyrd_base.specs.Amounts.{Amounts}
@@ -8,7 +8,6 @@ use Rattle.vyrd_memory.specs.declared.op.Variant.TheVariants.{Correct}
 use Rattle.vyrd_memory.specs.Alone.{Memory, state_in, alone, GivesUpWhere}
 use Rattle.vyrd_tree.specs.Procedures.{insert_entry}
 use Rattle.vyrd_tree.specs.Procedures.Walk.{is_past}
-use Rattle.vyrd_tree.specs.Cells.{count_cell}
 use Rattle.vyrd_tree.specs.Room.{leaf_from, leaf_of, HasNoRoom}
 use Rattle.vyrd_tree.specs.Laws.Alone.Counts.{zero_or, le_or}
 use Rattle.vyrd_tree.specs.Contents.{level_at, count_at, bound_at, right_at, last_in, Below, IsTree}

@@ -10,10 +10,9 @@ use Rattle.vyrd_memory.specs.declared.act.Act.TheVariants.{Load, Store, Take, Ma
 use Rattle.vyrd_memory.specs.declared.op.Variant.TheVariants.{Correct}
 use Rattle.vyrd_memory.specs.Scripts.{Script, step, perform}
 use Rattle.vyrd_memory.specs.Alone.{Memory, with_cell, Outcome, alone}
-use Rattle.vyrd_tree.specs.Cells.{level_cell, count_cell, bound_cell, right_cell, key_cell}
-use Rattle.vyrd_tree.specs.Cells.{value_cell, root_cell, used_cell}
-use Rattle.vyrd_tree.specs.Cells.{lock_of, root_lock, used_lock, unlock_node, unlock_root}
-use Rattle.vyrd_tree.specs.Cells.{unlock_used}
+use Rattle.vyrd_tree.specs.Cells.{level_cell, count_cell, bound_cell, right_cell, value_cell}
+use Rattle.vyrd_tree.specs.Cells.{root_cell, used_cell, lock_of, root_lock, used_lock, unlock_node}
+use Rattle.vyrd_tree.specs.Cells.{unlock_root, unlock_used}
 use Rattle.vyrd_tree.specs.Procedures.Walk.{Arrived, child_place, moves_right, to_child, descend}
 use Rattle.vyrd_tree.specs.Procedures.Walk.{load_rest, arrive, pass_on, visit_node, walk_from}
 use Rattle.vyrd_tree.specs.Procedures.Split.{with_unused, write_entries, write_node, place_below}

@@ -1,8 +1,7 @@
 -- What an insert has done before its ascent, and what each round of the ascent does.
-use Rattle.std.proofs.Common.{◌≡◌, ℕ, ◌+◌, ◌*◌, ◌<◌, ◌^◌, inl, inr, Bool, true, cond, Option}
-use Rattle.std.proofs.Common.{Some, None, length, refl, ap, ◌∙◌, sym, subst, arith}
-use Rattle.std.specs.Prelude.{not, ◌==◌, ⊤}
-use Rattle.std.specs.Bool.{then_some}
+use Rattle.std.proofs.Common.{◌≡◌, ℕ, ◌+◌, ◌*◌, ◌<◌, ◌^◌, inl, inr, Bool, true, cond, Option, Some}
+use Rattle.std.proofs.Common.{None, length, refl, ◌∙◌, sym, subst, arith}
+use Rattle.std.specs.Prelude.{◌==◌, ⊤}
 use Rattle.vyrd_base.specs.declared.header.Header.{Header}
 use Rattle.vyrd_base.specs.declared.subject.Subject.TheVariants.{Tree}
 use Rattle.vyrd_base.specs.declared.subject.Args.{Args}
@@ -14,8 +13,7 @@ use Rattle.vyrd_memory.specs.Scripts.{Script, stop, returns, gives_up}
 use Rattle.vyrd_memory.specs.Alone.{Memory, with_cell, Outcome, state_in, alone}
 use Rattle.vyrd_tree.specs.Cells.{count_cell, used_cell, lock_of, used_lock}
 use Rattle.vyrd_tree.specs.Procedures.Walk.{Arrived}
-use Rattle.vyrd_tree.specs.Procedures.Split.{with_unused}
-use Rattle.vyrd_tree.specs.Procedures.Split.{add_entry, split_entry, split_key}
+use Rattle.vyrd_tree.specs.Procedures.Split.{split_entry, split_key}
 use Rattle.vyrd_tree.specs.Procedures.Ascent.{ascend_once}
 use Rattle.vyrd_tree.specs.Procedures.{changes_nothing, place_of, insert_in_then, insert_then}
 use Rattle.vyrd_tree.specs.Room.{leaf_of}

@@ -1,11 +1,10 @@
 -- What is kept of a tree's words stays that of the words, node by node.
-use Rattle.std.proofs.Common.{◌≡◌, ℕ, zero, suc, ◌+◌, ◌*◌, ◌/◌, ◌%◌, ◌^◌, ◌<◌, Bool, true, false}
-use Rattle.std.proofs.Common.{cond, ◌&&◌, ◌||◌, List, [], ◌∷◌, replicate, get_or, set, refl, ap}
-use Rattle.std.proofs.Common.{◌∙◌, sym, arith}
-use Rattle.std.specs.Prelude.{◌==◌, ◌≢◌, nat_le, nat_lt, slice_index}
+use Rattle.std.proofs.Common.{◌≡◌, ℕ, zero, suc, ◌+◌, ◌*◌, ◌/◌, ◌%◌, ◌<◌, Bool, true, false, ◌||◌}
+use Rattle.std.proofs.Common.{List, [], ◌∷◌, replicate, get_or, set, refl, ap, ◌∙◌, sym, arith}
+use Rattle.std.specs.Prelude.{◌==◌, ◌≢◌, nat_le, slice_index}
 use Rattle.std.specs.List.{list_any}
 use Rattle.vyrd_base.specs.Amounts.{given}
-use Rattle.vyrd_base.specs.Tree.{right_of, node_word, count_of}
+use Rattle.vyrd_base.specs.Tree.{right_of, node_word}
 use Rattle.vyrd_base.proofs.SumLaws.{nothing_given}
 use Rattle.vyrd_base.proofs.ListLaws.{zeros}
 use Rattle.vyrd_base.proofs.TestLaws.{apart_of, isnt_same, neither_true, isnt_below}

@@ -1,15 +1,13 @@
 -- Words that are decoded part by part: what is in which place, and what a changed word leaves.
 use Rattle.std.proofs.Common.{◌≡◌, ℕ, zero, suc, ◌+◌, ◌-◌, ◌*◌, ◌/◌, ◌%◌, ◌<◌, ◌≤◌, Bool, true}
-use Rattle.std.proofs.Common.{false, List, [], ◌∷◌, length, map, get_or}
-use Rattle.std.proofs.Common.{set, drop}
-use Rattle.std.proofs.Common.{take, refl, ap, ◌∙◌, sym, arith}
-use Rattle.std.proofs.Common.{get_or-set_same, get_or-set_other}
+use Rattle.std.proofs.Common.{false, List, [], ◌∷◌, length, map, get_or, set, refl, ap, ◌∙◌, sym}
+use Rattle.std.proofs.Common.{arith, get_or-set_same, get_or-set_other}
 use Rattle.std.specs.Prelude.{◌==◌, ◌≢◌}
 use Rattle.std.specs.List.{list_any}
 use Rattle.std.proofs.lemmas.List.{same_lists, length-take}
 use Rattle.std.proofs.lemmas.List.{length-drop, get_or_default}
 use Rattle.std.proofs.lemmas.Nat.{div-mul-add}
-use Rattle.std.proofs.Math.Nat.{div-add-mod, div-lt_iff_lt-mul}
+use Rattle.std.proofs.Math.Nat.{div-add-mod}
 use Rattle.vyrd_base.specs.Places.{numbers_below}
 use Rattle.vyrd_base.specs.Amounts.{Amounts, plus_amount, collected, given, part_given}
 use Rattle.vyrd_base.proofs.AddedLaws.{collected-append}

@@ -1,6 +1,6 @@
 -- The four places of a node.
-use Rattle.std.proofs.Common.{◌≡◌, ℕ, zero, suc, ◌+◌, ◌*◌, ◌/◌, ◌<◌, ◌≤◌, Bool, true, false}
-use Rattle.std.proofs.Common.{List, [], ◌∷◌, length, get_or, refl, ap, arith}
+use Rattle.std.proofs.Common.{◌≡◌, ℕ, zero, suc, ◌+◌, ◌*◌, ◌/◌, ◌<◌, ◌≤◌, Bool, true, false, List}
+use Rattle.std.proofs.Common.{[], ◌∷◌, length, get_or, arith}
 use Rattle.std.specs.Prelude.{◌==◌}
 use Rattle.vyrd_base.proofs.TestLaws.{same_of}
 use Rattle.vyrd_view.specs.Chains.{entry_pair, node_pair, is_stale}

@@ -72,11 +72,6 @@ padded_again n count words few less =
 pub padded_nothing : (n : ℕ) → padded n [] ≡ replicate n 0
 padded_nothing n = grind arith
 
--- words that lie in some parts lie in more
-pub within_more : (few more width : ℕ) (changed : List ℕ) → few ≤ more
-    → All (λ w. w < few * width) changed → All (λ w. w < more * width) changed
-within_more few more width changed up within = grind (arith, few, more, changed, within)
-
 -- a word lies before the end of its part
 pub in_its_part : (w width : ℕ) → 1 ≤ width → w < (w / width + 1) * width
 in_its_part w width some = grind (arith, is_place)
@@ -321,9 +316,6 @@ module _ (width places parts held : ℕ) (gives : Gives) (before words changed :
 
   inner : All (λ w. w < length before) changed
   inner = subst (λ n. All (λ w. w < n) changed) (sym room.count) within
-
-  pub room_places : length pairs ≡ held * places
-  room_places = search (length_below, padded, arith)
 
   pub room_agrees : AgreeElsewhere before (take (length before) words) changed
   room_agrees = front_agrees (parts * width) before words changed all less elsewhere

@@ -1,7 +1,7 @@
 -- The exact sums, as the sum of a key changes.
-use Rattle.std.proofs.Common.{◌≡◌, ◌≢◌, ℕ, ◌+◌, ◌-◌, ◌*◌, ◌/◌, ◌%◌, ◌^◌, ◌<◌, ◌≤◌, min, Bool, true}
-use Rattle.std.proofs.Common.{false, cond, [], Option, Some, None, refl, ap, ◌∙◌, sym, arith}
-use Rattle.std.specs.Prelude.{◌==◌, nat_le}
+use Rattle.std.proofs.Common.{◌≡◌, ◌≢◌, ℕ, ◌+◌, ◌-◌, ◌*◌, ◌/◌, ◌%◌, ◌^◌, ◌<◌, ◌≤◌, min, cond, []}
+use Rattle.std.proofs.Common.{Option, Some, None, refl, ap, ◌∙◌, arith}
+use Rattle.std.specs.Prelude.{◌==◌}
 use Rattle.vyrd_base.specs.Amounts.{Amounts, amount_of, with_amount}
 use Rattle.vyrd_base.proofs.TestLaws.{same_of, at_most_of, above_of}
 use Rattle.vyrd_view.specs.declared.sides.Sides.{Sides}

@@ -1,6 +1,5 @@
 -- The places of a tree.
-use Rattle.std.proofs.Common.{◌≡◌, ℕ, ◌+◌, ◌*◌, ◌<◌, Bool, false, List}
-use Rattle.std.proofs.Common.{length, map, get_or, ap, arith}
+use Rattle.std.proofs.Common.{◌≡◌, ℕ, ◌+◌, ◌*◌, ◌<◌, Bool, false, List, length, map, get_or, arith}
 use Rattle.vyrd_base.specs.Places.{numbers_below}
 use Rattle.vyrd_base.proofs.TestLaws.{same_of, apart_of, is_same, isnt_same}
 use Rattle.vyrd_view.specs.Chains.{node_pair, end_pair, tree_pair, is_on_chain}

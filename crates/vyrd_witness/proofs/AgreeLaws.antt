@@ -13,7 +13,7 @@ use Rattle.vyrd_base.specs.Callers.{Called}
 use Rattle.vyrd_base.specs.Amounts.{Amounts, amount_of, first_difference}
 use Rattle.vyrd_base.specs.States.{State}
 use Rattle.vyrd_base.specs.Rules.{Rules}
-use Rattle.vyrd_base.specs.Words.{words_at, words_with, effects}
+use Rattle.vyrd_base.specs.Words.{words_at}
 use Rattle.vyrd_base.specs.Entries.{place_of}
 use Rattle.vyrd_base.specs.Commits.{is_commit, committed_at, commit_count, state_after}
 use Rattle.vyrd_base.specs.Faults.{commit_fault, fault_of_commit, fault_of_kind}

@@ -1,12 +1,12 @@
 -- The writes of a caller's block in the numbered log, entry by entry, back from a position and
 -- ahead of it.
-use Rattle.std.proofs.Common.{◌≡◌, ℕ, ◌+◌, ◌-◌, ◌<◌, ◌≤◌, true, cond, List, [], ◌∷◌}
-use Rattle.std.proofs.Common.{◌++◌, length, map, Option, Some, None, slice_get, refl, ap, ◌∙◌, sym}
-use Rattle.std.proofs.Common.{arith, append-nil, append_assoc, ◌⊎◌}
+use Rattle.std.proofs.Common.{◌≡◌, ℕ, ◌+◌, ◌-◌, ◌<◌, ◌≤◌, true, cond, List, [], ◌∷◌, ◌++◌, length}
+use Rattle.std.proofs.Common.{map, Option, Some, None, slice_get, ap, ◌∙◌, sym, arith, append-nil}
+use Rattle.std.proofs.Common.{append_assoc, ◌⊎◌}
 use Rattle.std.specs.Prelude.{◌==◌, ◌≢◌, option_map}
 use Rattle.vyrd_base.specs.declared.log.Kind.{Kind}
-use Rattle.vyrd_base.specs.declared.log.Kind.TheVariants.{Return, Write, Commit, BlockOpen}
-use Rattle.vyrd_base.specs.declared.log.Kind.TheVariants.{BlockClose, BlockCommit}
+use Rattle.vyrd_base.specs.declared.log.Kind.TheVariants.{Return, Write, BlockOpen, BlockClose}
+use Rattle.vyrd_base.specs.declared.log.Kind.TheVariants.{BlockCommit}
 use Rattle.vyrd_base.specs.declared.log.Entry.{Entry}
 use Rattle.vyrd_base.specs.Places.{newest_first}
 use Rattle.vyrd_base.specs.Words.{with_write, block_writes, ahead_at, writes_ahead}

@@ -1,17 +1,15 @@
 -- The effects at an entry, by its kind and by the phase of its caller.
-use Rattle.std.proofs.Common.{◌≡◌, ℕ, ◌+◌, true, false, cond, List, [], ◌∷◌, ◌++◌, map, take}
-use Rattle.std.proofs.Common.{Some, slice_get, ap, ◌⊎◌, inl, inr}
+use Rattle.std.proofs.Common.{◌≡◌, ℕ, ◌+◌, true, false, cond, List, [], ◌∷◌, ◌++◌, map, take, Some}
+use Rattle.std.proofs.Common.{slice_get, ◌⊎◌, inl, inr}
 use Rattle.std.specs.Option.{option_map_or}
-use Rattle.vyrd_base.specs.declared.log.Kind.{Kind}
 use Rattle.vyrd_base.specs.declared.log.Kind.TheVariants.{Write, Commit}
 use Rattle.vyrd_base.specs.declared.log.Kind.TheVariants.{BlockClose, BlockCommit}
 use Rattle.vyrd_base.specs.declared.log.Entry.{Entry}
 use Rattle.vyrd_base.specs.Places.{newest_first}
 use Rattle.vyrd_base.specs.Callers.{has_block, has_inner_commit}
-use Rattle.vyrd_base.specs.Words.{block_writes, writes_ahead, effects_at}
+use Rattle.vyrd_base.specs.Words.{block_writes, writes_ahead}
 use Rattle.vyrd_witness.specs.declared.effect.Effect.{Effect}
 use Rattle.vyrd_witness.specs.declared.phase.Phase.{Phase}
-use Rattle.vyrd_witness.specs.Numbered.{numbered_kind}
 use Rattle.vyrd_witness.specs.Effects.{value_at, effect_of, effects_by}
 use Rattle.vyrd_witness.specs.Phases.{phase_of}
 use Rattle.vyrd_witness.proofs.Valued.{block_same, inner_commit_same}
@@ -28,11 +26,6 @@ is_phase log at e phase is = record {
   block = cc (block_same (value_at log) e.caller (behind log at), behind_back log at);
   commit = cc (inner_commit_same (value_at log) e.caller (behind log at), behind_back log at);
 }
-
--- the effects, as those of an entry of this kind
-abbrev as_kind : List Entry → ℕ → ℕ → Kind → List Effect
-as_kind log at c kind = map (effect_of log at c)
-    (newest_first (effects_at (behind log at) c (numbered_kind at kind) (ahead log (at + 1))))
 
 pub write_inside : (log : List Entry) (at word value : ℕ) (e : Entry) (phase : Phase)
     → IsPhase log at e phase → e.kind ≡ Write word value → phase.in_block ≡ true

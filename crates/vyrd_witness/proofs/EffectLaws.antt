@@ -12,7 +12,7 @@ use Rattle.vyrd_base.specs.declared.log.Entry.{Entry}
 use Rattle.vyrd_base.specs.declared.log.StartWord.{StartWord}
 use Rattle.vyrd_base.specs.Places.{newest_first, numbers_from}
 use Rattle.vyrd_base.specs.Rules.{Rules}
-use Rattle.vyrd_base.specs.Words.{effects_at, effects, words_with}
+use Rattle.vyrd_base.specs.Words.{effects_at, words_with}
 use Rattle.vyrd_base.proofs.PlaceLaws.{numbers_from-push}
 use Rattle.vyrd_base.proofs.EffectWords.{one_write}
 use Rattle.vyrd_witness.specs.declared.effect.Effect.{Effect}

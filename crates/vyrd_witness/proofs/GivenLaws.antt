@@ -1,7 +1,6 @@
 -- Which parts give something to a key, and that together they give what is shown.
-use Rattle.std.proofs.Common.{◌≡◌, ◌≢◌, ℕ, zero, suc, ◌+◌, ◌-◌, ◌*◌, ◌/◌, ◌<◌, ◌≤◌, ◌^◌, Bool}
-use Rattle.std.proofs.Common.{true, false, cond, not, List, [], ◌∷◌, ◌++◌, length, refl}
-use Rattle.std.proofs.Common.{ap, ◌∙◌, sym, arith}
+use Rattle.std.proofs.Common.{◌≡◌, ◌≢◌, ℕ, zero, suc, ◌+◌, ◌-◌, ◌*◌, ◌<◌, ◌≤◌, ◌^◌, Bool, true}
+use Rattle.std.proofs.Common.{false, cond, List, [], ◌∷◌, ◌++◌, refl, ap, ◌∙◌, sym, arith}
 use Rattle.std.specs.Prelude.{◌==◌, nat_lt, flat_map, sum_by}
 use Rattle.std.proofs.lemmas.List.{append-nil, append_assoc}
 use Rattle.std.proofs.lemmas.List.Folds.{flat_map-map}
@@ -10,13 +9,12 @@ use Rattle.vyrd_base.specs.declared.header.Header.{Header}
 use Rattle.vyrd_base.specs.declared.subject.Subject.{Subject}
 use Rattle.vyrd_base.specs.declared.subject.Subject.TheVariants.{Multiset, Cache, Tree, Buffers}
 use Rattle.vyrd_base.specs.declared.subject.Subject.TheVariants.{Own}
-use Rattle.vyrd_base.specs.Amounts.{Amounts, amount_of, collected, given}
+use Rattle.vyrd_base.specs.Amounts.{amount_of, collected, given}
 use Rattle.vyrd_base.specs.Buffers.{buffer_at, buffer_parts}
 use Rattle.vyrd_base.specs.Cache.{chunk_at, chunk_parts}
 use Rattle.vyrd_base.specs.Own.OwnRules.{own_view}
 use Rattle.vyrd_base.specs.Own.Programs.{Written}
-use Rattle.vyrd_base.specs.Own.Reader.{written_in}
-use Rattle.vyrd_base.specs.Own.Steps.{part_gives, part_words, view_of}
+use Rattle.vyrd_base.specs.Own.Steps.{view_of}
 use Rattle.vyrd_base.specs.Places.{numbers_from, numbers_below}
 use Rattle.vyrd_base.specs.Rules.{Charter, built_in, own, rules_by, rules_of}
 use Rattle.vyrd_base.specs.Views.{parts_of, view_of_words}
@@ -24,7 +22,7 @@ use Rattle.vyrd_base.proofs.AddedLaws.{parts-push}
 use Rattle.vyrd_base.proofs.HeaderLaws.{size_in_32_bits}
 use Rattle.vyrd_base.proofs.PartLaws.{slots_at_most}
 use Rattle.vyrd_base.proofs.SumLaws.{amount_of-collected, given-append, other_part}
-use Rattle.vyrd_base.proofs.TestLaws.{same_of, apart_of}
+use Rattle.vyrd_base.proofs.TestLaws.{same_of}
 use Rattle.vyrd_view.specs.Pairs.{chunk_gives, buffer_gives}
 use Rattle.vyrd_view.specs.Decoded.{pairs_by}
 use Rattle.vyrd_view.specs.Laws.Buffers.{buffers_fit, buffers_show}

@@ -1,14 +1,14 @@
 -- What the nodes of a tree's chain give, one after the other.
-use Rattle.std.proofs.Common.{◌≡◌, ℕ, zero, suc, ◌+◌, ◌-◌, ◌*◌, ◌^◌, ◌<◌, ◌≤◌, min, Bool, true}
-use Rattle.std.proofs.Common.{false, cond, not, ◌&&◌, ◌||◌, List, [], ◌∷◌, ◌++◌, length, refl, ap}
-use Rattle.std.proofs.Common.{◌∙◌, sym, get_or, set, replicate, arith}
+use Rattle.std.proofs.Common.{◌≡◌, ℕ, zero, suc, ◌+◌, ◌-◌, ◌*◌, ◌^◌, ◌<◌, ◌≤◌, Bool, true, false}
+use Rattle.std.proofs.Common.{cond, not, ◌&&◌, ◌||◌, List, [], ◌∷◌, ◌++◌, length, refl, ap, ◌∙◌}
+use Rattle.std.proofs.Common.{sym, get_or, set, arith}
 use Rattle.std.specs.Prelude.{◌==◌, flat_map}
 use Rattle.std.proofs.lemmas.List.{append-nil, append_assoc}
 use Rattle.vyrd_base.specs.Amounts.{given}
-use Rattle.vyrd_base.specs.Tree.{count_of, right_of, node_parts, damage, chain_parts_from}
+use Rattle.vyrd_base.specs.Tree.{right_of, node_parts, damage, chain_parts_from}
 use Rattle.vyrd_base.proofs.PartLaws.{node_parts-places, places_at_most, parts_after}
 use Rattle.vyrd_base.proofs.SumLaws.{given-append, one_at_most}
-use Rattle.vyrd_view.proofs.ChainLaws.{Marks, marked, none_marked}
+use Rattle.vyrd_view.proofs.ChainLaws.{Marks, marked}
 use Rattle.vyrd_witness.specs.Given.{leads_back, link_parts, chain_from, told, given_parts}
 
 -- ---- without their numbers
@@ -69,22 +69,11 @@ pub record NodeWalk (size : ℕ) (words : List ℕ) (q : ℕ) (old put : List (�
   pub rest : put ++ given_parts q (chain_from size words left seen node)
       ≡ old ++ given_parts q (chain_from size words size [] 0)
 
--- at the start
-pub walk_begins : (size : ℕ) (words : List ℕ) (q : ℕ) (old : List (ℕ × ℕ)) (flags : List Bool)
-    → flags ≡ replicate size false → NodeWalk size words q old old flags size 0
-walk_begins size words q old flags none = grind (arith, none_marked)
-
 -- before the last turn a node is left
 pub walk_left : (size : ℕ) (words : List ℕ) (q : ℕ) (old put : List (ℕ × ℕ)) (flags : List Bool)
     (turn n : ℕ) → turn < size → NodeWalk size words q old put flags (size - turn) n
     → NodeWalk size words q old put flags (suc (size - (turn + 1))) n
 walk_left size words q old put flags turn n more walk = grind arith
-
--- no node is left
-pub walk_over : (size : ℕ) (words : List ℕ) (q : ℕ) (old put : List (ℕ × ℕ)) (flags : List Bool)
-    (n : ℕ) → NodeWalk size words q old put flags 0 n
-    → put ≡ old ++ given_parts q (chain_from size words size [] 0)
-walk_over size words q old put flags n walk = sym (append-nil put) ∙ walk.rest
 
 module _ (size : ℕ) (words : List ℕ) (q : ℕ) (old put now : List (ℕ × ℕ)) (flags : List Bool)
     (left n : ℕ) (walk : NodeWalk size words q old put flags (suc left) n) (ends back : Bool)

@@ -9,7 +9,7 @@ use Rattle.std.proofs.Math.Nat.{div-add-mod, mod-lt}
 use Rattle.vyrd_base.specs.declared.header.Header.{Header}
 use Rattle.vyrd_base.specs.declared.subject.Subject.{Subject}
 use Rattle.vyrd_base.specs.declared.subject.Subject.TheVariants.{Multiset, Cache, Buffers}
-use Rattle.vyrd_base.specs.Amounts.{amount_of, collected, given}
+use Rattle.vyrd_base.specs.Amounts.{collected, given}
 use Rattle.vyrd_base.specs.Layout.{plain_words, plain_words_of}
 use Rattle.vyrd_base.specs.Multiset.{slot_parts}
 use Rattle.vyrd_base.specs.Places.{numbers_below}

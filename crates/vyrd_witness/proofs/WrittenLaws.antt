@@ -24,7 +24,7 @@ use Rattle.vyrd_base.proofs.ListLaws.{slice_get-drop}
 use Rattle.vyrd_base.proofs.TestLaws.{same_of}
 use Rattle.vyrd_witness.specs.declared.effect.Effect.{Effect}
 use Rattle.vyrd_witness.specs.Numbered.{numbered_kind, numbered_entry, numbered_from}
-use Rattle.vyrd_witness.specs.Effects.{value_at, effect_of, effects_by, effects_there}
+use Rattle.vyrd_witness.specs.Effects.{value_at, effects_by, effects_there}
 use Rattle.vyrd_witness.specs.Written.{IsWritten}
 use Rattle.vyrd_witness.proofs.NumberedLaws.{behind, ahead, behind_next}
 use Rattle.vyrd_witness.proofs.EffectLaws.{entry_there}

@@ -9,7 +9,7 @@ use Rattle.std.proofs.Math.ListN.{length-set}
 use Rattle.std.proofs.Math.Seq.{drop-length}
 use Rattle.vyrd_base.specs.declared.header.Header.{Header}
 use Rattle.vyrd_base.specs.Layout.{plain_words}
-use Rattle.std.specs.Prelude.{◌==◌, true, false, get_or, map, All, Result, Ok, Err, OnOk}
+use Rattle.std.specs.Prelude.{◌==◌, true, false, get_or, map, All, Result, OnOk}
 use Rattle.std.specs.List.{list_any}
 use Rattle.std.proofs.Common.{append_assoc, get_or-set_other}
 use Rattle.std.proofs.lemmas.List.Folds.{list_any-append}

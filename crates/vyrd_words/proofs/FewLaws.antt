@@ -1,10 +1,10 @@
 -- How many writes are kept for the commits that wait: no more than the effects that they stand for.
-use Rattle.std.proofs.Common.{◌≡◌, ℕ, suc, ◌+◌, ◌<◌, ◌≤◌, List, [], ◌∷◌, ◌++◌, length, take}
-use Rattle.std.proofs.Common.{refl, ap, subst, ◌∙◌, sym, arith, length-append, append-nil}
-use Rattle.std.proofs.Common.{append_assoc, Bool, true, false, cond}
+use Rattle.std.proofs.Common.{◌≡◌, ℕ, suc, ◌+◌, ◌<◌, ◌≤◌, List, [], ◌∷◌, ◌++◌, length, refl, ap}
+use Rattle.std.proofs.Common.{◌∙◌, sym, arith, length-append, append-nil, append_assoc, Bool, true}
+use Rattle.std.proofs.Common.{false, cond}
 use Rattle.std.proofs.lemmas.List.{take-append-le}
 use Rattle.std.proofs.Math.Seq.{take-length}
-use Rattle.std.specs.Prelude.{◌==◌, ◌-◌, Result, Ok, Err, OnOk}
+use Rattle.std.specs.Prelude.{◌==◌, ◌-◌, Result, OnOk}
 use Rattle.std.specs.List.{list_any}
 use Rattle.vyrd_base.proofs.TestLaws.{is_same, lower_isnt, same_of}
 use Rattle.vyrd_shadow.specs.Blocks.{first_written}

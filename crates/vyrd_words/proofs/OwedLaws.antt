@@ -1,6 +1,6 @@
 -- An entry's steps are paid by what is owed before it and a constant.
 use Rattle.std.proofs.Common.{◌≡◌, ◌≢◌, ℕ, zero, suc, ◌+◌, ◌*◌, ◌<◌, ◌≤◌, List, ◌∷◌, length, refl}
-use Rattle.std.proofs.Common.{ap, arith, Bool, true, false, cond, Option}
+use Rattle.std.proofs.Common.{arith, Bool, true, false, cond, Option}
 use Rattle.std.specs.Prelude.{◌==◌, unwrap_or, Result, Ok, Err, OnOk}
 use Rattle.std.specs.Option.{option_or}
 use Rattle.std.specs.List.{sum_by}
@@ -10,7 +10,7 @@ use Rattle.vyrd_base.specs.declared.log.Kind.TheVariants.{Call, Return, Write, C
 use Rattle.vyrd_base.specs.declared.log.Kind.TheVariants.{BlockClose, BlockCommit}
 use Rattle.vyrd_base.specs.declared.log.Entry.{Entry}
 use Rattle.vyrd_base.specs.declared.log.StartWord.{StartWord}
-use Rattle.vyrd_base.specs.Callers.{has_block, by_caller, open_or_close}
+use Rattle.vyrd_base.specs.Callers.{has_block, open_or_close}
 use Rattle.vyrd_base.specs.Places.{numbers_from}
 use Rattle.vyrd_base.specs.Words.{block_writes, with_write}
 use Rattle.vyrd_base.proofs.TestLaws.{apart_of, same_of, isnt_same}

@@ -1,6 +1,6 @@
 -- The amounts that a state shows, told key by key, and the words at the start.
 use Rattle.std.proofs.Common.{◌≡◌, ℕ, zero, suc, ◌+◌, ◌<◌, cond, T, [], ◌∷◌, ◌++◌, length, take}
-use Rattle.std.proofs.Common.{drop, get_or, refl, ap, subst, ◌∙◌, sym, arith}
+use Rattle.std.proofs.Common.{drop, get_or, refl, ap, ◌∙◌, sym, arith}
 use Rattle.std.specs.Prelude.{◌≢◌, ◌==◌, not, filter}
 use Rattle.std.specs.Ordering.{nat_cmp, is_lt}
 use Rattle.std.specs.declared.cmp.Ordering.TheVariants.{Greater}

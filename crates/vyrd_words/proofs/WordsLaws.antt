@@ -1,7 +1,7 @@
 -- How the words that are kept go on with one more entry.
 use Rattle.std.proofs.Common.{◌≡◌, ℕ, zero, suc, ◌+◌, ◌<◌, ◌≤◌, ◌^◌, Bool, true, false, cond, List}
-use Rattle.std.proofs.Common.{[], ◌∷◌, ◌++◌, length, set, get_or, Some, None, Result, Ok, Err, refl}
-use Rattle.std.proofs.Common.{ap, subst, ◌∙◌, sym, arith, slice_get}
+use Rattle.std.proofs.Common.{[], ◌∷◌, ◌++◌, length, set, get_or, Some, None, Result, refl, ap}
+use Rattle.std.proofs.Common.{subst, ◌∙◌, sym, arith, slice_get}
 use Rattle.std.specs.Prelude.{◌==◌, ◌≢◌, ◌||◌, ◌-◌, OnOk, All, replicate}
 use Rattle.std.specs.Option.{option_or}
 use Rattle.std.specs.List.{list_any}

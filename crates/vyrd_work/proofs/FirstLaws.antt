@@ -5,7 +5,6 @@ use Rattle.std.specs.Prelude.{codes, decimal}
 use Rattle.std.specs.Option.{option_map}
 use Rattle.std.specs.List.{list_all}
 use Rattle.std.specs.Str.{bytes_eq}
-use Rattle.std.proofs.lemmas.List.{append_cancel_left}
 use Rattle.std.proofs.lemmas.Slice.Eq.{bytes_eq-Decides}
 use Rattle.vyrd_base.specs.declared.header.Header.{Header}
 use Rattle.vyrd_base.specs.declared.subject.Subject.{Subject}
@@ -20,7 +19,6 @@ use Rattle.vyrd_base.proofs.TestLaws.{both_true}
 use Rattle.vyrd_base.proofs.StructureLaws.{plain_subject}
 use Rattle.vyrd_base.proofs.SubjectLaws.{subject_read, one_name}
 use Rattle.vyrd_memory.specs.declared.op.Variant.{Variant}
-use Rattle.vyrd_memory.specs.declared.op.Variant.TheVariants.{Correct, Broken}
 use Rattle.vyrd_text.proofs.PartLaws.{one_before_space}
 use Rattle.vyrd_text.proofs.HeaderLaws.{made, not_made}
 use Rattle.vyrd_work.specs.Workloads.{Workload, variant_name, work_header_line}

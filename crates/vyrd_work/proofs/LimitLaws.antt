@@ -7,10 +7,8 @@ use Rattle.std.specs.Prelude.{nat_lt, nat_le}
 use Rattle.std.proofs.lemmas.List.Sums.{sum-map, sum_by-cons}
 use Rattle.std.proofs.lemmas.List.{map-append}
 use Rattle.std.proofs.lemmas.Bool.Decides.{nat_tests}
-use Rattle.std.proofs.lemmas.Bool.{not-false}
 use Rattle.vyrd_base.specs.declared.header.Header.{Header}
-use Rattle.vyrd_base.specs.Subjects.{arity_of, are_padded, subject_of, same_subject, are_args}
-use Rattle.vyrd_base.specs.Subjects.{is_built_in}
+use Rattle.vyrd_base.specs.Subjects.{subject_of, same_subject, are_args, is_built_in}
 use Rattle.vyrd_base.proofs.HeaderLaws.{callers_in_32_bits}
 use Rattle.vyrd_base.proofs.TestLaws.{both_true, first_true, second_true, above_then, above_of}
 use Rattle.vyrd_base.proofs.TestLaws.{not_below_of, isnt_at_most, neither_true}

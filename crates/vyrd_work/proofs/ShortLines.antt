@@ -13,7 +13,6 @@ use Rattle.vyrd_base.proofs.TestLaws.{both_true, first_true, second_true, below_
 use Rattle.vyrd_base.proofs.StructureLaws.{short_subject}
 use Rattle.vyrd_memory.specs.declared.op.Turn.{Turn}
 use Rattle.vyrd_memory.specs.declared.op.Variant.{Variant}
-use Rattle.vyrd_memory.specs.declared.op.Variant.TheVariants.{Correct, Broken}
 use Rattle.vyrd_text.specs.Spelled.{call_text}
 use Rattle.vyrd_work.specs.declared.work.WorkOp.{WorkOp}
 use Rattle.vyrd_work.specs.declared.line.Item.TheVariants as item

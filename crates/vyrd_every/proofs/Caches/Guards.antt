@@ -1,15 +1,14 @@
 -- The cache as a structure: a chunk's lock guards its words, and nothing is reserved.
-use Rattle.std.proofs.Common.{◌≡◌, ℕ, ◌+◌, ◌*◌, ◌/◌, ◌<◌, ◌≤◌, true, List, []}
-use Rattle.std.proofs.Common.{map, refl, ap, ◌∙◌, sym, subst, arith}
-use Rattle.std.specs.Prelude.{flat_map, slice_index}
+use Rattle.std.proofs.Common.{◌≡◌, ℕ, ◌/◌, ◌<◌, true, List, [], refl, ap, ◌∙◌, sym, subst, arith}
+use Rattle.std.specs.Prelude.{flat_map}
 use Rattle.vyrd_base.specs.declared.header.Header.{Header}
 use Rattle.vyrd_base.specs.declared.subject.Subject.TheVariants.{Cache}
 use Rattle.vyrd_base.specs.declared.log.Entry.{Entry}
 use Rattle.vyrd_base.specs.Places.{numbers_below}
-use Rattle.vyrd_base.specs.Layout.{plain_words, plain_words_of}
+use Rattle.vyrd_base.specs.Layout.{plain_words_of}
 use Rattle.vyrd_base.specs.Amounts.{Amounts, collected, given}
 use Rattle.vyrd_base.specs.Specification.{start}
-use Rattle.vyrd_base.specs.BlockEnds.{ended_effects, ended_value, ended_words}
+use Rattle.vyrd_base.specs.BlockEnds.{ended_words}
 use Rattle.vyrd_base.specs.Cache.{chunk_at, chunk_parts}
 use Rattle.vyrd_base.specs.Views.{parts_of, view_of_words}
 use Rattle.vyrd_base.specs.Represented.{is_sound}

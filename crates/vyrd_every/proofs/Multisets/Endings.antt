@@ -1,6 +1,6 @@
 -- What each procedure does at its end does right: blocks that commit, giving up, and returns.
 use Rattle.std.proofs.Common.{◌≡◌, ◌≢◌, ℕ, ◌+◌, ◌*◌, ◌/◌, ◌<◌, inl, true, false, List, [], ◌∷◌}
-use Rattle.std.proofs.Common.{Some, refl, ap, ◌∙◌, sym, arith}
+use Rattle.std.proofs.Common.{Some, refl, ◌∙◌, sym, arith}
 use Rattle.vyrd_base.specs.declared.header.Header.{Header}
 use Rattle.vyrd_base.specs.declared.subject.Method.TheVariants.{Multiset as OfMultiset}
 use Rattle.vyrd_base.specs.declared.multiset.MultisetMethod.TheVariants.{InsertPair}

@@ -1,22 +1,18 @@
 -- The multiset as a structure: a bucket's lock guards the words of its slots, and a slot with state
 -- 1 is reserved.
-use Rattle.std.proofs.Common.{◌≡◌, ℕ, ◌+◌, ◌*◌, ◌/◌, ◌<◌, ◌≤◌, cond, List, [], ◌∷◌, map, refl, ap}
-use Rattle.std.proofs.Common.{◌∙◌, sym, subst, arith}
-use Rattle.std.specs.Prelude.{◌==◌, flat_map, slice_index}
+use Rattle.std.proofs.Common.{◌≡◌, ◌/◌, ◌<◌, List, [], sym, subst, arith}
 use Rattle.vyrd_base.specs.declared.header.Header.{Header}
 use Rattle.vyrd_base.specs.declared.subject.Subject.TheVariants.{Multiset}
 use Rattle.vyrd_base.specs.declared.log.Entry.{Entry}
-use Rattle.vyrd_base.specs.Places.{numbers_below}
-use Rattle.vyrd_base.specs.Layout.{plain_words, plain_words_of}
+use Rattle.vyrd_base.specs.Layout.{plain_words_of}
 use Rattle.vyrd_base.specs.Amounts.{Amounts, collected}
 use Rattle.vyrd_base.specs.Specification.{start}
-use Rattle.vyrd_base.specs.BlockEnds.{ended_effects, ended_value, ended_words}
-use Rattle.vyrd_base.specs.Multiset.{slot_parts}
+use Rattle.vyrd_base.specs.BlockEnds.{ended_words}
 use Rattle.vyrd_base.specs.Views.{parts_of, view_of_words}
 use Rattle.vyrd_base.proofs.SumLaws.{given_nothing}
 use Rattle.vyrd_memory.proofs.NumberLists.{element_below, flat_map_alike}
 use Rattle.vyrd_memory.proofs.PartSums.{collected-is}
-use Rattle.vyrd_multiset.specs.Contents.{IsMultiset, parts_in}
+use Rattle.vyrd_multiset.specs.Contents.{IsMultiset}
 use Rattle.vyrd_multiset.specs.Laws.Sound.{is_its_lock}
 use Rattle.vyrd_every.specs.Structures.{Fits, shown_by}
 use Rattle.vyrd_every.specs.Guarded.{multiset}

@@ -1,7 +1,7 @@
 -- Each part of a procedure of the multiset does right, if what follows it does.
 use Rattle.std.proofs.Common.{◌≡◌, ◌≢◌, ℕ, zero, suc, ◌+◌, ◌*◌, ◌/◌, ◌<◌, ◌≤◌, ◌⊎◌, inl, inr, Bool}
 use Rattle.std.proofs.Common.{true, false, cond, List, [], ◌∷◌, Option, Some, None, refl, ap, ◌∙◌}
-use Rattle.std.proofs.Common.{sym, subst, arith}
+use Rattle.std.proofs.Common.{sym, arith}
 use Rattle.std.specs.Prelude.{◌==◌}
 use Rattle.vyrd_base.specs.declared.header.Header.{Header}
 use Rattle.vyrd_base.specs.Callers.{Called}
@@ -19,8 +19,8 @@ use Rattle.vyrd_multiset.specs.Procedures.{reserve, find_from, find, compare, se
 use Rattle.vyrd_multiset.specs.Contents.{IsMultiset}
 use Rattle.vyrd_multiset.specs.Laws.Alone.Changes.{left_invalid}
 use Rattle.vyrd_every.specs.Guarded.{zero_one, multiset}
-use Rattle.vyrd_every.specs.Locals.{Locals, Access, shown_after}
-use Rattle.vyrd_every.specs.Others.{Rely, Guarantee}
+use Rattle.vyrd_every.specs.Locals.{Locals, Access}
+use Rattle.vyrd_every.specs.Others.{Rely}
 use Rattle.vyrd_every.specs.RightScripts.{DoesRight}
 use Rattle.vyrd_every.proofs.Acts.{never, load_right, take_right as take, give_right as give, at}
 use Rattle.vyrd_every.proofs.Relies.{rely_same, rely_more}

@@ -16,8 +16,7 @@ use Rattle.vyrd_base.specs.declared.multiset.MultisetMethod.TheVariants.{Lookup}
 use Rattle.vyrd_base.specs.declared.subject.Args.{Args}
 use Rattle.vyrd_base.specs.Callers.{Called}
 use Rattle.vyrd_base.specs.Subjects.{is_observer, subject_of}
-use Rattle.vyrd_base.specs.Amounts.{Amounts, amount_of, with_amount, plus_amount}
-use Rattle.vyrd_base.specs.Specification.{answer_in}
+use Rattle.vyrd_base.specs.Amounts.{amount_of, with_amount, plus_amount}
 use Rattle.vyrd_base.proofs.TestLaws.{at_most_of, above_of, same_of, isnt_same}
 use Rattle.vyrd_base.proofs.TestLaws.{apart_of}
 use Rattle.vyrd_memory.specs.declared.op.Op.{Op}
@@ -27,13 +26,12 @@ use Rattle.vyrd_memory.specs.Laws.Player.{callable_method}
 use Rattle.vyrd_memory.specs.Alone.{Memory, with_cell}
 use Rattle.vyrd_memory.proofs.Memories.{changed_cell, other_cell}
 use Rattle.vyrd_memory.specs.Scripts.{Script, returns}
-use Rattle.vyrd_memory.specs.Soundness.{holds, just_called}
+use Rattle.vyrd_memory.specs.Soundness.{just_called}
 use Rattle.vyrd_memory.proofs.SoundActs.{gone}
 use Rattle.vyrd_multiset.specs.Cells.{bucket_of, lock_of, lock, unlock, lock_other}
-use Rattle.vyrd_multiset.specs.Procedures.{find, search_from, search_in, validate_both, commit_both}
-use Rattle.vyrd_multiset.specs.Procedures.{inserted, second_found, first_found, deleted}
-use Rattle.vyrd_multiset.specs.Procedures.{looked_up, procedure_of, multiset_procedure}
-use Rattle.vyrd_multiset.specs.Contents.{IsMultiset}
+use Rattle.vyrd_multiset.specs.Procedures.{find, search_in, validate_both, commit_both, inserted}
+use Rattle.vyrd_multiset.specs.Procedures.{second_found, first_found, deleted, looked_up}
+use Rattle.vyrd_multiset.specs.Procedures.{procedure_of, multiset_procedure}
 use Rattle.vyrd_multiset.specs.Laws.Alone.Changes.{made_valid, made_free, is_there, isnt_there}
 use Rattle.vyrd_multiset.specs.Laws.Sound.{bucket_low}
 use Rattle.vyrd_every.specs.Locals.{Locals, Access}

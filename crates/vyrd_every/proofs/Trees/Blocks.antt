@@ -16,8 +16,8 @@ use Rattle.vyrd_memory.specs.Soundness.{Situation, holds}
 use Rattle.vyrd_tree.specs.Cells.{root_cell, lock_of}
 use Rattle.vyrd_tree.specs.Procedures.Split.{write_entries}
 use Rattle.vyrd_tree.specs.Laws.Sound.Acts.{holding}
-use Rattle.vyrd_tree.specs.Contents.{level_at, count_at, bound_at, last_in}
-use Rattle.vyrd_tree.specs.Contents.{root_in, entries_at, entries_from, Entries}
+use Rattle.vyrd_tree.specs.Contents.{level_at, bound_at, last_in, root_in, entries_at, entries_from}
+use Rattle.vyrd_tree.specs.Contents.{Entries}
 use Rattle.vyrd_tree.specs.Laws.Alone.EntriesStaySound.{length_join}
 use Rattle.vyrd_tree.specs.Laws.Alone.Changes.{entries_alike, Rewritten, apart_or}
 use Rattle.vyrd_tree.specs.Laws.Alone.Played.{Written, front_stands}

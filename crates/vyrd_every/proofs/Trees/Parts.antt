@@ -10,7 +10,7 @@ use Rattle.vyrd_memory.specs.Alone.{Memory}
 use Rattle.vyrd_memory.specs.Scripts.{Script, step, perform}
 use Rattle.vyrd_memory.specs.Soundness.{Situation, holds, after_act}
 use Rattle.vyrd_memory.proofs.SoundActs.{gone}
-use Rattle.vyrd_tree.specs.Cells.{lock_of, root_lock, used_lock}
+use Rattle.vyrd_tree.specs.Cells.{lock_of, root_lock}
 use Rattle.vyrd_tree.specs.Contents.{level_at, last_in, root_in}
 use Rattle.vyrd_tree.specs.Laws.Sound.Acts.{holding}
 use Rattle.vyrd_every.proofs.Acts.{never}

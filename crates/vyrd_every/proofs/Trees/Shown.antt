@@ -1,25 +1,22 @@
 -- What the log shows has the leaves that callers see. So the state that the tree shows is the view
 -- of the log's words.
 use Rattle.std.proofs.Common.{◌≡◌, ◌≢◌, ℕ, zero, suc, ◌+◌, ◌*◌, ◌<◌, ◌⊎◌, inl, inr, Bool, true}
-use Rattle.std.proofs.Common.{false, List, [], ◌∷◌, ◌++◌, map, min, refl, ap, ◌∙◌, sym, subst}
-use Rattle.std.proofs.Common.{arith}
-use Rattle.std.specs.Prelude.{◌==◌, ◌&&◌, ◌||◌, nat_le, flat_map, slice_index, is_some}
+use Rattle.std.proofs.Common.{false, List, [], ◌∷◌, ◌++◌, map, refl, ap, ◌∙◌, sym, subst, arith}
+use Rattle.std.specs.Prelude.{◌==◌, ◌&&◌, ◌||◌, nat_le, slice_index, is_some}
 use Rattle.std.specs.List.{list_any}
 use Rattle.vyrd_base.proofs.PlaceLaws.{map_alike_from}
 use Rattle.vyrd_base.specs.declared.header.Header.{Header}
 use Rattle.vyrd_base.specs.declared.subject.Subject.TheVariants.{Tree}
 use Rattle.vyrd_base.specs.declared.log.Entry.{Entry}
 use Rattle.vyrd_base.specs.declared.history.Stamped.{Stamped}
-use Rattle.vyrd_base.specs.Places.{numbers_from, numbers_below}
+use Rattle.vyrd_base.specs.Places.{numbers_below}
 use Rattle.vyrd_base.specs.Callers.{has_block}
 use Rattle.vyrd_base.specs.Layout.{plain_words, plain_words_of}
 use Rattle.vyrd_base.specs.Amounts.{Amounts, amount_of, collected, given}
 use Rattle.vyrd_base.specs.BlockEnds.{ended_effects, ended_value, ended_words}
 use Rattle.vyrd_base.specs.Views.{view_of_words, parts_of}
-use Rattle.vyrd_base.specs.Tree.{right_of, node_word, entry_parts, node_parts, damage}
-use Rattle.vyrd_base.specs.Tree.{chain_parts_from, chain_parts}
+use Rattle.vyrd_base.specs.Tree.{right_of, node_parts, damage, chain_parts_from, chain_parts}
 use Rattle.vyrd_base.proofs.BlockLaws.{wrote, wrote_is}
-use Rattle.vyrd_base.proofs.TestLaws.{is_same}
 use Rattle.vyrd_memory.specs.Alone.{Memory}
 use Rattle.vyrd_memory.specs.Scripts.{Script}
 use Rattle.vyrd_memory.specs.Turns.{part_of}

@@ -1,13 +1,13 @@
 -- The linked nodes after one of them was split, and the new node is linked on its right.
-use Rattle.std.proofs.Common.{◌≡◌, ◌≢◌, ℕ, ◌+◌, ◌*◌, ◌<◌, ◌≤◌, ◌⊎◌, inl, inr, Bool, true, false}
-use Rattle.std.proofs.Common.{cond, refl, ap, ◌∙◌, sym, subst, arith}
+use Rattle.std.proofs.Common.{◌≡◌, ◌≢◌, ℕ, ◌+◌, ◌*◌, ◌<◌, ◌≤◌, ◌⊎◌, inl, inr, true, false, cond}
+use Rattle.std.proofs.Common.{refl, ap, ◌∙◌, sym, subst, arith}
 use Rattle.std.specs.Prelude.{◌==◌}
 use Rattle.std.specs.List.{AllByRecursion as Each}
 use Rattle.vyrd_base.specs.Amounts.{Amounts, IsAmounts, amount_of}
 use Rattle.vyrd_base.proofs.TestLaws.{same_of, is_same, isnt_same}
 use Rattle.vyrd_memory.specs.Alone.{Memory}
 use Rattle.vyrd_tree.specs.Contents.{level_at, count_at, bound_at, right_at, last_in, root_in}
-use Rattle.vyrd_tree.specs.Contents.{InRange, entries_at, entries_from, Covers, Entries, gives}
+use Rattle.vyrd_tree.specs.Contents.{entries_at, Covers, Entries, gives}
 use Rattle.vyrd_tree.specs.Laws.Alone.Entries.{each_more, gives-append, gives_none}
 use Rattle.vyrd_tree.specs.Laws.Alone.EntriesStaySound.{AreHalves}
 use Rattle.vyrd_tree.specs.Laws.Alone.Changes.{entries_alike}
@@ -194,10 +194,6 @@ module _ (size : ℕ) (g : Shape) (m m' : Memory) (n u : ℕ) (five : Entries) (
       by_new : (g.linked x ≡ true) ⊎ (x ≡ u) → count_at m' x ≤ 4
       by_new (inl old) = by_place old (same_or x n)
       by_new (inr at) = subst (λ x. count_at m' x ≤ 4) (sym at) sp.new_few
-
-  EntriesAt : ℕ → Type 0
-  EntriesAt x = HasEntries (with_node g u (first_key (upper_half five))) m' (level_at m' x)
-      ((with_node g u (first_key (upper_half five))).low x) (bound_at m' x) (entries_at m' x)
 
   put : (level from bound : ℕ) (xs : Entries) (x : ℕ) → level_at m' x ≡ level → g'.low x ≡ from
       → bound_at m' x ≡ bound → entries_at m' x ≡ xs

@@ -10,10 +10,10 @@ use Rattle.vyrd_base.specs.declared.header.Header.{Header}
 use Rattle.vyrd_base.specs.declared.subject.Subject.TheVariants.{Tree}
 use Rattle.vyrd_base.specs.declared.log.Entry.{Entry}
 use Rattle.vyrd_base.specs.Places.{numbers_below}
-use Rattle.vyrd_base.specs.Layout.{plain_words, plain_words_of}
-use Rattle.vyrd_base.specs.Amounts.{Amounts, amount_of, collected, given}
+use Rattle.vyrd_base.specs.Layout.{plain_words}
+use Rattle.vyrd_base.specs.Amounts.{Amounts, amount_of, given}
 use Rattle.vyrd_base.specs.BlockEnds.{ended_effects, ended_value, ended_words}
-use Rattle.vyrd_base.specs.Views.{view_of_words, parts_of}
+use Rattle.vyrd_base.specs.Views.{view_of_words}
 use Rattle.vyrd_base.specs.Tree.{right_of, node_parts, chain_parts_from, chain_parts}
 use Rattle.vyrd_base.proofs.TestLaws.{isnt_same, isnt_at_most}
 use Rattle.vyrd_memory.specs.Alone.{Memory}

@@ -1,13 +1,12 @@
 -- What writes make of a memory, word by word, and what an act makes of the memory that the log
 -- shows and of the one that
 -- callers see.
-use Rattle.std.proofs.Common.{◌≡◌, ℕ, Bool, true, false, cond, List, [], ◌∷◌, Option, Some}
-use Rattle.std.proofs.Common.{None, refl, ap, ◌∙◌, sym, arith}
-use Rattle.std.specs.Prelude.{◌==◌, ◌&&◌, ◌||◌, is_some, unwrap_or}
+use Rattle.std.proofs.Common.{◌≡◌, ℕ, Bool, true, false, cond, List, [], ◌∷◌, Option, Some, None}
+use Rattle.std.proofs.Common.{refl, arith}
+use Rattle.std.specs.Prelude.{◌==◌, ◌||◌, is_some, unwrap_or}
 use Rattle.std.specs.Option.{option_or}
 use Rattle.std.specs.List.{cons_option, AllByRecursion}
 use Rattle.vyrd_base.specs.declared.header.Header.{Header}
-use Rattle.vyrd_base.specs.declared.log.Kind.TheVariants.{Call, Return, Write, Commit, BlockOpen}
 use Rattle.vyrd_base.specs.declared.log.Kind.TheVariants.{BlockClose, BlockCommit}
 use Rattle.vyrd_base.specs.declared.log.Entry.{Entry}
 use Rattle.vyrd_base.specs.declared.history.Did.{Did}
@@ -17,7 +16,7 @@ use Rattle.vyrd_base.specs.Words.{block_writes, given_to}
 use Rattle.vyrd_base.specs.Histories.{logged}
 use Rattle.vyrd_base.proofs.TestLaws.{same_of}
 use Rattle.vyrd_memory.specs.declared.act.Act.{Act}
-use Rattle.vyrd_memory.specs.declared.act.Act.TheVariants.{Load, Store, Take, Give, Mark, Done}
+use Rattle.vyrd_memory.specs.declared.act.Act.TheVariants.{Store, Mark}
 use Rattle.vyrd_memory.specs.Alone.{Memory}
 use Rattle.vyrd_memory.specs.Soundness.{Situation}
 use Rattle.vyrd_memory.proofs.Situations.{act_of_event}

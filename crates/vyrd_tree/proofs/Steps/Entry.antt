@@ -18,8 +18,7 @@ use Rattle.vyrd_tree.specs.Rests.Visits.{arrived_at}
 use Rattle.vyrd_tree.specs.Cells.{count_cell, unlock_node}
 use Rattle.vyrd_tree.specs.Procedures.Walk.{Arrived}
 use Rattle.vyrd_tree.specs.Procedures.Split.{with_unused, write_entries, place_below, with_entry}
-use Rattle.vyrd_tree.specs.Procedures.Split.{add_entry, split, split_entry, split_key, first_key}
-use Rattle.vyrd_tree.specs.Procedures.Split.{upper_half}
+use Rattle.vyrd_tree.specs.Procedures.Split.{add_entry, split, first_key, upper_half}
 use Rattle.vyrd_tree.specs.Procedures.Ascent.{add_child}
 use Rattle.vyrd_tree.specs.Procedures.{insert_in}
 use Rattle.vyrd_tree.specs.Rests.Errands.{add_rest, next_round, after_split, close_for, unsplit}
@@ -49,13 +48,6 @@ abbrev rewriting : Header → ℕ → ℕ → List (ℕ × ℕ) → ℕ → Kind
 rewriting h node place entries count close later =
     perform (Mark BlockOpen) (write_entries node place (drop place entries)
     (perform (Store (count_cell node) count) (perform (Mark close) (unlock_node h node later))))
-
--- a new entry in a node that is full
-abbrev filled : Header → Task → Errand → Arrived → ℕ → ℕ → Script
-filled h task e at key value =
-    with_unused h (unsplit h e at.node)
-    (λ new. split_entry h at key value new (close_for e)
-    (after_split h task e (split_key at key value) new))
 
 -- the node of a visit, with this many entries
 abbrev visited : Visit → ℕ → Arrived

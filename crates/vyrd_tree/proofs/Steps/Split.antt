@@ -1,10 +1,10 @@
 -- A node is split, and the round that follows.
-use Rattle.std.proofs.Common.{◌≡◌, ℕ, suc, ◌+◌, ◌-◌, ◌<◌, List, take, drop, ap, ◌∙◌, sym, arith}
+use Rattle.std.proofs.Common.{◌≡◌, ℕ, suc, ◌+◌, ◌-◌, ◌<◌, List, take, drop, arith}
 use Rattle.vyrd_base.specs.declared.header.Header.{Header}
 use Rattle.vyrd_base.specs.declared.log.Kind.{Kind}
 use Rattle.vyrd_base.specs.declared.log.Kind.TheVariants.{BlockOpen}
 use Rattle.vyrd_memory.specs.declared.act.Act.TheVariants.{Store, Mark}
-use Rattle.vyrd_memory.specs.Scripts.{Script, perform, returns}
+use Rattle.vyrd_memory.specs.Scripts.{Script, perform}
 use Rattle.vyrd_tree.specs.declared.node.Node.{Node}
 use Rattle.vyrd_tree.specs.declared.task.Task.{Task}
 use Rattle.vyrd_tree.specs.declared.visit.Ascent.{Ascent}
@@ -14,7 +14,6 @@ use Rattle.vyrd_tree.specs.declared.place.Full.{Full}
 use Rattle.vyrd_tree.specs.declared.place.Need.TheVariants as need
 use Rattle.vyrd_tree.specs.Cells.{count_cell, bound_cell, right_cell, unlock_node}
 use Rattle.vyrd_tree.specs.Procedures.Split.{write_entries, write_node, first_key}
-use Rattle.vyrd_tree.specs.Procedures.Ascent.{ascend}
 use Rattle.vyrd_tree.specs.Rests.Errands.{round, after_split, close_for}
 use Rattle.vyrd_tree.specs.Rests.Unused.{found_for}
 use Rattle.vyrd_tree.proofs.Steps.Entry.{take_4}

@@ -1,4 +1,4 @@
-use Rattle.std.proofs.Common.{arith, ◌-◌}
+use Rattle.std.proofs.Common.{arith}
 use Rattle.vyrd_spec.proofs.AmountSteps.{one_more_at_most, one_back, amount_given}
 use Rattle.vyrd_spec.proofs.multiset.add_both.Goals as goal
 

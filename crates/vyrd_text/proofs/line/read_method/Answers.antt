@@ -1,5 +1,4 @@
-use Rattle.std.proofs.Common.{inl, inr, ◌∷◌, ◌++◌, ◌+◌, arith, ap}
-use Rattle.std.proofs.Common.{◌∙◌, sym}
+use Rattle.std.proofs.Common.{inl, inr, ◌∷◌, ◌++◌, arith, ap, ◌∙◌, sym}
 use Rattle.std.specs.Prelude.{slice_get}
 use Rattle.std.proofs.Math.Nat.{eq-or-lt_of_le}
 use Rattle.std.proofs.lemmas.Option.{get_or_from_slice_get, slice_get_within}

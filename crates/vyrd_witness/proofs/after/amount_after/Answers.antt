@@ -1,4 +1,4 @@
-use Rattle.std.proofs.Common.{◌≡◌, ◌+◌, set, arith}
+use Rattle.std.proofs.Common.{◌≡◌, ◌+◌, arith}
 use Rattle.vyrd_base.specs.Rules.{rules_of}
 use Rattle.vyrd_base.proofs.HeaderLaws.{size_in_32_bits}
 use Rattle.vyrd_witness.specs.Changes.{amount_shown}

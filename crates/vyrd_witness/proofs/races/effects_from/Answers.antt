@@ -1,4 +1,4 @@
-use Rattle.std.proofs.Common.{arith, length}
+use Rattle.std.proofs.Common.{arith}
 use Rattle.vyrd_witness.proofs.StartWords.{length_start}
 use Rattle.vyrd_witness.proofs.races.effects_from.Goals as goal
 

@@ -1,4 +1,4 @@
-use Rattle.std.proofs.Common.{drop, length-drop, set, ap, ◌∙◌, arith}
+use Rattle.std.proofs.Common.{length-drop, set, ap, ◌∙◌, arith}
 use Rattle.vyrd_words.specs.Counts.{counts_of, just}
 use Rattle.vyrd_words.proofs.CountLaws.{apart_few, says_count, apart_in-parts, same_grown}
 use Rattle.vyrd_words.proofs.CountLaws.{apart_set_grown}

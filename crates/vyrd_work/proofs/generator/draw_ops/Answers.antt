@@ -1,4 +1,4 @@
-use Rattle.std.proofs.Common.{◌-◌, ap, arith, append_assoc}
+use Rattle.std.proofs.Common.{arith, append_assoc}
 use Rattle.vyrd_work.proofs.GeneratedLaws.{ops_step}
 use Rattle.vyrd_work.proofs.generator.draw_ops.Goals as goal
 

@@ -1,7 +1,6 @@
 use Rattle.std.proofs.Common.{Some, ◌+◌, ◌≤◌, sym, subst, arith}
 use Rattle.std.proofs.lemmas.Result.{IfOk-weaker}
 use Rattle.vyrd_base.specs.Rules.{rules_by}
-use Rattle.vyrd_judge.specs.declared.outcome.Advance.TheVariants.{Goes}
 use Rattle.vyrd_judge.specs.Costs.{debt, debt_by}
 use Rattle.vyrd_judge.specs.Following.{IsCatchingUp, MayCatchUp, AdvanceGives, with_first}
 use Rattle.vyrd_judge.proofs.FollowerLaws.{caught_up, may_catch_up_on}

@@ -1,4 +1,3 @@
-use Rattle.std.proofs.Common.{Some}
 use Rattle.vyrd_mover.proofs.LinesLaws.{at_later, later_taken, later_refused}
 use Rattle.vyrd_mover.proofs.lines.Lines.take_later_line.Goals as goal
 

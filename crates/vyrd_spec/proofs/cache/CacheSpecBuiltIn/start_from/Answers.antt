@@ -2,7 +2,6 @@ use Rattle.std.proofs.Common.{◌≡◌, Some, None, rules, ap, ◌∙◌, ◌^�
 use Rattle.vyrd_base.specs.Subjects.{is_built_in}
 use Rattle.vyrd_base.specs.declared.subject.Subject.TheVariants.{Cache}
 use Rattle.vyrd_base.specs.Amounts.{collected}
-use Rattle.vyrd_base.specs.Represented.{is_sound}
 use Rattle.vyrd_base.specs.Cache.{chunk_at, chunk_parts}
 use Rattle.vyrd_base.specs.Views.{parts_of}
 use Rattle.vyrd_spec.specs.Rows.{row_amounts}

@@ -1,7 +1,7 @@
 use Rattle.std.proofs.Common.{ap, sym, subst}
 use Rattle.vyrd_base.specs.Subjects.{is_built_in}
 use Rattle.vyrd_base.specs.declared.subject.Subject.TheVariants.{Multiset}
-use Rattle.vyrd_base.specs.Amounts.{IsAmounts, collected}
+use Rattle.vyrd_base.specs.Amounts.{IsAmounts}
 use Rattle.vyrd_base.specs.Views.{parts_of}
 use Rattle.vyrd_base.proofs.SumLaws.{IsAmounts-collected}
 use Rattle.vyrd_spec.proofs.SlotLaws.{first_counts}

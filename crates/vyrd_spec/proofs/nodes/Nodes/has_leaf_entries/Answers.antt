@@ -1,5 +1,4 @@
 use Rattle.std.proofs.Common.{arith}
-use Rattle.vyrd_base.specs.Tree.{is_leaf_entry}
 use Rattle.vyrd_spec.proofs.NodeLaws.{entries_fail, entries_pass}
 use Rattle.vyrd_spec.proofs.RowLaws.{passes_more}
 use Rattle.vyrd_spec.proofs.nodes.Nodes.has_leaf_entries.Goals as goal

@@ -1,5 +1,4 @@
 use Rattle.std.proofs.Common.{arith}
-use Rattle.vyrd_spec.specs.NodeKeys.{is_sound_key}
 use Rattle.vyrd_spec.proofs.NodeLaws.{keys_fail, keys_pass}
 use Rattle.vyrd_spec.proofs.RowLaws.{passes_more}
 use Rattle.vyrd_spec.proofs.nodes.Nodes.has_sound_keys.Goals as goal

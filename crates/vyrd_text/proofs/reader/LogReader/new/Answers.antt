@@ -1,4 +1,3 @@
-use Rattle.vyrd_text.specs.Readers.{fresh}
 use Rattle.vyrd_text.proofs.ReaderLaws.{fresh_has_read}
 use Rattle.vyrd_text.proofs.reader.LogReader.new.Goals as goal
 

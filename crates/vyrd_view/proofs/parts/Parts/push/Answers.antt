@@ -1,5 +1,4 @@
 use Rattle.std.proofs.Common.{◌-◌, ◌^◌, [], ◌∷◌, subst, sym, arith}
-use Rattle.vyrd_base.specs.Amounts.{given}
 use Rattle.vyrd_base.proofs.SumLaws.{given-append, part_at_most}
 use Rattle.vyrd_view.specs.Pairs.{EachAtMost}
 use Rattle.vyrd_view.proofs.PairLaws.{each-push}

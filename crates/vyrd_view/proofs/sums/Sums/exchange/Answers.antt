@@ -1,7 +1,6 @@
 use Rattle.std.proofs.Common.{◌≡◌, ℕ, ◌+◌, ◌-◌, ◌==◌, if◌then◌else◌, ap, ◌∙◌, arith}
 use Rattle.std.proofs.lemmas.Result.{on_ok_weaker}
 use Rattle.vyrd_base.specs.Amounts.{with_amount}
-use Rattle.vyrd_view.specs.Sided as sided
 use Rattle.vyrd_view.specs.Sided.{shown_at, specified_of}
 use Rattle.vyrd_view.specs.Summed.{sum_at}
 use Rattle.vyrd_view.proofs.SidedLaws.{settled_of, with_same_amount}

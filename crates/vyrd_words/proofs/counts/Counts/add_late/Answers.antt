@@ -1,4 +1,4 @@
-use Rattle.std.proofs.Common.{length, ◌<◌, ap, arith}
+use Rattle.std.proofs.Common.{length, ◌<◌, arith}
 use Rattle.vyrd_words.specs.Cuts.{written}
 use Rattle.vyrd_words.proofs.CountLaws.{byte_within, length-counts_of, place_below, late_added}
 use Rattle.vyrd_base.proofs.TestLaws.{is_same}

@@ -1,4 +1,4 @@
-use Rattle.std.proofs.Common.{ap, arith}
+use Rattle.std.proofs.Common.{arith}
 use Rattle.vyrd_words.proofs.CountLaws.{pushed_small, apart_small}
 use Rattle.vyrd_words.proofs.counts.Counts.push.Goals as goal
 

@@ -1,4 +1,4 @@
-use Rattle.std.proofs.Common.{ap, arith, length-append}
+use Rattle.std.proofs.Common.{arith, length-append}
 use Rattle.vyrd_words.proofs.CountLaws.{pushed_large, apart_in-append}
 use Rattle.vyrd_words.proofs.counts.Counts.push_large.Goals as goal
 
