@@ -1,14 +1,12 @@
 -- Parts that are added to amounts, in whatever order.
-use Rattle.std.proofs.Common.{◌≡◌, ℕ, ◌+◌, List, [], ◌∷◌, ◌++◌, refl, ap, ◌∙◌, sym, arith}
-use Rattle.std.specs.Prelude.{flat_map}
+use Rattle.vyrd_base.proofs.Prelude.{◌≡◌, ℕ, ◌+◌, List, [], ◌∷◌, ◌++◌, refl, ap, ◌∙◌, sym, arith}
+use Rattle.vyrd_base.proofs.Prelude.{flat_map, numbers_below, Amounts, IsAmounts, amount_of}
+use Rattle.vyrd_base.proofs.Prelude.{plus_amount, collected, given, added}
 use Rattle.std.proofs.lemmas.List.Concat.{flat_map-append}
-use Rattle.vyrd_base.specs.Places.{numbers_below}
-use Rattle.vyrd_base.specs.Amounts.{Amounts, IsAmounts, amount_of, plus_amount, collected, given}
 use Rattle.vyrd_base.proofs.PlaceLaws.{numbers_below-push}
 use Rattle.vyrd_base.proofs.AmountLaws.{IsAmounts-with_amount, same_amounts}
 use Rattle.vyrd_base.proofs.SumLaws.{given-append, amount_of-plus, amount_of-collected}
 use Rattle.vyrd_base.proofs.SumLaws.{IsAmounts-collected}
-use Rattle.vyrd_base.specs.Added.{added}
 
 pub amount_of-added : (parts : List (ℕ × ℕ)) (s : Amounts) (q : ℕ) → amount_of (added s parts) q
     ≡ amount_of s q + given q parts

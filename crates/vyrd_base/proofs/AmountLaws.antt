@@ -1,20 +1,16 @@
 -- Laws of amounts by key.
-use Rattle.std.proofs.Common.{◌≡◌, ℕ, Bool, true, false, cond, not, [], ◌∷◌, Option, Some, None}
-use Rattle.std.proofs.Common.{refl, ap, ◌∙◌, sym, arith, ◌<◌, ◌≤◌, ◌++◌, T}
-use Rattle.std.specs.Prelude.{◌≢◌, ◌==◌, unwrap_or, filter, ◌&&◌, All}
-use Rattle.std.specs.Ordering.{nat_cmp, eq_by_cmp, is_lt}
+use Rattle.vyrd_base.proofs.Prelude.{◌≡◌, ℕ, Bool, true, false, cond, not, [], ◌∷◌, Option, Some}
+use Rattle.vyrd_base.proofs.Prelude.{None, refl, ap, ◌∙◌, sym, arith, ◌<◌, ◌≤◌, ◌++◌, T, ◌≢◌, ◌==◌}
+use Rattle.vyrd_base.proofs.Prelude.{unwrap_or, filter, ◌&&◌, All, nat_cmp, eq_by_cmp, is_lt}
+use Rattle.vyrd_base.proofs.Prelude.{unsigned_tied, nat_tests, AllByRecursion, Amounts, IsAmounts}
+use Rattle.vyrd_base.proofs.Prelude.{amount_of, with_amount, same_of, apart_of}
 use Rattle.std.proofs.lemmas.List.Elements.{recursion_from_All}
 use Rattle.std.specs.declared.cmp.Ordering.TheVariants.{Less, Equal, Greater}
-use Rattle.std.specs.Cmp.{unsigned_tied}
 use Rattle.std.proofs.lemmas.Cmp.{nat_cmp_total}
-use Rattle.std.proofs.lemmas.Bool.Decides.{nat_tests}
 use Rattle.std.proofs.lemmas.Option.{same_Some}
 use Rattle.std.specs.FinMap.{nat_cmp-IsAntisymmetric}
 use Rattle.std.specs.FinMap.Entries.{find, put, by_order, find-put, find-where_key, is_sorted-put}
 use Rattle.std.specs.FinMap.Entries.{is_sorted-where_key, same_entries, below_all, is_sorted}
-use Rattle.std.specs.List.{AllByRecursion}
-use Rattle.vyrd_base.specs.Amounts.{Amounts, IsAmounts, amount_of, with_amount}
-use Rattle.vyrd_base.proofs.TestLaws.{same_of, apart_of}
 
 -- the test by which the keys other than k are kept
 abbrev pub isnt : ℕ → ℕ → Bool

@@ -1,17 +1,13 @@
 -- The words of a `BTreeMap` are those of amounts.
-use Rattle.std.proofs.Common.{◌≡◌, ℕ, Bool, true, false, cond, not, List, [], ◌∷◌, refl, ap, ◌∙◌}
-use Rattle.std.proofs.Common.{arith, T}
-use Rattle.std.specs.Prelude.{◌==◌, ◌≢◌, filter}
-use Rattle.std.specs.Ordering.{nat_cmp, eq_by_cmp, match_ordering, is_lt}
+use Rattle.vyrd_base.proofs.Prelude.{◌≡◌, ℕ, Bool, true, false, cond, not, List, [], ◌∷◌, refl, ap}
+use Rattle.vyrd_base.proofs.Prelude.{◌∙◌, arith, T, ◌==◌, ◌≢◌, filter, nat_cmp, eq_by_cmp, is_lt}
+use Rattle.vyrd_base.proofs.Prelude.{unsigned_tied, nat_tests, Amounts, with_amount, isnt_same}
+use Rattle.std.specs.Ordering.{match_ordering}
 use Rattle.std.specs.declared.cmp.Ordering.{Ordering}
 use Rattle.std.specs.Map.{lookup, remove_entry}
 use Rattle.std.specs.BTreeMap.{insert_entry, is_at}
 use Rattle.std.specs.FinMap.Entries.{find, put, by_order, below_all, is_sorted}
-use Rattle.std.specs.Cmp.{unsigned_tied}
-use Rattle.std.proofs.lemmas.Bool.Decides.{nat_tests}
-use Rattle.vyrd_base.specs.Amounts.{Amounts, with_amount}
 use Rattle.vyrd_base.proofs.AmountLaws.{first_of_and, second_of_and}
-use Rattle.vyrd_base.proofs.TestLaws.{isnt_same}
 
 -- what `get` finds
 pub lookup-find : (q : ℕ) (es : Amounts) → lookup (is_at (nat_cmp q)) es ≡ find nat_cmp q es

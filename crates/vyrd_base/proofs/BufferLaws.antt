@@ -1,11 +1,9 @@
 -- What the loop over the characters of a buffer finds.
-use Rattle.std.proofs.Common.{◌≡◌, ℕ, ◌+◌, ◌*◌, ◌^◌, ◌<◌, ◌≤◌, Bool, true, false, refl}
-use Rattle.std.proofs.Common.{arith}
-use Rattle.std.specs.Prelude.{nat_le, None}
+use Rattle.vyrd_base.proofs.Prelude.{◌≡◌, ℕ, ◌+◌, ◌*◌, ◌^◌, ◌<◌, ◌≤◌, Bool, true, false, refl}
+use Rattle.vyrd_base.proofs.Prelude.{arith, nat_le, None, is_buffer, are_characters, second_true}
 use Rattle.std.proofs.Math.Nat.{mul-le-mul_right, pow-le-pow_right}
-use Rattle.vyrd_base.specs.Buffers.{Buffer, is_buffer, are_characters, shown_text}
+use Rattle.vyrd_base.specs.Buffers.{Buffer, shown_text}
 use Rattle.vyrd_base.proofs.TextLaws.{character_below}
-use Rattle.vyrd_base.proofs.TestLaws.{second_true}
 
 -- the power of 256 at a character, and what that character counts
 pub power_below : (power i : ℕ) → i < 7 → power ≡ 256 ^ i → power ≤ 2 ^ 48

@@ -1,9 +1,7 @@
 -- Which cells are plain words, and which are locks.
-use Rattle.std.proofs.Common.{◌≡◌, ℕ, ◌+◌, ◌<◌, ◌≤◌, true, false, arith}
-use Rattle.std.specs.Prelude.{◌==◌}
-use Rattle.std.proofs.lemmas.Bool.Decides.{nat_tests}
+use Rattle.vyrd_base.proofs.Prelude.{◌≡◌, ℕ, ◌+◌, ◌<◌, ◌≤◌, true, false, arith, ◌==◌, nat_tests}
+use Rattle.vyrd_base.proofs.Prelude.{both_true, first_true, is_at_most, is_below}
 use Rattle.vyrd_base.specs.Histories.{Cells, is_plain, is_lock}
-use Rattle.vyrd_base.proofs.TestLaws.{both_true, first_true, is_at_most, is_below}
 
 -- a cell behind the plain words is a lock
 pub is_lock_of : (cells : Cells) (cell : ℕ) → cells.plain ≤ cell → cell < cells.plain + cells.locks

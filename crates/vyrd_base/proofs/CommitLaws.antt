@@ -1,17 +1,9 @@
 -- Entries that commit.
-use Rattle.std.proofs.Common.{◌≡◌, inl, inr, ℕ, true, false, List, Some, None, refl, subst, sym}
-use Rattle.std.specs.Prelude.{◌⊎◌}
-use Rattle.vyrd_base.specs.declared.log.Kind.{Kind}
-use Rattle.vyrd_base.specs.declared.log.Kind.TheVariants.{Commit, BlockCommit}
-use Rattle.vyrd_base.specs.declared.log.Entry.{Entry}
-use Rattle.vyrd_base.specs.declared.log.StartWord.{StartWord}
-use Rattle.vyrd_base.specs.Callers.{call_or_return, commit_or_call, is_call}
-use Rattle.vyrd_base.specs.States.{State}
-use Rattle.vyrd_base.specs.Commits.{is_commit, returned}
-use Rattle.vyrd_base.specs.Faults.{fault_of_commit, fault_at}
+use Rattle.vyrd_base.proofs.Prelude.{◌≡◌, inl, inr, ℕ, true, false, List, Some, None, refl, subst}
+use Rattle.vyrd_base.proofs.Prelude.{sym, ◌⊎◌, Kind, Commit, BlockCommit, Entry, StartWord}
+use Rattle.vyrd_base.proofs.Prelude.{call_or_return, commit_or_call, is_call, State, is_commit}
+use Rattle.vyrd_base.proofs.Prelude.{returned, fault_of_commit, fault_at, place_of, Rules}
 use Rattle.vyrd_base.proofs.BlockLaws.{entry}
-use Rattle.vyrd_base.specs.Entries.{place_of}
-use Rattle.vyrd_base.specs.Rules.{Rules}
 
 -- a kind of entry that commits
 pub data Commits : Kind → Type 0 where

@@ -1,25 +1,15 @@
 -- Executions that have committed: how one more entry changes that, what was called in them, and
 -- that those of the built-in subjects' methods commit once or never.
-use Rattle.std.proofs.Common.{◌≡◌, ℕ, Bool, true, false, not, cond, ◌&&◌, ◌||◌, List, [], ◌∷◌, ◌++◌}
-use Rattle.std.proofs.Common.{Some, None, refl, ap, subst, ◌∙◌, sym}
-use Rattle.std.specs.Prelude.{◌==◌}
-use Rattle.std.specs.List.{list_any}
-use Rattle.std.specs.Option.{option_or, option_map_or, option_flatten}
-use Rattle.vyrd_base.specs.declared.header.Header.{Header}
-use Rattle.vyrd_base.specs.declared.log.Kind.{Kind}
-use Rattle.vyrd_base.specs.declared.log.Kind.TheVariants.{Call, Return, Write, Commit, BlockOpen}
-use Rattle.vyrd_base.specs.declared.log.Kind.TheVariants.{BlockClose, BlockCommit}
-use Rattle.vyrd_base.specs.declared.log.Entry.{Entry}
+use Rattle.vyrd_base.proofs.Prelude
+use Prelude.{◌≡◌, ℕ, Bool, true, false, not, cond, ◌&&◌, ◌||◌, List, [], ◌∷◌, ◌++◌, Some, None}
+use Prelude.{refl, ap, subst, ◌∙◌, sym, ◌==◌, list_any, option_or, option_map_or, Header, Kind}
+use Prelude.{Call, Return, Write, Commit, BlockOpen, BlockClose, BlockCommit, Entry, newest_first}
+use Prelude.{first_answer, is_observer, must_commit, is_built_in, subject_of, Called, by_caller}
+use Prelude.{open_call, call_or_return, has_committed, commit_or_call, broken_rule, checks_at}
+use Prelude.{first_break, WellFormed, State, Rules, observer_fault}
+use Rattle.std.specs.Option.{option_flatten}
 use Rattle.vyrd_base.specs.declared.verdict.Why.TheVariants.{Observer}
-use Rattle.vyrd_base.specs.Places.{newest_first, first_answer}
-use Rattle.vyrd_base.specs.Subjects.{is_observer, must_commit, is_built_in, subject_of}
-use Rattle.vyrd_base.specs.Callers.{Called, by_caller, open_call, call_or_return, has_committed}
-use Rattle.vyrd_base.specs.Callers.{commit_or_call}
-use Rattle.vyrd_base.specs.Shape.{broken_rule, checks_at, is_observing, owes_commit}
-use Rattle.vyrd_base.specs.Front.{first_break, WellFormed}
-use Rattle.vyrd_base.specs.States.{State}
-use Rattle.vyrd_base.specs.Rules.{Rules}
-use Rattle.vyrd_base.specs.Faults.{observer_fault}
+use Rattle.vyrd_base.specs.Shape.{is_observing, owes_commit}
 use Rattle.vyrd_base.proofs.PlaceLaws.{newest_first-push}
 use Rattle.vyrd_base.proofs.BlockLaws.{entry, by_same, own_answer, other_answer, no_answer}
 use Rattle.vyrd_base.proofs.BlockLaws.{open_call-quiet}

@@ -1,13 +1,11 @@
 -- What a read of a source in memory gives; and what reads and writes do that come one after the
 -- other.
-use Rattle.std.proofs.Common.{◌≡◌, ℕ, ◌+◌, ◌≤◌, Bool, false, List, [], ◌∷◌, ◌++◌, length}
-use Rattle.std.proofs.Common.{take, drop, Some, refl, ap, ◌∙◌, sym, subst, arith, length-append}
-use Rattle.std.specs.Prelude.{◌==◌, option_map, IfSome}
-use Rattle.std.proofs.lemmas.List.{take-append-drop, take-append-le, drop-drop, length-take}
-use Rattle.std.proofs.lemmas.Bool.{ne_eqb}
-use Rattle.std.proofs.Math.Seq.{take-length}
-use Rattle.vyrd_base.specs.Devices.{Gives, SourceKnown, AfterReads, SinkKnown}
-use Rattle.vyrd_base.specs.Devices.{AfterWrites}
+use Rattle.vyrd_base.proofs.Prelude.{◌≡◌, ℕ, ◌+◌, ◌≤◌, Bool, false, List, [], ◌∷◌, ◌++◌, length}
+use Rattle.vyrd_base.proofs.Prelude.{take, drop, Some, refl, ap, ◌∙◌, sym, subst, arith}
+use Rattle.vyrd_base.proofs.Prelude.{length-append, ◌==◌, option_map, take-append-drop}
+use Rattle.vyrd_base.proofs.Prelude.{take-append-le, drop-drop, length-take, ne_eqb, take-length}
+use Rattle.std.specs.Prelude.{IfSome}
+use Rattle.vyrd_base.specs.Devices.{Gives, SourceKnown, AfterReads, SinkKnown, AfterWrites}
 
 -- as many bytes as are copied to the front of the buffer are gone from the rest
 given_bytes : (g n : ℕ) (bytes front tail : List ℕ) → front ≡ take n (drop g bytes)

@@ -1,29 +1,19 @@
 -- What the effects of the entries owe to one more entry after them: nothing, but where it ends a
 -- block with a lone commit in it. Then the writes of that block take effect at that commit, and all
 -- else stays.
-use Rattle.std.proofs.Common.{◌≡◌, ℕ, Bool, true, false, cond, ◌&&◌, ◌||◌, List, [], ◌∷◌, ◌++◌}
-use Rattle.std.proofs.Common.{Option, Some, None, refl, ap, subst, ◌∙◌, sym, append_assoc}
-use Rattle.std.specs.Prelude.{◌==◌, unwrap_or}
-use Rattle.std.specs.Option.{option_or, option_map_or}
-use Rattle.std.specs.List.{list_any}
+use Rattle.vyrd_base.proofs.Prelude
+use Prelude.{◌≡◌, ℕ, Bool, true, false, cond, ◌&&◌, ◌||◌, List, [], ◌∷◌, ◌++◌, Option, Some, None}
+use Prelude.{refl, ap, subst, ◌∙◌, sym, append_assoc, ◌==◌, unwrap_or, option_or, option_map_or}
+use Prelude.{list_any, Header, Kind, Call, Return, Write, Commit, BlockOpen, BlockClose}
+use Prelude.{BlockCommit, Entry, first_answer, by_caller, open_or_close, has_block}
+use Prelude.{has_inner_commit, commit_or_call, has_committed, checks_at, broken_rule, block_writes}
+use Prelude.{ahead_at, writes_ahead, effects_at, effects, is_lone_commit, effects_of_others}
+use Prelude.{WellFormed, same_number, is_same, flipped, first_true, second_true, neither_true}
 use Rattle.std.proofs.lemmas.List.Folds.{list_any-append}
-use Rattle.vyrd_base.specs.declared.header.Header.{Header}
-use Rattle.vyrd_base.specs.declared.log.Kind.{Kind}
-use Rattle.vyrd_base.specs.declared.log.Kind.TheVariants.{Call, Return, Write, Commit, BlockOpen}
-use Rattle.vyrd_base.specs.declared.log.Kind.TheVariants.{BlockClose, BlockCommit}
-use Rattle.vyrd_base.specs.declared.log.Entry.{Entry}
-use Rattle.vyrd_base.specs.Places.{first_answer}
-use Rattle.vyrd_base.specs.Callers.{by_caller, open_or_close, has_block, commit_or_open}
-use Rattle.vyrd_base.specs.Callers.{has_inner_commit, commit_or_call, has_committed}
-use Rattle.vyrd_base.specs.Shape.{checks_at, broken_rule}
-use Rattle.vyrd_base.specs.Words.{block_writes, ahead_at, writes_ahead, effects_at, effects}
-use Rattle.vyrd_base.specs.Words.{is_lone_commit, effects_of_others}
-use Rattle.vyrd_base.specs.Front.{WellFormed}
+use Rattle.vyrd_base.specs.Callers.{commit_or_open}
 use Rattle.vyrd_base.proofs.BlockLaws.{entry, by_same, own_answer, other_answer, own_writes}
 use Rattle.vyrd_base.proofs.BlockLaws.{other_writes}
 use Rattle.vyrd_base.proofs.ShadowLaws.{all_kept, open_kept, block_in_call}
-use Rattle.vyrd_base.proofs.TestLaws.{same_number, is_same, flipped, first_true, second_true}
-use Rattle.vyrd_base.proofs.TestLaws.{neither_true}
 
 -- whether an entry of this kind ends a block
 abbrev pub ends_block : Kind → Bool

@@ -1,12 +1,7 @@
 -- The words that effects give, with one effect more.
-use Rattle.std.proofs.Common.{◌≡◌, ℕ, suc, zero, ◌+◌, ◌<◌, false, List, ◌∷◌, map, set, refl, ap}
-use Rattle.std.proofs.Common.{◌∙◌, sym, arith}
-use Rattle.std.specs.Prelude.{◌==◌}
-use Rattle.vyrd_base.specs.declared.header.Header.{Header}
-use Rattle.vyrd_base.specs.declared.log.StartWord.{StartWord}
-use Rattle.vyrd_base.specs.Places.{numbers_from}
-use Rattle.vyrd_base.specs.Words.{words_with}
-use Rattle.vyrd_base.proofs.TestLaws.{is_same, lower_isnt, flipped}
+use Rattle.vyrd_base.proofs.Prelude.{◌≡◌, ℕ, suc, zero, ◌+◌, ◌<◌, false, List, ◌∷◌, map, set, refl}
+use Rattle.vyrd_base.proofs.Prelude.{ap, ◌∙◌, sym, arith, ◌==◌, Header, StartWord, numbers_from}
+use Rattle.vyrd_base.proofs.Prelude.{words_with, is_same, lower_isnt, flipped}
 
 -- a map over numbers that changes at one of them alone
 map_same : (g new : ℕ → ℕ) (k n j : ℕ) → j < k → ((q : ℕ) → (j == q) ≡ false → new q ≡ g q)

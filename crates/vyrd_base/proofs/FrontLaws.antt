@@ -1,15 +1,9 @@
 -- The front of a log up to the first entry that breaks a rule.
-use Rattle.std.proofs.Common.{◌≡◌, ℕ, suc, ◌+◌, ◌<◌, ◌≤◌, List, [], ◌∷◌, ◌++◌, length, get_or, take}
-use Rattle.std.proofs.Common.{drop, Some, None, refl, ap, ◌∙◌, sym, arith, drop-cons}
-use Rattle.std.proofs.lemmas.List.{take_more, take-append-drop}
-use Rattle.std.proofs.Math.Seq.{take-length}
+use Rattle.vyrd_base.proofs.Prelude.{take_more, take-append-drop, take-length, Header, Entry, Rule}
+use Rattle.vyrd_base.proofs.Prelude.{newest_first, broken_rule, front, first_break}
+use Rattle.std.proofs.Common.{drop-cons, ◌≡◌, ℕ, suc, ◌+◌, ◌<◌, ◌≤◌, List, [], ◌∷◌, ◌++◌, length}
+use Rattle.std.proofs.Common.{get_or, take, drop, Some, None, refl, ap, ◌∙◌, sym, arith}
 use Rattle.vyrd_base.proofs.PlaceLaws.{newest_first-push}
-use Rattle.vyrd_base.specs.declared.header.Header.{Header}
-use Rattle.vyrd_base.specs.declared.log.Entry.{Entry}
-use Rattle.vyrd_base.specs.declared.verdict.Rule.{Rule}
-use Rattle.vyrd_base.specs.Places.{newest_first}
-use Rattle.vyrd_base.specs.Shape.{broken_rule}
-use Rattle.vyrd_base.specs.Front.{front, first_break}
 use Rattle.vyrd_base.proofs.Fronts.{front_after_whole}
 use Rattle.vyrd_base.proofs.VerdictLaws.{front-append, first_break-append}
 

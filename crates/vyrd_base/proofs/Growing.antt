@@ -1,17 +1,10 @@
 -- How replies, committed executions and states grow with a front.
-use Rattle.std.proofs.Common.{◌≡◌, ℕ, true, false, List, [], ◌∷◌, ◌++◌, Option, Some, None, refl}
-use Rattle.std.proofs.Common.{ap, ◌∙◌}
-use Rattle.std.specs.Option.{option_and_then}
-use Rattle.std.specs.Bool.{then_some}
-use Rattle.vyrd_base.specs.declared.log.Entry.{Entry}
-use Rattle.vyrd_base.specs.Places.{Place, first_answer}
-use Rattle.vyrd_base.specs.Callers.{Called, by_caller}
-use Rattle.vyrd_base.specs.States.{State}
-use Rattle.vyrd_base.specs.Commits.{is_commit, returned, next_reply, Committed, committed_at}
-use Rattle.vyrd_base.specs.Commits.{commits_after, once_returned, state_after, states_from}
+use Rattle.vyrd_base.proofs.Prelude.{◌≡◌, ℕ, true, false, List, [], ◌∷◌, ◌++◌, Option, Some, None}
+use Rattle.vyrd_base.proofs.Prelude.{refl, ap, ◌∙◌, option_and_then, then_some, Entry, Place}
+use Rattle.vyrd_base.proofs.Prelude.{first_answer, Called, by_caller, State, cons_option, Rules}
+use Rattle.vyrd_base.specs.Commits.{once_returned, is_commit, returned, next_reply, Committed}
+use Rattle.vyrd_base.specs.Commits.{committed_at, commits_after, state_after, states_from}
 use Rattle.vyrd_base.proofs.PlaceLaws.{with_later, first_answer-append}
-use Rattle.std.specs.List.{cons_option}
-use Rattle.vyrd_base.specs.Rules.{Rules}
 
 -- an answer that is there stays
 pub first_answer_stays : {A B : Type 0} (f : A → Option B) (xs ys : List A) (b : B)

@@ -1,14 +1,10 @@
 -- What the limits of a header say of its version, its size, its callers and its words.
-use Rattle.std.proofs.Common.{◌≡◌, ℕ, ◌+◌, ◌<◌, ◌≤◌, ◌^◌, true, ◌∙◌, sym, arith}
-use Rattle.std.specs.Prelude.{nat_le}
-use Rattle.std.proofs.lemmas.Bool.Decides.{nat_tests}
-use Rattle.vyrd_base.specs.declared.header.Header.{Header}
-use Rattle.vyrd_base.specs.declared.subject.Subject.{Subject}
-use Rattle.vyrd_base.specs.Limits.{is_known_version, is_sized, is_within, is_own_within}
-use Rattle.vyrd_base.specs.Subjects.{is_built_in, limits_of}
-use Rattle.vyrd_base.specs.Layout.{plain_words_of, lock_words_of, plain_words, lock_words}
+use Rattle.vyrd_base.proofs.Prelude
+use Prelude.{◌≡◌, ℕ, ◌+◌, ◌<◌, ◌≤◌, ◌^◌, true, ◌∙◌, sym, arith, nat_le, nat_tests, Header, Subject}
+use Prelude.{is_known_version, is_sized, is_built_in, limits_of, plain_words_of, lock_words_of}
+use Prelude.{plain_words, lock_words, first_true, second_true, at_most_of, same_of}
+use Rattle.vyrd_base.specs.Limits.{is_within, is_own_within}
 use Rattle.vyrd_base.proofs.StructureLaws.{words_within}
-use Rattle.vyrd_base.proofs.TestLaws.{first_true, second_true, at_most_of, same_of}
 
 small_number : (n most : ℕ) → most < 2 ^ 32 → nat_le n most ≡ true → n < 2 ^ 32
 small_number n most m e = grind (arith, nat_tests)

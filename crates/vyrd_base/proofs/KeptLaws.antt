@@ -1,27 +1,15 @@
 -- What an entry that keeps the rules of shape tells.
-use Rattle.std.proofs.Common.{◌≡◌, ℕ, ◌<◌, ◌^◌, true, false, ◌&&◌, List, ◌∷◌, length, take, drop}
-use Rattle.std.proofs.Common.{get_or, Option, Some, None, slice_get, refl, ap, subst, ◌∙◌, sym, suc}
-use Rattle.std.proofs.lemmas.Option.{slice_get_within, get_or_from_slice_get}
-use Rattle.std.specs.Prelude.{is_none}
-use Rattle.std.specs.Option.{option_or, option_map_or}
-use Rattle.std.proofs.lemmas.Bool.{not-false}
-use Rattle.vyrd_base.specs.declared.header.Header.{Header}
-use Rattle.vyrd_base.specs.declared.subject.Method.{Method}
-use Rattle.vyrd_base.specs.declared.subject.Args.{Args}
-use Rattle.vyrd_base.specs.declared.log.Kind.TheVariants.{Call, Return, Write, Commit, BlockCommit}
-use Rattle.vyrd_base.specs.declared.log.Entry.{Entry}
-use Rattle.vyrd_base.specs.Places.{newest_first}
-use Rattle.vyrd_base.specs.Subjects.{subject_of, is_observer, are_args}
-use Rattle.vyrd_base.specs.Callers.{Called, open_call}
-use Rattle.vyrd_base.specs.Layout.{plain_words}
-use Rattle.vyrd_base.specs.Shape.{broken_rule, checks_at}
-use Rattle.vyrd_base.specs.Front.{first_break}
+use Rattle.vyrd_base.proofs.Prelude
+use Prelude.{◌≡◌, ℕ, ◌<◌, ◌^◌, true, false, ◌&&◌, List, ◌∷◌, length, take, drop, get_or, Option}
+use Prelude.{Some, None, slice_get, refl, ap, subst, ◌∙◌, sym, suc, slice_get_within}
+use Prelude.{get_or_from_slice_get, is_none, option_or, option_map_or, not-false, Header, Method}
+use Prelude.{Args, Call, Return, Write, Commit, BlockCommit, Entry, newest_first, subject_of}
+use Prelude.{is_observer, are_args, Called, open_call, plain_words, broken_rule, checks_at}
+use Prelude.{first_break, above_of, first_true, second_true, has_method}
 use Rattle.vyrd_base.proofs.BlockLaws.{entry}
 use Rattle.vyrd_base.proofs.VerdictLaws.{first_break-append}
 use Rattle.vyrd_base.proofs.ShadowLaws.{all_kept}
-use Rattle.vyrd_base.proofs.TestLaws.{above_of, first_true, second_true}
 use Rattle.vyrd_base.proofs.SubjectLaws.{same_subjects}
-use Rattle.vyrd_base.specs.Entries.{has_method}
 use Rattle.vyrd_base.proofs.FrontLaws.{split_at_next}
 
 -- the entry at each place of a log that keeps all rules

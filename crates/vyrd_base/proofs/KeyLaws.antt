@@ -1,12 +1,8 @@
 -- The keys before a pair amid amounts are below its own.
-use Rattle.std.proofs.Common.{ℕ, ◌<◌, T, [], ◌∷◌, ◌++◌, arith}
-use Rattle.std.specs.Prelude.{All}
-use Rattle.std.specs.Ordering.{nat_cmp, is_lt}
+use Rattle.vyrd_base.proofs.Prelude.{ℕ, ◌<◌, T, [], ◌∷◌, ◌++◌, arith, All, nat_cmp, is_lt}
+use Rattle.vyrd_base.proofs.Prelude.{AllByRecursion, nat_tests, Amounts, IsAmounts}
 use Rattle.std.specs.FinMap.Entries.{below_all, is_sorted}
-use Rattle.std.specs.List.{AllByRecursion}
 use Rattle.std.proofs.lemmas.List.Elements.{All-from_recursion}
-use Rattle.std.proofs.lemmas.Bool.Decides.{nat_tests}
-use Rattle.vyrd_base.specs.Amounts.{Amounts, IsAmounts}
 use Rattle.vyrd_base.proofs.AmountLaws.{first_of_and, second_of_and}
 
 lesser : (x k : ℕ) → T (is_lt (nat_cmp x k)) → x < k

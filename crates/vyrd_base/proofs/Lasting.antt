@@ -1,26 +1,17 @@
 -- The first fault of a front is that of every longer front.
-use Rattle.std.proofs.Common.{◌≡◌, ℕ, suc, zero, ◌+◌, ◌≤◌, Bool, true, false, cond, List, [], ◌∷◌}
-use Rattle.std.proofs.Common.{◌++◌, map, length, Option, Some, None, refl, ap, ◌∙◌, sym, arith}
-use Rattle.std.proofs.Common.{slice_get, append_assoc, length-append}
-use Rattle.std.specs.Option.{option_or, option_map}
+use Rattle.vyrd_base.proofs.Prelude
+use Prelude.{◌≡◌, ℕ, suc, zero, ◌+◌, ◌≤◌, Bool, true, false, cond, List, [], ◌∷◌, ◌++◌, map, length}
+use Prelude.{Option, Some, None, refl, ap, ◌∙◌, sym, arith, slice_get, append_assoc, length-append}
+use Prelude.{Entry, StartWord, Why, Verdict, Violation, Place, places_after, first_answer}
+use Prelude.{position_of, State, is_commit, Committed, committed_at, commit_count, state_after}
+use Prelude.{states_from, commits_after, fault_of_kind, fault_at, line_of, violation_at, Rules}
+use Rattle.std.specs.Option.{option_map, option_or}
 use Rattle.std.proofs.lemmas.List.Sums.{sum_by-cons}
 use Rattle.std.proofs.lemmas.Option.{slice_get_past}
-use Rattle.vyrd_base.specs.declared.log.Entry.{Entry}
-use Rattle.vyrd_base.specs.declared.log.StartWord.{StartWord}
-use Rattle.vyrd_base.specs.declared.verdict.Why.{Why}
-use Rattle.vyrd_base.specs.declared.verdict.Verdict.{Verdict}
-use Rattle.vyrd_base.specs.declared.verdict.Verdict.TheVariants.{Violation}
-use Rattle.vyrd_base.specs.Places.{Place, places_after, first_answer, position_of}
-use Rattle.vyrd_base.specs.States.{State}
-use Rattle.vyrd_base.specs.Commits.{is_commit, Committed, committed_at, commit_count, state_after}
-use Rattle.vyrd_base.specs.Commits.{states_from, commits_after}
-use Rattle.vyrd_base.specs.Faults.{fault_of_kind, fault_at}
-use Rattle.vyrd_base.specs.Verdicts.{line_of, violation_at}
 use Rattle.vyrd_base.proofs.PlaceLaws.{with_later}
 use Rattle.vyrd_base.proofs.Growing.{once_returned_replied}
 use Rattle.vyrd_base.proofs.Settled.{IsReturned, Settled, settled_next}
 use Rattle.vyrd_base.proofs.Judged.{fault_stays, no_state_no_fault, fault_decided, commit_decided}
-use Rattle.vyrd_base.specs.Rules.{Rules}
 
 -- the first state is the one from which the states go on
 pub states_begin : (r : Rules) (s : State) (xs : List Committed) → slice_get (states_from r s xs) 0

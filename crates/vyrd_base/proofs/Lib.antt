@@ -1,3 +1,4 @@
+mod Prelude
 pub mod VersionNumbers
 pub mod DeviceLaws
 pub mod Opened

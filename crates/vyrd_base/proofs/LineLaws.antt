@@ -1,35 +1,23 @@
 -- What a line spells is read back from it.
-use Rattle.std.proofs.Common.{◌≡◌, ℕ, suc, zero, ◌<◌, ◌≤◌, ◌^◌, Bool, true, false, cond, not, ◌&&◌}
-use Rattle.std.proofs.Common.{◌||◌, List, [], ◌∷◌, ◌++◌, map, take, Option, Some, None, refl, ap}
-use Rattle.std.proofs.Common.{◌∙◌, sym, arith}
-use Rattle.std.specs.Prelude.{◌==◌, nat_lt, codes, decimal}
-use Rattle.std.specs.Option.{option_map, option_and_then}
-use Rattle.std.specs.List.{list_all}
+use Rattle.vyrd_base.proofs.Prelude
+use Prelude.{◌≡◌, ℕ, suc, zero, ◌<◌, ◌≤◌, ◌^◌, Bool, true, false, cond, not, ◌&&◌, ◌||◌, List, []}
+use Prelude.{◌∷◌, ◌++◌, map, take, Option, Some, None, refl, ap, ◌∙◌, sym, arith, ◌==◌, nat_lt}
+use Prelude.{codes, decimal, option_and_then, list_all, bytes_eq, nat_tests, bytes_eq-Decides}
+use Prelude.{Subject, Method, Args, Kind, Call, Return, Write, Commit, BlockOpen, BlockClose}
+use Prelude.{BlockCommit, Entry, StartWord, arity_of, is_named, kind_fields, start_line, entry_line}
+use Prelude.{end_line, is_kind_of, is_entry_of, fields_of, number_of, guessed_entry, entry_in}
+use Prelude.{start_in, is_plain_field, lacks, split-join, lacks-join, number_of_decimal, bytes_same}
+use Prelude.{both_true, first_true, second_true, same_of, is_same}
+use Rattle.std.specs.Option.{option_map}
 use Rattle.std.specs.Char.{digit_value}
-use Rattle.std.specs.Str.{bytes_eq}
 use Rattle.std.proofs.lemmas.Bool.{and_right}
-use Rattle.std.proofs.lemmas.Bool.Decides.{nat_tests}
-use Rattle.std.proofs.lemmas.Slice.Eq.{bytes_eq-Decides}
-use Rattle.vyrd_base.specs.declared.subject.Subject.{Subject}
-use Rattle.vyrd_base.specs.declared.subject.Method.{Method}
-use Rattle.vyrd_base.specs.declared.subject.Args.{Args}
-use Rattle.vyrd_base.specs.declared.log.Kind.{Kind}
-use Rattle.vyrd_base.specs.declared.log.Kind.TheVariants.{Call, Return, Write, Commit, BlockOpen}
-use Rattle.vyrd_base.specs.declared.log.Kind.TheVariants.{BlockClose, BlockCommit}
-use Rattle.vyrd_base.specs.declared.log.Entry.{Entry}
-use Rattle.vyrd_base.specs.declared.log.StartWord.{StartWord}
-use Rattle.vyrd_base.specs.Subjects.{arity_of, are_padded, is_named}
-use Rattle.vyrd_base.specs.Spelling.{spaced, arg_fields, kind_fields, start_line, entry_line}
-use Rattle.vyrd_base.specs.Spelling.{end_line, is_kind_of, is_entry_of}
-use Rattle.vyrd_base.specs.Lines.{fields_of, number_of, args_from, guessed_kind, guessed_entry}
-use Rattle.vyrd_base.specs.Lines.{entry_in, guessed_start, start_in}
+use Rattle.vyrd_base.specs.Subjects.{are_padded}
+use Rattle.vyrd_base.specs.Spelling.{spaced, arg_fields}
+use Rattle.vyrd_base.specs.Lines.{args_from, guessed_kind, guessed_start}
 use Rattle.vyrd_base.proofs.SubjectLaws.{named_built_in}
 use Rattle.vyrd_base.proofs.StructureLaws.{plain_method, some_arguments, few_arguments}
 use Rattle.vyrd_base.proofs.StructureLaws.{method_found}
-use Rattle.vyrd_base.proofs.SplitLaws.{is_plain_field, lacks, all_lack, split-join, lacks-join}
-use Rattle.vyrd_base.proofs.SplitLaws.{decimal_lacks, no_space, no_line_feed, number_of_decimal}
-use Rattle.vyrd_base.proofs.SplitLaws.{bytes_same}
-use Rattle.vyrd_base.proofs.TestLaws.{both_true, first_true, second_true, same_of, is_same}
+use Rattle.vyrd_base.proofs.SplitLaws.{all_lack, decimal_lacks, no_space, no_line_feed}
 
 pub below_32 : (n : ℕ) → nat_lt n (2 ^ 32) ≡ true → n < 2 ^ 64
 below_32 n e = grind (arith, nat_tests)

@@ -1,12 +1,10 @@
 -- Lists that a loop builds, one element more, lists with one element changed, and options with and
 -- without a value.
-use Rattle.std.proofs.Common.{◌≡◌, ℕ, zero, suc, ◌+◌, ◌<◌, false, List, [], ◌∷◌, ◌++◌, length, take}
-use Rattle.std.proofs.Common.{drop, set, slice_get, Option, Some, None, refl, ap, ◌∙◌, sym, arith}
-use Rattle.std.proofs.lemmas.List.{take_more}
-use Rattle.std.proofs.lemmas.Option.{slice_get_within, slice_get-get_or, get_or_from_slice_get}
-use Rattle.std.specs.Prelude.{get_or, filter_map, replicate, is_some, IsSome}
-use Rattle.std.specs.Option.{option_or}
-use Rattle.std.specs.List.{cons_option, AllByRecursion}
+use Rattle.vyrd_base.proofs.Prelude
+use Prelude.{◌≡◌, ℕ, zero, suc, ◌+◌, ◌<◌, false, List, [], ◌∷◌, ◌++◌, length, take, drop, set}
+use Prelude.{slice_get, Option, Some, None, refl, ap, ◌∙◌, sym, arith, take_more, slice_get_within}
+use Prelude.{slice_get-get_or, get_or_from_slice_get, option_or, cons_option, AllByRecursion}
+use Rattle.std.specs.Prelude.{filter_map, IsSome, get_or, replicate, is_some}
 
 cons_front : {A : Type 0} (o : Option A) (xs ys : List A) → cons_option o (xs ++ ys)
     ≡ cons_option o xs ++ ys

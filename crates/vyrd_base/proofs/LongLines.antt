@@ -1,28 +1,15 @@
 -- No line with more than 64 bytes spells anything.
-use Rattle.std.proofs.Common.{◌≡◌, ℕ, suc, zero, ◌+◌, ◌<◌, ◌≤◌, ◌^◌, Bool, true, false, cond, ◌&&◌}
-use Rattle.std.proofs.Common.{List, [], ◌∷◌, ◌++◌, map, take, length, Option, Some, None, Err, refl}
-use Rattle.std.proofs.Common.{ap, arith, length-append}
-use Rattle.std.specs.Prelude.{nat_lt, nat_le, codes, decimal, ok_or}
-use Rattle.std.specs.Option.{option_and_then}
-use Rattle.std.specs.List.{join_with_byte}
-use Rattle.std.specs.Str.{bytes_eq}
+use Rattle.vyrd_base.proofs.Prelude
+use Prelude.{◌≡◌, ℕ, suc, zero, ◌+◌, ◌<◌, ◌≤◌, ◌^◌, Bool, true, false, cond, ◌&&◌, List, [], ◌∷◌}
+use Prelude.{◌++◌, map, take, length, Option, Some, None, Err, refl, ap, arith, length-append}
+use Prelude.{nat_lt, nat_le, codes, decimal, ok_or, option_and_then, join_with_byte, bytes_eq}
+use Prelude.{nat_tests, bytes_eq-Decides, Subject, BadHeader, UnknownVersion, Kind, Entry}
+use Prelude.{StartWord, is_sized, subject_name, header_line, kind_fields, start_line, entry_line}
+use Prelude.{end_line, is_kind_of, is_entry_of, fields_of, guessed_entry, entry_in, start_in}
+use Prelude.{header_of, header_spelled, header_from, header_in, first_true, second_true, below_of}
 use Rattle.std.proofs.lemmas.Fmt.{length-decimal-le}
-use Rattle.std.proofs.lemmas.Bool.Decides.{nat_tests}
-use Rattle.std.proofs.lemmas.Slice.Eq.{bytes_eq-Decides}
-use Rattle.vyrd_base.specs.declared.subject.Subject.{Subject}
-use Rattle.vyrd_base.specs.declared.verdict.Rule.TheVariants.{BadHeader, UnknownVersion}
-use Rattle.vyrd_base.specs.declared.log.Kind.{Kind}
-use Rattle.vyrd_base.specs.declared.log.Entry.{Entry}
-use Rattle.vyrd_base.specs.declared.log.StartWord.{StartWord}
-use Rattle.vyrd_base.proofs.StructureLaws.{short_method}
-use Rattle.vyrd_base.specs.Limits.{is_sized}
-use Rattle.vyrd_base.specs.Spelling.{subject_name, header_line, kind_fields, start_line, entry_line}
-use Rattle.vyrd_base.specs.Spelling.{end_line, is_kind_of, is_entry_of}
-use Rattle.vyrd_base.specs.Lines.{fields_of, guessed_entry, entry_in, start_in}
-use Rattle.vyrd_base.specs.Lines.{header_of, header_spelled, header_from, header_in}
+use Rattle.vyrd_base.proofs.StructureLaws.{short_method, short_subject}
 use Rattle.vyrd_base.proofs.LineLaws.{is_start, start_numbers, start_in_sound}
-use Rattle.vyrd_base.proofs.TestLaws.{first_true, second_true, below_of}
-use Rattle.vyrd_base.proofs.StructureLaws.{short_subject}
 
 -- how long fields are with the spaces after them
 abbrev pub spaced_length : List (List ℕ) → ℕ

@@ -1,28 +1,12 @@
 -- Without starting words the specification starts empty.
-use Rattle.std.proofs.Common.{◌≡◌, ℕ, zero, suc, ◌+◌, List, [], ◌∷◌, ◌++◌, map, length, Some, None}
-use Rattle.std.proofs.Common.{refl, ap, ◌∙◌, arith}
-use Rattle.std.specs.Prelude.{replicate, option_map}
-use Rattle.std.specs.Bool.{then_some}
-use Rattle.std.specs.Option.{option_or}
-use Rattle.std.proofs.lemmas.List.{replicate-append-replicate}
-use Rattle.vyrd_base.specs.declared.header.Header.{Header}
-use Rattle.vyrd_base.specs.declared.log.Entry.{Entry}
-use Rattle.vyrd_base.specs.declared.verdict.Rule.TheVariants.{CallOpen}
-use Rattle.vyrd_base.specs.declared.verdict.Verdict.TheVariants.{Malformed}
-use Rattle.vyrd_base.specs.Places.{numbers_from, newest_first}
-use Rattle.vyrd_base.specs.Front.{front}
-use Rattle.vyrd_base.specs.Layout.{plain_words, lock_words}
-use Rattle.vyrd_base.specs.Specification.{start}
-use Rattle.vyrd_base.specs.States.{showing}
-use Rattle.vyrd_base.specs.Represented.{state_of_words}
-use Rattle.vyrd_base.specs.Starts.{words_at_start, state_at_start}
-use Rattle.vyrd_base.specs.Words.{value_after}
-use Rattle.vyrd_base.specs.Commits.{states_of}
-use Rattle.vyrd_base.specs.Verdicts.{line_of, states_along, first_fault, shape_verdict}
-use Rattle.vyrd_base.specs.Verdicts.{start_verdict, begun_verdict, verdict_so_far, is_call_open}
-use Rattle.vyrd_base.specs.Verdicts.{end_verdict}
+use Rattle.vyrd_base.proofs.Prelude
+use Prelude.{◌≡◌, ℕ, zero, suc, ◌+◌, List, [], ◌∷◌, ◌++◌, map, length, Some, None, refl, ap, ◌∙◌}
+use Prelude.{arith, replicate, option_map, then_some, option_or, replicate-append-replicate, Header}
+use Prelude.{Entry, CallOpen, Malformed, numbers_from, newest_first, front, plain_words, lock_words}
+use Prelude.{start, showing, state_of_words, words_at_start, state_at_start, value_after, states_of}
+use Prelude.{line_of, states_along, first_fault, shape_verdict, start_verdict, begun_verdict}
+use Prelude.{verdict_so_far, is_call_open, end_verdict, rules_of}
 use Rattle.vyrd_base.proofs.StartLaws.{zeroed_words}
-use Rattle.vyrd_base.specs.Rules.{rules_of}
 
 -- words without any effect are 0
 pub zeros_from : (k n : ℕ) → map (value_after [] []) (numbers_from k n) ≡ replicate n 0

@@ -1,16 +1,12 @@
 -- How much the parts of a slot and of a node give to a key, and what follows a node on the chain.
-use Rattle.std.proofs.Common.{◌≡◌, ℕ, zero, suc, ◌+◌, ◌*◌, ◌^◌, ◌≤◌, min, Bool, true, false, List}
-use Rattle.std.proofs.Common.{[], ◌∷◌, refl, arith}
-use Rattle.std.specs.Prelude.{flat_map, map, slice_index}
-use Rattle.vyrd_base.specs.Places.{numbers_from, numbers_below}
-use Rattle.vyrd_base.specs.Amounts.{Amounts, amount_of, collected, given}
-use Rattle.vyrd_base.specs.Multiset.{slot_parts}
-use Rattle.vyrd_base.specs.Tree.{node_word, count_of, right_of, entry_parts, node_parts, damage}
-use Rattle.vyrd_base.specs.Tree.{chain_parts_from}
-use Rattle.vyrd_base.specs.Added.{added}
+use Rattle.vyrd_base.proofs.Prelude.{◌≡◌, ℕ, zero, suc, ◌+◌, ◌*◌, ◌^◌, ◌≤◌, min, Bool, true, false}
+use Rattle.vyrd_base.proofs.Prelude.{List, [], ◌∷◌, refl, arith, flat_map, map, slice_index}
+use Rattle.vyrd_base.proofs.Prelude.{numbers_from, numbers_below, Amounts, amount_of, collected}
+use Rattle.vyrd_base.proofs.Prelude.{given, slot_parts, entry_parts, node_parts, chain_parts_from}
+use Rattle.vyrd_base.proofs.Prelude.{added, below_of}
+use Rattle.vyrd_base.specs.Tree.{node_word, count_of, right_of, damage}
 use Rattle.vyrd_base.proofs.AddedLaws.{amount_of-added}
 use Rattle.vyrd_base.proofs.SumLaws.{given_at_most, amount_of-collected, one_at_most}
-use Rattle.vyrd_base.proofs.TestLaws.{below_of}
 
 slot_at_most : (words : List ℕ) (q i : ℕ) → given q (slot_parts words i) ≤ 1
 slot_at_most words q i = grind (arith, given, one_at_most)

@@ -1,11 +1,8 @@
 -- How the places of a list, and the first answer in it, grow with the list.
-use Rattle.std.proofs.Common.{◌≡◌, ℕ, zero, suc, ◌+◌, ◌<◌, ◌≤◌, Bool, true, List, [], ◌∷◌, ◌++◌}
-use Rattle.std.proofs.Common.{length, map, get_or, Option, Some, None, refl, ap, ◌∙◌, arith}
-use Rattle.std.specs.Option.{option_or}
-use Rattle.std.specs.List.{list_all}
-use Rattle.vyrd_base.specs.Places.{Place, places_after, first_answer, newest_first_onto}
-use Rattle.vyrd_base.specs.Places.{newest_first, numbers_from, numbers_below}
-use Rattle.vyrd_base.proofs.TestLaws.{both_true}
+use Rattle.vyrd_base.proofs.Prelude
+use Prelude.{◌≡◌, ℕ, zero, suc, ◌+◌, ◌<◌, ◌≤◌, Bool, true, List, [], ◌∷◌, ◌++◌, length, map, get_or}
+use Prelude.{Option, Some, None, refl, ap, ◌∙◌, arith, option_or, list_all, Place, places_after}
+use Prelude.{first_answer, newest_first_onto, newest_first, numbers_from, numbers_below, both_true}
 
 -- a place with more after it
 abbrev pub with_later : {A : Type 0} → List A → Place A → Place A

@@ -1,28 +1,14 @@
 -- What longer bytes say: what was read stays read, and a fault of text that is known stays.
-use Rattle.std.proofs.Common.{◌≡◌, ℕ, ◌+◌, ◌<◌, ◌≤◌, Bool, true, false, cond, ◌&&◌, ◌||◌, List, []}
-use Rattle.std.proofs.Common.{◌∷◌, ◌++◌, length, Option, Some, None, Result, Ok, Err, refl, ap}
-use Rattle.std.proofs.Common.{◌∙◌, sym, arith, length-append}
-use Rattle.std.specs.Prelude.{◌==◌, nat_lt}
-use Rattle.std.specs.List.{slice_split, onto_first}
-use Rattle.std.specs.Str.{bytes_eq}
-use Rattle.std.proofs.lemmas.Bool.Decides.{nat_tests}
-use Rattle.std.proofs.Math.Bool.{and-false}
-use Rattle.vyrd_base.specs.declared.header.Header.{Header}
-use Rattle.vyrd_base.specs.declared.subject.Subject.{Subject}
-use Rattle.vyrd_base.specs.declared.log.Entry.{Entry}
-use Rattle.vyrd_base.specs.declared.log.StartWord.{StartWord}
-use Rattle.vyrd_base.specs.declared.verdict.Rule.{Rule}
-use Rattle.vyrd_base.specs.declared.verdict.Rule.TheVariants.{TooManyLines, BadHeader, BadEntry}
-use Rattle.vyrd_base.specs.Spelling.{end_line}
-use Rattle.vyrd_base.specs.Starts.{start_rule}
-use Rattle.vyrd_base.specs.Lines.{start_in, entry_in, header_in}
-use Rattle.vyrd_base.specs.Reading.{Reading, TextFault, Input, has_any, stopped, ended}
-use Rattle.vyrd_base.specs.Reading.{unfinished_rule, after_end_rule, entry_before, lines_read}
-use Rattle.vyrd_base.specs.Reading.{start_before, starts_read, body_read, header_before, text_read}
-use Rattle.vyrd_base.specs.Reading.{reading}
+use Rattle.vyrd_base.proofs.Prelude
+use Prelude.{◌≡◌, ℕ, ◌+◌, ◌<◌, ◌≤◌, Bool, true, false, cond, ◌&&◌, ◌||◌, List, [], ◌∷◌, ◌++◌}
+use Prelude.{length, Option, Some, None, Result, Ok, Err, refl, ap, ◌∙◌, sym, arith, length-append}
+use Prelude.{◌==◌, nat_lt, slice_split, onto_first, bytes_eq, nat_tests, and-false, Header, Subject}
+use Prelude.{Entry, StartWord, Rule, TooManyLines, BadHeader, BadEntry, end_line, start_rule}
+use Prelude.{start_in, entry_in, header_in, Reading, TextFault, Input, has_any, stopped, ended}
+use Prelude.{unfinished_rule, after_end_rule, entry_before, lines_read, start_before, starts_read}
+use Prelude.{body_read, header_before, text_read, reading, below_of, is_below}
 use Rattle.vyrd_base.proofs.LongLines.{long_entry, long_start, long_isnt_end, long_header}
 use Rattle.vyrd_base.proofs.ReadingLaws.{no_start_line}
-use Rattle.vyrd_base.proofs.TestLaws.{below_of, is_below}
 
 -- parts of which the last one goes on, and after which further ones may come
 abbrev pub Longer : List (List ℕ) → List (List ℕ) → Type 0

@@ -1,44 +1,26 @@
 -- The text of a log is read as that log.
-use Rattle.std.proofs.Common.{◌≡◌, ℕ, ◌+◌, ◌<◌, ◌≤◌, ◌^◌, Bool, true, false, cond, not, ◌||◌, List}
-use Rattle.std.proofs.Common.{[], ◌∷◌, ◌++◌, map, length, Option, Some, None, Ok, Err, refl, ap}
-use Rattle.std.proofs.Common.{◌∙◌, sym, arith, append_assoc}
-use Rattle.std.specs.Prelude.{◌==◌, nat_lt, nat_le, codes, decimal, flat_map, ok_or}
-use Rattle.std.specs.List.{list_all, slice_split, AllByRecursion}
-use Rattle.std.proofs.lemmas.Bool.Decides.{nat_tests}
-use Rattle.std.proofs.Math.Bool.{Bool-set}
-use Rattle.vyrd_base.specs.declared.header.Header.{Header}
-use Rattle.vyrd_base.specs.declared.subject.Subject.{Subject}
-use Rattle.vyrd_base.specs.declared.log.Entry.{Entry}
-use Rattle.vyrd_base.specs.declared.log.StartWord.{StartWord}
-use Rattle.vyrd_base.specs.declared.verdict.Rule.TheVariants.{TooManyLines}
-use Rattle.vyrd_base.specs.declared.verdict.Rule.TheVariants.{UnknownVersion, BadHeader}
-use Rattle.vyrd_base.specs.Layout.{plain_words}
-use Rattle.vyrd_base.specs.Subjects.{is_built_in, limits_of}
-use Rattle.vyrd_base.specs.Starts.{is_out_of_range, is_out_of_order, start_rule, do_follow}
-use Rattle.vyrd_base.specs.Starts.{may_start}
-use Rattle.vyrd_base.specs.Spelling.{ended_line, start_line, entry_line, end_line, header_line}
-use Rattle.vyrd_base.specs.Spelling.{subject_name, log_text, is_entry_of}
-use Rattle.vyrd_base.specs.Lines.{start_in, header_in, fields_of, header_spelled, header_from}
-use Rattle.vyrd_base.specs.Lines.{header_if, header_of}
-use Rattle.vyrd_base.specs.Reading.{Reading, Input, stopped, ended, entry_before, lines_read}
-use Rattle.vyrd_base.specs.Reading.{start_before, starts_read, body_read, text_read, reading}
-use Rattle.vyrd_base.specs.Verdicts.{verdict}
-use Rattle.vyrd_base.specs.TextVerdicts.{text_verdict}
-use Rattle.vyrd_base.proofs.SplitLaws.{lacks, split_at, split-join, lacks-join, number_of_decimal}
-use Rattle.vyrd_base.proofs.SplitLaws.{bytes_same}
-use Rattle.vyrd_base.proofs.SplitLaws.{is_plain_field}
+use Rattle.vyrd_base.proofs.Prelude
+use Prelude.{◌≡◌, ℕ, ◌+◌, ◌<◌, ◌≤◌, ◌^◌, Bool, true, false, cond, not, ◌||◌, List, [], ◌∷◌, ◌++◌}
+use Prelude.{map, length, Option, Some, None, Ok, Err, refl, ap, ◌∙◌, sym, arith, append_assoc}
+use Prelude.{◌==◌, nat_lt, nat_le, codes, decimal, flat_map, ok_or, list_all, slice_split}
+use Prelude.{AllByRecursion, nat_tests, Bool-set, Header, Subject, Entry, StartWord, TooManyLines}
+use Prelude.{UnknownVersion, BadHeader, plain_words, is_built_in, limits_of, is_out_of_range}
+use Prelude.{is_out_of_order, start_rule, do_follow, may_start, ended_line, start_line, entry_line}
+use Prelude.{end_line, header_line, subject_name, log_text, is_entry_of, start_in, header_in}
+use Prelude.{fields_of, header_spelled, header_from, header_if, header_of, Reading, Input, stopped}
+use Prelude.{ended, entry_before, lines_read, start_before, starts_read, body_read, text_read}
+use Prelude.{reading, verdict, text_verdict, lacks, split_at, split-join, lacks-join}
+use Prelude.{number_of_decimal, bytes_same, is_plain_field, both_true, first_true, second_true}
+use Prelude.{neither_true, above_of, is_below, rules_of}
 use Rattle.vyrd_base.proofs.LineLaws.{plain_number, plain_spaces, plain_line_feeds}
 use Rattle.vyrd_base.proofs.LineLaws.{entry_line_whole, entry_in-entry_line, entry_line_isnt_end}
 use Rattle.vyrd_base.proofs.LineLaws.{is_start, start_line_whole, start_in-start_line}
 use Rattle.vyrd_base.proofs.LineLaws.{start_in-entry_line, start_in-end_line}
 use Rattle.vyrd_base.proofs.HeaderLaws.{low_version, sized, size_in_32_bits, callers_in_32_bits}
 use Rattle.vyrd_base.proofs.HeaderLaws.{few_words}
-use Rattle.vyrd_base.proofs.TestLaws.{both_true, first_true, second_true, neither_true, above_of}
-use Rattle.vyrd_base.proofs.TestLaws.{is_below}
 use Rattle.vyrd_base.proofs.StructureLaws.{plain_subject}
 use Rattle.vyrd_base.proofs.SubjectLaws.{subject_read}
 use Rattle.vyrd_base.proofs.ListLaws.{or_none}
-use Rattle.vyrd_base.specs.Rules.{rules_of}
 
 -- all entries can stand in the text of a log of the subject
 abbrev pub AllOf : Subject → List Entry → Type 0

@@ -1,38 +1,23 @@
 -- What is read to its end without a fault is the text of a log.
-use Rattle.std.proofs.Common.{◌≡◌, ℕ, ◌+◌, ◌^◌, Bool, true, false, cond, not, ◌&&◌, ◌||◌, List, []}
-use Rattle.std.proofs.Common.{◌∷◌, ◌++◌, Option, Some, None, Result, Ok, Err, refl, ap, subst, ◌∙◌}
-use Rattle.std.proofs.Common.{sym}
-use Rattle.std.specs.Prelude.{◌==◌, nat_lt, flat_map, ok_or}
-use Rattle.std.specs.Option.{option_and_then}
-use Rattle.std.specs.List.{slice_split, join_with_byte}
-use Rattle.std.specs.Str.{bytes_eq}
-use Rattle.std.proofs.lemmas.Slice.Eq.{bytes_eq-Decides}
+use Rattle.vyrd_base.proofs.Prelude
+use Prelude.{◌≡◌, ℕ, ◌+◌, ◌^◌, Bool, true, false, cond, not, ◌&&◌, ◌||◌, List, [], ◌∷◌, ◌++◌}
+use Prelude.{Option, Some, None, Result, Ok, Err, refl, ap, subst, ◌∙◌, sym, ◌==◌, nat_lt, flat_map}
+use Prelude.{ok_or, option_and_then, slice_split, join_with_byte, bytes_eq, bytes_eq-Decides}
+use Prelude.{Header, Subject, Entry, StartWord, Rule, TooManyLines, UnknownVersion, BadHeader}
+use Prelude.{is_sized, limits_of, first_broken, is_out_of_range, is_out_of_order, start_rule}
+use Prelude.{do_follow, may_start, ended_line, start_line, entry_line, end_line, header_line}
+use Prelude.{log_text, is_entry_of, fields_of, number_of, guessed_entry, entry_in, start_in}
+use Prelude.{header_if, header_of, header_spelled, header_from, header_in, subject_called, Reading}
+use Prelude.{Input, has_any, stopped, ended, after_end_rule, entry_before, lines_read, start_before}
+use Prelude.{starts_read, body_read, header_before, text_read, reading, both_true, first_true}
+use Prelude.{second_true}
 use Rattle.std.proofs.lemmas.List.Splits.{join_with_byte-slice_split}
-use Rattle.vyrd_base.specs.declared.header.Header.{Header}
-use Rattle.vyrd_base.specs.declared.subject.Subject.{Subject}
-use Rattle.vyrd_base.specs.declared.log.Entry.{Entry}
-use Rattle.vyrd_base.specs.declared.log.StartWord.{StartWord}
-use Rattle.vyrd_base.specs.declared.verdict.Rule.{Rule}
-use Rattle.vyrd_base.specs.declared.verdict.Rule.TheVariants.{TooManyLines, AfterEnd, StartRange}
-use Rattle.vyrd_base.specs.declared.verdict.Rule.TheVariants.{StartOrder, UnknownVersion, BadHeader}
-use Rattle.vyrd_base.specs.Limits.{is_sized}
-use Rattle.vyrd_base.specs.Subjects.{limits_of}
-use Rattle.vyrd_base.specs.Shape.{◌breaks◌, first_broken}
-use Rattle.vyrd_base.specs.Starts.{is_out_of_range, is_out_of_order, start_rule, do_follow}
-use Rattle.vyrd_base.specs.Starts.{may_start}
-use Rattle.vyrd_base.specs.Spelling.{ended_line, start_line, entry_line, end_line, header_line}
-use Rattle.vyrd_base.specs.Spelling.{log_text, is_entry_of}
-use Rattle.vyrd_base.specs.Lines.{fields_of, number_of, guessed_entry, entry_in, start_in}
-use Rattle.vyrd_base.specs.Lines.{header_if, header_of, header_spelled, header_from, header_in}
-use Rattle.vyrd_base.specs.Lines.{subject_called}
-use Rattle.vyrd_base.specs.Reading.{Reading, Input, has_any, stopped, ended, after_end_rule}
-use Rattle.vyrd_base.specs.Reading.{entry_before, lines_read, start_before, starts_read, body_read}
-use Rattle.vyrd_base.specs.Reading.{header_before, text_read, reading}
+use Rattle.vyrd_base.specs.declared.verdict.Rule.TheVariants.{AfterEnd, StartRange, StartOrder}
+use Rattle.vyrd_base.specs.Shape.{◌breaks◌}
 use Rattle.vyrd_base.proofs.LineLaws.{start_in_sound}
 use Rattle.vyrd_base.proofs.ReadingLaws.{AllOf, tail_lines, body_lines, two_lines, tail_text}
 use Rattle.vyrd_base.proofs.ReadingLaws.{body_text, regrouped, log_text_parts}
 use Rattle.vyrd_base.proofs.ReadingGrows.{no_starting}
-use Rattle.vyrd_base.proofs.TestLaws.{both_true, first_true, second_true}
 
 -- an entry that is read is spelled by the line, and its numbers are in range
 pub entry_in_sound : (subject : Subject) (line : List ℕ) (e : Entry) → entry_in subject line

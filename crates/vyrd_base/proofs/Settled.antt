@@ -1,19 +1,10 @@
 -- Effects that stay however a front goes on: those of entries of which each commit has returned, so
 -- that its block has ended.
-use Rattle.std.proofs.Common.{◌≡◌, ℕ, Bool, true, false, cond, List, [], ◌∷◌, ◌++◌, Some, None}
-use Rattle.std.proofs.Common.{refl, ap}
-use Rattle.std.specs.Option.{option_or}
-use Rattle.vyrd_base.specs.declared.header.Header.{Header}
-use Rattle.vyrd_base.specs.declared.log.Kind.{Kind}
-use Rattle.vyrd_base.specs.declared.log.Kind.TheVariants.{Call, Return, Write, Commit, BlockOpen}
-use Rattle.vyrd_base.specs.declared.log.Kind.TheVariants.{BlockClose, BlockCommit}
-use Rattle.vyrd_base.specs.declared.log.Entry.{Entry}
-use Rattle.vyrd_base.specs.declared.log.StartWord.{StartWord}
-use Rattle.std.specs.Prelude.{◌==◌}
-use Rattle.vyrd_base.specs.Places.{Place}
-use Rattle.vyrd_base.specs.Commits.{is_commit, returned, next_reply}
-use Rattle.vyrd_base.specs.Words.{ahead_at, writes_ahead, effects_at, effects}
-use Rattle.vyrd_base.specs.Words.{words_with, words_at}
+use Rattle.vyrd_base.proofs.Prelude.{◌≡◌, ℕ, Bool, true, false, cond, List, [], ◌∷◌, ◌++◌, Some}
+use Rattle.vyrd_base.proofs.Prelude.{None, refl, ap, option_or, Header, Kind, Call, Return, Write}
+use Rattle.vyrd_base.proofs.Prelude.{Commit, BlockOpen, BlockClose, BlockCommit, Entry, StartWord}
+use Rattle.vyrd_base.proofs.Prelude.{◌==◌, Place, is_commit, returned, next_reply, ahead_at}
+use Rattle.vyrd_base.proofs.Prelude.{writes_ahead, effects_at, effects, words_with, words_at}
 use Rattle.vyrd_base.proofs.PlaceLaws.{with_later}
 
 -- what the caller's open block still writes is known once the caller has returned

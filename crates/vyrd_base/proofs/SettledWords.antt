@@ -1,27 +1,16 @@
 -- In a well-formed log a block's writes may as well take effect at its end, once it has ended: no
 -- other caller's write has taken effect since the commit in it on a word of the block. So the
 -- words after all entries are those by block ends.
-use Rattle.std.proofs.Common.{◌≡◌, ℕ, suc, zero, ◌+◌, ◌<◌, Bool, true, false, cond, ◌&&◌, ◌||◌}
-use Rattle.std.proofs.Common.{List, [], ◌∷◌, ◌++◌, map, Option, Some, None, refl, ap, subst, ◌∙◌}
-use Rattle.std.proofs.Common.{sym}
-use Rattle.std.specs.Prelude.{◌==◌, is_some, unwrap_or}
-use Rattle.std.specs.Option.{option_or}
-use Rattle.std.specs.List.{list_any}
-use Rattle.vyrd_base.specs.declared.header.Header.{Header}
-use Rattle.vyrd_base.specs.declared.log.Kind.{Kind}
-use Rattle.vyrd_base.specs.declared.log.Kind.TheVariants.{Call, Return, Write, Commit, BlockOpen}
-use Rattle.vyrd_base.specs.declared.log.Kind.TheVariants.{BlockClose, BlockCommit}
-use Rattle.vyrd_base.specs.declared.log.Entry.{Entry}
-use Rattle.vyrd_base.specs.declared.log.StartWord.{StartWord}
-use Rattle.vyrd_base.specs.Places.{first_answer, numbers_from, numbers_below}
-use Rattle.vyrd_base.specs.Callers.{by_caller, open_or_close, has_block, has_inner_commit}
-use Rattle.vyrd_base.specs.Callers.{write_or_open, holds_word}
-use Rattle.vyrd_base.specs.Layout.{plain_words}
-use Rattle.vyrd_base.specs.Shape.{checks_at, broken_rule, is_held_by_other}
-use Rattle.vyrd_base.specs.Words.{block_writes, given_to, effects_at, effects, value_at_start}
-use Rattle.vyrd_base.specs.Words.{words_after, is_lone_commit, effects_of_others, is_passed}
-use Rattle.vyrd_base.specs.BlockEnds.{ended_effects_at, ended_effects}
-use Rattle.vyrd_base.specs.Front.{WellFormed}
+use Rattle.vyrd_base.proofs.Prelude
+use Prelude.{◌≡◌, ℕ, suc, zero, ◌+◌, ◌<◌, Bool, true, false, cond, ◌&&◌, ◌||◌, List, [], ◌∷◌, ◌++◌}
+use Prelude.{map, Option, Some, None, refl, ap, subst, ◌∙◌, sym, ◌==◌, is_some, unwrap_or}
+use Prelude.{option_or, list_any, Header, Kind, Call, Return, Write, Commit, BlockOpen, BlockClose}
+use Prelude.{BlockCommit, Entry, StartWord, first_answer, numbers_from, numbers_below, by_caller}
+use Prelude.{open_or_close, has_block, has_inner_commit, write_or_open, holds_word, plain_words}
+use Prelude.{checks_at, broken_rule, is_held_by_other, block_writes, given_to, effects_at, effects}
+use Prelude.{words_after, is_lone_commit, effects_of_others, is_passed, ended_effects_at}
+use Prelude.{ended_effects, WellFormed, same_number, flipped, first_true, second_true}
+use Rattle.vyrd_base.specs.Words.{value_at_start}
 use Rattle.vyrd_base.proofs.PlaceLaws.{first_answer-append}
 use Rattle.vyrd_base.proofs.BlockLaws.{entry, by_same, own_answer, other_answer, wrote, wrote_is}
 use Rattle.vyrd_base.proofs.ShadowLaws.{all_kept, write_kept, close_kept, block_commit_kept}
@@ -31,7 +20,6 @@ use Rattle.vyrd_base.proofs.EffectLaws.{ends_block, same_effects, same_effects_o
 use Rattle.vyrd_base.proofs.EffectLaws.{same_after, same_without_end, ends_committed_block}
 use Rattle.vyrd_base.proofs.EffectLaws.{more_after, more_effects, none_of_both, none_of_others}
 use Rattle.vyrd_base.proofs.EffectLaws.{never, has_block_of, other_inner, own_inner}
-use Rattle.vyrd_base.proofs.TestLaws.{same_number, flipped, first_true, second_true}
 
 -- a caller with an open block is a caller of the log
 pub block_is_a_callers : (h : Header) (c : ℕ) (earlier : List Entry) → WellFormed h earlier

@@ -1,31 +1,20 @@
 -- In a well-formed log a word that no open block has written has the value that was logged last for
 -- it.
-use Rattle.std.proofs.Common.{◌≡◌, ℕ, suc, zero, ◌+◌, ◌<◌, ◌≤◌, Bool, true, false, cond, not, ◌&&◌}
-use Rattle.std.proofs.Common.{◌||◌, List, [], ◌∷◌, ◌++◌, Option, Some, None, refl, ap, subst, ◌∙◌}
-use Rattle.std.proofs.Common.{sym, arith}
-use Rattle.std.specs.Prelude.{◌==◌, is_some, is_none, unwrap_or}
-use Rattle.std.specs.Option.{option_or}
-use Rattle.std.specs.List.{list_any}
-use Rattle.std.proofs.lemmas.Bool.Decides.{nat_tests}
-use Rattle.vyrd_base.specs.declared.header.Header.{Header}
-use Rattle.vyrd_base.specs.declared.log.Kind.{Kind}
-use Rattle.vyrd_base.specs.declared.log.Kind.TheVariants.{Call, Return, Write, Commit, BlockOpen}
-use Rattle.vyrd_base.specs.declared.log.Kind.TheVariants.{BlockClose, BlockCommit}
-use Rattle.vyrd_base.specs.declared.log.Entry.{Entry}
-use Rattle.vyrd_base.specs.Places.{first_answer, numbers_from, newest_first_onto, newest_first}
-use Rattle.vyrd_base.specs.Callers.{open_or_close, has_block, write_or_open, holds_word, open_call}
-use Rattle.vyrd_base.specs.Shape.{Check, first_broken, checks_at, broken_rule}
-use Rattle.vyrd_base.specs.Front.{first_break, WellFormed}
-use Rattle.vyrd_base.specs.Words.{with_write, block_writes, given_to, is_passed}
-use Rattle.vyrd_base.specs.BlockEnds.{ended_effects_at, ended_effects, ended_value}
-use Rattle.vyrd_base.specs.Verdicts.{is_call_open}
+use Rattle.vyrd_base.proofs.Prelude
+use Prelude.{◌≡◌, ℕ, suc, zero, ◌+◌, ◌<◌, ◌≤◌, Bool, true, false, cond, not, ◌&&◌, ◌||◌, List, []}
+use Prelude.{◌∷◌, ◌++◌, Option, Some, None, refl, ap, subst, ◌∙◌, sym, arith, ◌==◌, is_some}
+use Prelude.{is_none, unwrap_or, option_or, list_any, nat_tests, Header, Kind, Call, Return, Write}
+use Prelude.{Commit, BlockOpen, BlockClose, BlockCommit, Entry, first_answer, numbers_from}
+use Prelude.{newest_first_onto, newest_first, open_or_close, has_block, write_or_open, holds_word}
+use Prelude.{open_call, Check, first_broken, checks_at, broken_rule, first_break, WellFormed}
+use Prelude.{with_write, block_writes, given_to, is_passed, ended_effects_at, ended_effects}
+use Prelude.{ended_value, is_call_open, above_of, same_number}
 use Rattle.vyrd_base.proofs.PlaceLaws.{first_answer-append}
 use Rattle.vyrd_base.proofs.Fronts.{break_after}
 use Rattle.vyrd_base.proofs.BlockLaws.{entry, by_same, own_answer, other_answer, no_answer, wrote}
 use Rattle.vyrd_base.proofs.BlockLaws.{block_value, own_value, own_wrote, other_writes, wrote_is}
 use Rattle.vyrd_base.proofs.BlockLaws.{open_call-quiet}
 use Rattle.vyrd_base.proofs.ListLaws.{both_none, isnt_some}
-use Rattle.vyrd_base.proofs.TestLaws.{above_of, same_number}
 
 pub well_formed_after : (h : Header) (earlier xs : List Entry) → WellFormed h earlier
     → break_after h earlier xs ≡ None

@@ -1,13 +1,10 @@
 -- What a structure has to meet beside its definitions: its calls can be written on a line of a log
 -- and read again, its words are few, and its methods commit once or never. Each structure meets it
 -- in a file of its own.
-use Rattle.std.proofs.Common.{◌≡◌, ℕ, ◌+◌, ◌<◌, ◌≤◌, ◌^◌, true, not, length, Some}
-use Rattle.std.specs.Prelude.{find, slice_get}
-use Rattle.std.specs.Str.{bytes_eq}
-use Rattle.vyrd_base.specs.Limits.{longest_subject, longest_method}
+use Rattle.vyrd_base.proofs.Prelude.{◌≡◌, ℕ, ◌+◌, ◌<◌, ◌≤◌, ◌^◌, true, not, length, Some, find}
+use Rattle.vyrd_base.proofs.Prelude.{slice_get, bytes_eq, longest_subject, longest_method}
+use Rattle.vyrd_base.proofs.Prelude.{never_commits, always_commits, is_plain_field}
 use Rattle.vyrd_base.specs.Structures.{Structure}
-use Rattle.vyrd_base.specs.Subjects.{never_commits, always_commits}
-use Rattle.vyrd_base.proofs.SplitLaws.{is_plain_field}
 
 pub record IsSpelled {M : Type 0} (s : Structure M) : Type 0 where
   -- a method's name is a field of a line, and short

@@ -1,14 +1,10 @@
 -- String buffers are spelled on lines, and their words are few.
-use Rattle.std.proofs.Common.{◌≡◌, ℕ, ◌≤◌, true, not, length, Some, refl, arith}
-use Rattle.std.specs.Prelude.{find, slice_get}
-use Rattle.std.specs.Str.{bytes_eq}
-use Rattle.vyrd_base.specs.Limits.{longest_method}
+use Rattle.vyrd_base.proofs.Prelude.{◌≡◌, ℕ, ◌≤◌, true, not, length, Some, refl, arith, find}
+use Rattle.vyrd_base.proofs.Prelude.{slice_get, bytes_eq, longest_method, buffers, never_commits}
+use Rattle.vyrd_base.proofs.Prelude.{always_commits, is_plain_field}
 use Rattle.vyrd_base.specs.declared.buffers.BuffersMethod.{BuffersMethod}
 use Rattle.vyrd_base.specs.declared.buffers.BuffersMethod.TheVariants.{Append, AppendFrom, Cut}
 use Rattle.vyrd_base.specs.declared.buffers.BuffersMethod.TheVariants.{Length, Read}
-use Rattle.vyrd_base.specs.Buffers.{buffers}
-use Rattle.vyrd_base.specs.Subjects.{never_commits, always_commits}
-use Rattle.vyrd_base.proofs.SplitLaws.{is_plain_field}
 use Rattle.vyrd_base.proofs.Spelled.{IsSpelled}
 
 plain : (m : BuffersMethod) → is_plain_field (buffers.called m) ≡ true

@@ -1,13 +1,9 @@
 -- The tree is spelled on lines, and its words are few.
-use Rattle.std.proofs.Common.{◌≡◌, ℕ, ◌≤◌, true, not, length, Some, refl, arith}
-use Rattle.std.specs.Prelude.{find, slice_get}
-use Rattle.std.specs.Str.{bytes_eq}
-use Rattle.vyrd_base.specs.Limits.{longest_method}
+use Rattle.vyrd_base.proofs.Prelude.{◌≡◌, ℕ, ◌≤◌, true, not, length, Some, refl, arith, find}
+use Rattle.vyrd_base.proofs.Prelude.{slice_get, bytes_eq, longest_method, tree, never_commits}
+use Rattle.vyrd_base.proofs.Prelude.{always_commits, is_plain_field}
 use Rattle.vyrd_base.specs.declared.tree.TreeMethod.{TreeMethod}
 use Rattle.vyrd_base.specs.declared.tree.TreeMethod.TheVariants.{Insert, Delete, Lookup}
-use Rattle.vyrd_base.specs.Tree.{tree}
-use Rattle.vyrd_base.specs.Subjects.{never_commits, always_commits}
-use Rattle.vyrd_base.proofs.SplitLaws.{is_plain_field}
 use Rattle.vyrd_base.proofs.Spelled.{IsSpelled}
 
 plain : (m : TreeMethod) → is_plain_field (tree.called m) ≡ true

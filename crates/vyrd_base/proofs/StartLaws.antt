@@ -1,35 +1,23 @@
 -- Words for which a state stands where all locks are 0, and that zeroed words are the start.
-use Rattle.std.proofs.Common.{◌≡◌, ℕ, zero, suc, ◌+◌, ◌*◌, ◌≤◌, Bool, true, not, ◌&&◌, ◌||◌, List}
-use Rattle.std.proofs.Common.{[], ◌∷◌, ◌++◌, length, map, Some, refl, ap, ◌∙◌, sym, arith}
-use Rattle.std.proofs.Common.{length-append}
-use Rattle.std.specs.Prelude.{◌==◌, nat_lt, nat_le, drop, flat_map, find, is_none}
-use Rattle.std.specs.Prelude.{replicate, slice_index}
-use Rattle.std.specs.Bool.{then_some}
-use Rattle.std.specs.List.{list_all}
+use Rattle.vyrd_base.proofs.Prelude
+use Prelude.{◌≡◌, ℕ, zero, suc, ◌+◌, ◌*◌, ◌≤◌, Bool, true, not, ◌&&◌, ◌||◌, List, [], ◌∷◌, ◌++◌}
+use Prelude.{length, map, Some, refl, ap, ◌∙◌, sym, arith, length-append, ◌==◌, nat_lt, nat_le}
+use Prelude.{drop, flat_map, find, is_none, replicate, slice_index, then_some, list_all, Header}
+use Prelude.{Subject, Multiset, Cache, Tree, Buffers, Own, numbers_from, plain_words, lock_words}
+use Prelude.{plus_amount, collected, entry_parts, node_parts, chain_parts_from, buffer_at}
+use Prelude.{is_buffer, slot_parts, view_of_words, state_of_words, is_built_in, is_same, is_below}
 use Rattle.std.proofs.Math.Seq.{drop-append_seam}
-use Rattle.std.proofs.lemmas.List.{replicate-append-replicate, length-replicate}
-use Rattle.vyrd_base.specs.declared.header.Header.{Header}
-use Rattle.vyrd_base.specs.declared.subject.Subject.{Subject}
-use Rattle.vyrd_base.specs.declared.subject.Subject.TheVariants.{Multiset, Cache, Tree, Buffers}
-use Rattle.vyrd_base.specs.declared.subject.Subject.TheVariants.{Own}
-use Rattle.vyrd_base.specs.Places.{numbers_from}
-use Rattle.vyrd_base.specs.Layout.{plain_words, lock_words}
-use Rattle.vyrd_base.specs.Amounts.{plus_amount, collected}
-use Rattle.vyrd_base.specs.Tree.{entries_of, entry_parts, node_parts, chain_parts_from}
-use Rattle.vyrd_base.specs.Buffers.{buffer_at, is_buffer, buffer_parts}
-use Rattle.vyrd_base.specs.Multiset.{slot_parts}
-use Rattle.vyrd_base.specs.Cache.{chunk_at, chunk_parts}
-use Rattle.vyrd_base.specs.Views.{parts_of, view_of_words}
-use Rattle.vyrd_base.specs.Tree.{nodes, left_of, low_of, is_linked, is_bounded, rises, keys_at}
-use Rattle.vyrd_base.specs.Tree.{has_sound_keys, is_leaf_entry, begins_with, has_sound_entries}
-use Rattle.vyrd_base.specs.Tree.{is_only_first, is_sound_node, is_tree}
+use Rattle.std.proofs.lemmas.List.{length-replicate, replicate-append-replicate}
+use Rattle.vyrd_base.specs.Tree.{entries_of, nodes, left_of, low_of, is_linked, is_bounded, rises}
+use Rattle.vyrd_base.specs.Tree.{keys_at, has_sound_keys, is_leaf_entry, begins_with}
+use Rattle.vyrd_base.specs.Tree.{has_sound_entries, is_only_first, is_sound_node, is_tree}
+use Rattle.vyrd_base.specs.Buffers.{buffer_parts}
 use Rattle.vyrd_base.specs.Multiset.{is_sound_slot}
-use Rattle.vyrd_base.specs.Cache.{is_sound_chunk}
-use Rattle.vyrd_base.specs.Represented.{is_sound, state_of_words}
-use Rattle.vyrd_base.specs.Subjects.{is_built_in}
+use Rattle.vyrd_base.specs.Cache.{chunk_at, chunk_parts, is_sound_chunk}
+use Rattle.vyrd_base.specs.Views.{parts_of}
+use Rattle.vyrd_base.specs.Represented.{is_sound}
 use Rattle.vyrd_base.proofs.ListLaws.{zeros}
 use Rattle.vyrd_base.proofs.HeaderLaws.{some_size}
-use Rattle.vyrd_base.proofs.TestLaws.{is_same, is_below}
 
 -- two lists of words that have the same word in each place, and 0 past their ends
 abbrev pub SameWords : List ℕ → List ℕ → Type 0

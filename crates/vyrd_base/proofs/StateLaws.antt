@@ -1,22 +1,16 @@
 -- How what a caller is in the middle of, and the states along the commits, go on with one more
 -- entry.
-use Rattle.std.proofs.Common.{◌≡◌, ℕ, ◌+◌, ◌≤◌, Bool, true, false, cond, ◌&&◌, List, [], ◌∷◌, ◌++◌}
-use Rattle.std.proofs.Common.{length, take, drop, Option, Some, None, slice_get, ap, ◌∙◌, sym}
-use Rattle.std.proofs.Common.{arith, length-drop}
-use Rattle.std.specs.Prelude.{◌==◌}
-use Rattle.std.proofs.lemmas.List.{drop-take, drop-append-le, length-take, drop-drop}
-use Rattle.std.proofs.lemmas.Option.{slice_get_within}
-use Rattle.vyrd_base.specs.declared.log.Kind.{Kind}
-use Rattle.vyrd_base.specs.declared.log.Entry.{Entry}
-use Rattle.vyrd_base.specs.Callers.{open_call, call_or_return, is_call, entries_before_call}
-use Rattle.vyrd_base.specs.States.{State}
-use Rattle.vyrd_base.specs.Commits.{is_commit, returned, next_reply, commit_count, Committed}
-use Rattle.vyrd_base.specs.Commits.{committed_at, commits_after, state_after, states_from}
-use Rattle.vyrd_base.specs.Faults.{states_since_call}
+use Rattle.vyrd_base.proofs.Prelude
+use Prelude.{◌≡◌, ℕ, ◌+◌, ◌≤◌, Bool, true, false, cond, ◌&&◌, List, [], ◌∷◌, ◌++◌, length, take}
+use Prelude.{drop, Option, Some, None, slice_get, ap, ◌∙◌, sym, arith, ◌==◌, length-take, drop-drop}
+use Prelude.{slice_get_within, Kind, Entry, open_call, call_or_return, is_call, entries_before_call}
+use Prelude.{State, is_commit, returned, next_reply, commit_count, Committed, committed_at}
+use Prelude.{commits_after, state_after, states_from, states_since_call, Rules}
+use Rattle.std.proofs.Common.{length-drop}
+use Rattle.std.proofs.lemmas.List.{drop-take, drop-append-le}
 use Rattle.vyrd_base.proofs.BlockLaws.{entry, other_answer, no_answer}
 use Rattle.vyrd_base.proofs.Lasting.{commit_count-cons, states_begin}
 use Rattle.vyrd_base.proofs.ListLaws.{slice_get-drop, take_one_more}
-use Rattle.vyrd_base.specs.Rules.{Rules}
 
 -- another caller's entry
 pub open_call-other : (c d : ℕ) (kind : Kind) (earlier : List Entry) → (d == c) ≡ false

@@ -1,30 +1,15 @@
 -- Where the text of a whole input stops, and the verdict about it by its stop.
-use Rattle.std.proofs.Common.{◌≡◌, ℕ, ◌+◌, ◌<◌, Bool, true, false, cond, List, [], ◌∷◌, length}
-use Rattle.std.proofs.Common.{Option, Some, None, Result, Ok, Err, refl, ◌∙◌, sym, arith}
-use Rattle.std.specs.Prelude.{◌==◌, nat_lt, unwrap_or, option_map}
-use Rattle.std.specs.Option.{option_or, option_map_or}
-use Rattle.std.specs.Str.{bytes_eq}
-use Rattle.std.proofs.lemmas.Bool.Decides.{nat_tests}
-use Rattle.vyrd_base.specs.declared.header.Header.{Header}
-use Rattle.vyrd_base.specs.declared.subject.Subject.{Subject}
-use Rattle.vyrd_base.specs.declared.log.Entry.{Entry}
-use Rattle.vyrd_base.specs.declared.log.StartWord.{StartWord}
-use Rattle.vyrd_base.specs.declared.verdict.Rule.{Rule}
-use Rattle.vyrd_base.specs.declared.verdict.Rule.TheVariants.{TooManyLines, BadHeader, BadEntry}
-use Rattle.vyrd_base.specs.declared.verdict.Stop.TheVariants.{End, Text}
-use Rattle.vyrd_base.specs.declared.verdict.Verdict.TheVariants.{Malformed}
-use Rattle.vyrd_base.specs.Spelling.{end_line}
-use Rattle.vyrd_base.specs.Starts.{start_rule}
-use Rattle.vyrd_base.specs.Lines.{start_in, entry_in, header_in}
-use Rattle.vyrd_base.specs.Reading.{Reading, TextFault, has_any, fault_on, stopped, ended}
-use Rattle.vyrd_base.specs.Reading.{unfinished_rule, after_end_rule, entry_before, lines_read}
-use Rattle.vyrd_base.specs.Reading.{start_before, starts_read, body_read, header_before, text_read}
-use Rattle.vyrd_base.specs.Reading.{reading}
-use Rattle.vyrd_base.specs.Verdicts.{verdict_so_far, end_verdict, accepted, verdict, verdict_at}
-use Rattle.vyrd_base.specs.TextVerdicts.{known_verdict, text_verdict, stop_of}
+use Rattle.vyrd_base.proofs.Prelude
+use Prelude.{◌≡◌, ℕ, ◌+◌, ◌<◌, Bool, true, false, cond, List, [], ◌∷◌, length, Option, Some, None}
+use Prelude.{Result, Ok, Err, refl, ◌∙◌, sym, arith, ◌==◌, nat_lt, unwrap_or, option_map, option_or}
+use Prelude.{option_map_or, bytes_eq, nat_tests, Header, Subject, Entry, StartWord, Rule}
+use Prelude.{TooManyLines, BadHeader, BadEntry, End, Text, Malformed, end_line, start_rule}
+use Prelude.{start_in, entry_in, header_in, Reading, TextFault, has_any, fault_on, stopped, ended}
+use Prelude.{unfinished_rule, after_end_rule, entry_before, lines_read, start_before, starts_read}
+use Prelude.{body_read, header_before, text_read, reading, verdict_so_far, end_verdict, accepted}
+use Prelude.{verdict, verdict_at, known_verdict, text_verdict, stop_of, rules_of}
 use Rattle.vyrd_base.proofs.ReadingGrows.{input_of, some_parts}
 use Rattle.vyrd_base.proofs.ListLaws.{or_none}
-use Rattle.vyrd_base.specs.Rules.{rules_of}
 
 -- how many lines were read as starting words or entries
 abbrev pub read_lines : Reading → ℕ

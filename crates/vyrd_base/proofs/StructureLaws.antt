@@ -1,27 +1,15 @@
 -- What every method and every subject meets: calls are written on lines and read again.
-use Rattle.std.proofs.Common.{◌≡◌, ℕ, ◌+◌, ◌<◌, ◌≤◌, ◌^◌, Bool, true, not, cond}
-use Rattle.std.proofs.Common.{List, [], ◌∷◌, length, map}
-use Rattle.std.proofs.Common.{Some, refl, ap, ◌∙◌, arith}
-use Rattle.std.specs.Prelude.{find, option_map, slice_get}
-use Rattle.std.proofs.lemmas.Option.{slice_get-map}
-use Rattle.vyrd_base.specs.Limits.{longest_subject, longest_method}
-use Rattle.vyrd_base.specs.declared.subject.Subject.{Subject}
-use Rattle.vyrd_base.specs.declared.subject.Subject.TheVariants.{Multiset, Cache, Tree, Buffers}
-use Rattle.vyrd_base.specs.declared.subject.Method.{Method}
+use Rattle.vyrd_base.proofs.Prelude
+use Prelude.{◌≡◌, ℕ, ◌+◌, ◌<◌, ◌≤◌, ◌^◌, Bool, true, not, cond, List, [], ◌∷◌, length, map, Some}
+use Prelude.{refl, ap, ◌∙◌, arith, find, option_map, slice_get, slice_get-map, longest_subject}
+use Prelude.{longest_method, Subject, Multiset, Cache, Tree, Buffers, Method, multiset, cache, tree}
+use Prelude.{buffers, arity_of, subject_of, methods_of, is_observer, must_commit, is_built_in}
+use Prelude.{is_named, plain_words_of, lock_words_of, subject_name, method_name, method_called}
+use Prelude.{is_plain_field}
+use Rattle.vyrd_base.specs.declared.subject.Method.TheVariants.{OwnNever, OwnAtMostOnce, OwnOnce}
 use Rattle.vyrd_base.specs.declared.subject.Method.TheVariants.{Multiset as OfMultiset}
 use Rattle.vyrd_base.specs.declared.subject.Method.TheVariants.{Cache as OfCache, Tree as OfTree}
 use Rattle.vyrd_base.specs.declared.subject.Method.TheVariants.{Buffers as OfBuffers}
-use Rattle.vyrd_base.specs.declared.subject.Method.TheVariants.{OwnNever, OwnAtMostOnce, OwnOnce}
-use Rattle.vyrd_base.specs.Multiset.{multiset}
-use Rattle.vyrd_base.specs.Cache.{cache}
-use Rattle.vyrd_base.specs.Tree.{tree}
-use Rattle.vyrd_base.specs.Buffers.{buffers}
-use Rattle.vyrd_base.specs.Subjects.{arity_of, subject_of, methods_of, is_observer, must_commit}
-use Rattle.vyrd_base.specs.Subjects.{is_built_in, is_named}
-use Rattle.vyrd_base.specs.Layout.{plain_words_of, lock_words_of}
-use Rattle.vyrd_base.specs.Spelling.{subject_name, method_name}
-use Rattle.vyrd_base.specs.Lines.{method_called}
-use Rattle.vyrd_base.proofs.SplitLaws.{is_plain_field}
 use Rattle.vyrd_base.proofs.SpelledMultiset.{multiset_is}
 use Rattle.vyrd_base.proofs.SpelledCache.{cache_is}
 use Rattle.vyrd_base.proofs.SpelledTree.{tree_is}

@@ -1,20 +1,11 @@
 -- The subjects and their names: which are the same, how long a name is, and how it is read.
-use Rattle.std.proofs.Common.{◌≡◌, ℕ, Bool, true, false, cond, List, [], ◌∷◌, ◌++◌, Some, refl, sym}
-use Rattle.std.proofs.Common.{ap, ◌∙◌}
-use Rattle.std.specs.Prelude.{◌==◌, find}
-use Rattle.std.specs.Str.{bytes_eq}
-use Rattle.std.specs.List.{slice_split, AllByRecursion}
+use Rattle.vyrd_base.proofs.Prelude
+use Prelude.{◌≡◌, ℕ, Bool, true, false, cond, List, [], ◌∷◌, ◌++◌, Some, refl, sym, ap, ◌∙◌, ◌==◌}
+use Prelude.{find, bytes_eq, slice_split, AllByRecursion, Subject, Method, Multiset, Cache, Tree}
+use Prelude.{Buffers, Own, subject_name, subject_called, split_at, first_true, second_true}
 use Rattle.std.proofs.lemmas.List.{append_cancel_left}
-use Rattle.vyrd_base.specs.declared.subject.Subject.{Subject}
-use Rattle.vyrd_base.specs.declared.subject.Method.{Method}
-use Rattle.vyrd_base.specs.declared.subject.Subject.TheVariants.{Multiset, Cache, Tree, Buffers}
-use Rattle.vyrd_base.specs.declared.subject.Subject.TheVariants.{Own}
 use Rattle.vyrd_base.specs.Subjects.{subjects, same_subject, is_built_in, is_named, subject_of}
-use Rattle.vyrd_base.specs.Spelling.{subject_name}
-use Rattle.vyrd_base.specs.Lines.{subject_called}
-use Rattle.vyrd_base.proofs.SplitLaws.{split_at}
 use Rattle.vyrd_base.proofs.StructureLaws.{plain_subject}
-use Rattle.vyrd_base.proofs.TestLaws.{first_true, second_true}
 
 -- subjects that are found to be the same are
 pub same_subjects : (a b : Subject) → same_subject a b ≡ true → a ≡ b

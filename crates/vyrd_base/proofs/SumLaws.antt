@@ -1,17 +1,12 @@
 -- What parts give to a key, whose amount is the sum of it.
-use Rattle.std.proofs.Common.{◌≡◌, ◌≢◌, ℕ, zero, suc, ◌+◌, ◌*◌, ◌<◌, ◌≤◌, Bool, cond}
-use Rattle.std.proofs.Common.{List, [], ◌∷◌, ◌++◌, length, get_or, set, refl, ap, ◌∙◌, sym, arith}
-use Rattle.std.proofs.Common.{T}
-use Rattle.std.specs.Prelude.{◌==◌, flat_map, Some, unwrap_or}
-use Rattle.std.specs.Ordering.{nat_cmp, is_lt}
+use Rattle.vyrd_base.proofs.Prelude
+use Prelude.{◌≡◌, ◌≢◌, ℕ, zero, suc, ◌+◌, ◌*◌, ◌<◌, ◌≤◌, Bool, cond, List, [], ◌∷◌, ◌++◌, length}
+use Prelude.{get_or, set, refl, ap, ◌∙◌, sym, arith, T, ◌==◌, flat_map, Some, unwrap_or, nat_cmp}
+use Prelude.{is_lt, unsigned_tied, numbers_from, Amounts, IsAmounts, amount_of, plus_amount}
+use Prelude.{collected, part_given, given, same_of, same_number, isnt_same}
 use Rattle.std.specs.FinMap.Entries.{find, below_all}
-use Rattle.std.specs.Cmp.{unsigned_tied}
-use Rattle.vyrd_base.specs.Places.{numbers_from}
-use Rattle.vyrd_base.specs.Amounts.{Amounts, IsAmounts, amount_of, plus_amount, collected}
-use Rattle.vyrd_base.specs.Amounts.{part_given, given}
 use Rattle.vyrd_base.proofs.AmountLaws.{amount_of-with_amount, IsAmounts-with_amount, apart_from}
 use Rattle.vyrd_base.proofs.AmountLaws.{first_of_and, second_of_and}
-use Rattle.vyrd_base.proofs.TestLaws.{same_of, same_number, isnt_same}
 
 pub amount_of-plus : (s : Amounts) (k a q : ℕ) → amount_of (plus_amount s k a) q ≡ amount_of s q
     + part_given q (k, a)

@@ -1,24 +1,13 @@
 -- A verdict about bytes that stands stands for all longer bytes.
-use Rattle.std.proofs.Common.{◌≡◌, ℕ, ◌≤◌, Bool, true, false, cond, ◌||◌, List, [], ◌∷◌, ◌++◌}
-use Rattle.std.proofs.Common.{Option, Some, None, refl, ap, ◌∙◌, sym}
-use Rattle.std.specs.Prelude.{unwrap_or, option_map, option_and_then}
-use Rattle.std.specs.Option.{option_or}
-use Rattle.std.proofs.lemmas.Option.{option_and_then_some}
-use Rattle.std.proofs.lemmas.Bool.{or_right}
-use Rattle.vyrd_base.specs.declared.header.Header.{Header}
-use Rattle.vyrd_base.specs.declared.log.Entry.{Entry}
-use Rattle.vyrd_base.specs.declared.log.StartWord.{StartWord}
-use Rattle.vyrd_base.specs.declared.verdict.Verdict.{Verdict}
-use Rattle.vyrd_base.specs.declared.verdict.Verdict.TheVariants.{Malformed}
-use Rattle.vyrd_base.specs.Front.{front, first_break}
-use Rattle.vyrd_base.specs.Reading.{Reading, TextFault, has_any, reading}
-use Rattle.vyrd_base.specs.Verdicts.{first_fault, shape_verdict, verdict_so_far, end_verdict}
-use Rattle.vyrd_base.specs.Verdicts.{accepted}
-use Rattle.vyrd_base.specs.TextVerdicts.{entries_verdict, known_verdict, text_verdict}
-use Rattle.vyrd_base.specs.TextVerdicts.{text_verdict_so_far}
+use Rattle.vyrd_base.proofs.Prelude
+use Prelude.{◌≡◌, ℕ, ◌≤◌, Bool, true, false, cond, ◌||◌, List, [], ◌∷◌, ◌++◌, Option, Some, None}
+use Prelude.{refl, ap, ◌∙◌, sym, unwrap_or, option_map, option_or, option_and_then_some, or_right}
+use Prelude.{Header, Entry, StartWord, Verdict, Malformed, front, first_break, Reading, TextFault}
+use Prelude.{has_any, reading, first_fault, shape_verdict, verdict_so_far, end_verdict, accepted}
+use Prelude.{entries_verdict, known_verdict, text_verdict, text_verdict_so_far, rules_of}
+use Rattle.std.specs.Prelude.{option_and_then}
 use Rattle.vyrd_base.proofs.ReadingGrows.{TextGrown, so_far, input_of, reading_grows}
 use Rattle.vyrd_base.proofs.VerdictLaws.{verdict_lasts}
-use Rattle.vyrd_base.specs.Rules.{rules_of}
 
 or_known : {A : Type 0} (o : Option A) (a : A) → option_or o None ≡ Some a → o ≡ Some a
 or_known None a e = cc

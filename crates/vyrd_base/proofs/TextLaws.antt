@@ -1,15 +1,14 @@
 -- Texts of string buffers as numbers: how long they are, how they are joined, and how they are cut.
-use Rattle.std.proofs.Common.{◌≡◌, ℕ, zero, suc, ◌+◌, ◌-◌, ◌*◌, ◌/◌, ◌^◌, ◌%◌, ◌<◌, ◌≤◌, min, Bool}
+use Rattle.vyrd_base.proofs.Prelude.{◌==◌, nat_lt, nat_le, text_of, text_length, are_characters}
+use Rattle.vyrd_base.proofs.Prelude.{same_of, apart_of, both_true, first_true, second_true}
+use Rattle.vyrd_base.proofs.Prelude.{below_of, is_below, at_most_of, is_at_most, above_of}
+use Rattle.std.proofs.Common.{◌-◌, ◌/◌, ◌%◌, ◌≡◌, ℕ, zero, suc, ◌+◌, ◌*◌, ◌^◌, ◌<◌, ◌≤◌, min, Bool}
 use Rattle.std.proofs.Common.{true, false, cond, ◌&&◌, refl, ap, ◌∙◌, sym, arith}
-use Rattle.std.specs.Prelude.{◌==◌, nat_lt, nat_le}
 use Rattle.std.proofs.Math.Nat.{pow-suc, pow-le-pow_right, mul-le-mul_right, add-mul-mod_self_right}
 use Rattle.std.proofs.Math.Nat.{mod-eq_of_lt}
 use Rattle.std.proofs.lemmas.Nat.{pow-add, mul-add-lt}
-use Rattle.vyrd_base.specs.Buffers.{text_of, powers_within, text_length, has_room, joined, cut_to}
-use Rattle.vyrd_base.specs.Buffers.{are_characters}
-use Rattle.vyrd_base.proofs.TestLaws.{same_of, apart_of, both_true, first_true, second_true}
-use Rattle.vyrd_base.proofs.TestLaws.{below_of, is_below, not_below_of, isnt_below, at_most_of}
-use Rattle.vyrd_base.proofs.TestLaws.{is_at_most, above_of, isnt_at_most}
+use Rattle.vyrd_base.specs.Buffers.{powers_within, has_room, joined, cut_to}
+use Rattle.vyrd_base.proofs.TestLaws.{not_below_of, isnt_below, isnt_at_most}
 
 -- a text has only the characters below its length
 pub text_same : (f g : ℕ → ℕ) (n : ℕ) → ((i : ℕ) → i < n → f i ≡ g i) → text_of f n ≡ text_of g n

@@ -1,27 +1,13 @@
 -- The verdict by its parts: a fault in the front, a break of shape, an open call at `end`, the
 -- text, and acceptance. The starting words stand for a state, so that nothing is wrong with them.
-use Rattle.std.proofs.Common.{◌≡◌, ℕ, ◌+◌, Bool, true, false, cond, List, [], length, Option, Some}
-use Rattle.std.proofs.Common.{None, refl, ap, ◌∙◌, sym, arith}
-use Rattle.std.specs.Prelude.{◌==◌, option_map, unwrap_or}
-use Rattle.std.specs.Option.{option_or}
-use Rattle.std.specs.Bool.{then_some}
-use Rattle.vyrd_base.specs.declared.log.Entry.{Entry}
-use Rattle.vyrd_base.specs.declared.log.StartWord.{StartWord}
-use Rattle.vyrd_base.specs.declared.verdict.Rule.{Rule}
-use Rattle.vyrd_base.specs.declared.verdict.Rule.TheVariants.{CallOpen}
+use Rattle.vyrd_base.proofs.Prelude
+use Prelude.{◌≡◌, ℕ, ◌+◌, Bool, true, false, cond, List, [], length, Option, Some, None, refl, ap}
+use Prelude.{◌∙◌, sym, arith, ◌==◌, option_map, unwrap_or, option_or, then_some, Entry, StartWord}
+use Prelude.{Rule, CallOpen, End, Text, Verdict, Malformed, newest_first, State, state_at_start}
+use Prelude.{front, first_break, line_of, first_fault, shape_verdict, start_verdict, begun_verdict}
+use Prelude.{verdict_so_far, is_call_open, end_verdict, accepted, verdict, verdict_at, Rules}
 use Rattle.vyrd_base.specs.declared.verdict.Stop.{Stop}
-use Rattle.vyrd_base.specs.declared.verdict.Stop.TheVariants.{End, Text}
-use Rattle.vyrd_base.specs.declared.verdict.Verdict.{Verdict}
-use Rattle.vyrd_base.specs.declared.verdict.Verdict.TheVariants.{Malformed}
-use Rattle.vyrd_base.specs.Places.{newest_first}
-use Rattle.vyrd_base.specs.States.{State}
-use Rattle.vyrd_base.specs.Starts.{state_at_start}
-use Rattle.vyrd_base.specs.Front.{front, first_break}
-use Rattle.vyrd_base.specs.Verdicts.{line_of, first_fault, shape_verdict, start_verdict}
-use Rattle.vyrd_base.specs.Verdicts.{begun_verdict, verdict_so_far, is_call_open, end_verdict}
-use Rattle.vyrd_base.specs.Verdicts.{accepted, verdict, verdict_at}
 use Rattle.vyrd_base.proofs.FrontLaws.{front_whole}
-use Rattle.vyrd_base.specs.Rules.{Rules}
 
 -- starting words that stand for a state aren't a fault
 pub sound_start : (r : Rules) (starting : List StartWord) (state : State)

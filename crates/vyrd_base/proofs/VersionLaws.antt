@@ -1,34 +1,18 @@
 -- A log of version 1 has the verdict of old.
-use Rattle.std.proofs.Common.{◌≡◌, List, [], ◌∷◌, length, Option, Some, None, refl, ap, ◌∙◌}
-use Rattle.std.specs.Prelude.{unwrap_or, option_map, ◌+◌}
-use Rattle.std.specs.Option.{option_or}
-use Rattle.std.specs.Bool.{then_some}
-use Rattle.vyrd_base.specs.declared.header.Header.{Header}
-use Rattle.vyrd_base.specs.declared.log.Kind.{Kind}
-use Rattle.vyrd_base.specs.declared.log.Kind.TheVariants.{Call, Return, Write, Commit, BlockOpen}
-use Rattle.vyrd_base.specs.declared.log.Kind.TheVariants.{BlockClose, BlockCommit}
-use Rattle.vyrd_base.specs.declared.log.Entry.{Entry}
-use Rattle.vyrd_base.specs.declared.verdict.Rule.{Rule}
-use Rattle.vyrd_base.specs.declared.verdict.Rule.TheVariants.{CallOpen}
-use Rattle.vyrd_base.specs.declared.verdict.Verdict.{Verdict}
-use Rattle.vyrd_base.specs.declared.verdict.Verdict.TheVariants.{Violation, Malformed}
-use Rattle.vyrd_base.specs.Places.{Place, places_after, position_of, newest_first, first_answer}
-use Rattle.vyrd_base.specs.States.{State}
-use Rattle.vyrd_base.specs.Specification.{start}
-use Rattle.vyrd_base.specs.Shape.{broken_rule}
-use Rattle.vyrd_base.specs.Front.{front, front_after, first_break, WellFormed}
-use Rattle.vyrd_base.specs.Commits.{states_of}
-use Rattle.vyrd_base.specs.Faults.{fault_of_kind, fault_at}
-use Rattle.vyrd_base.specs.Verdicts.{line_of, violation_at, first_fault, shape_verdict}
-use Rattle.vyrd_base.specs.Verdicts.{is_call_open, verdict_so_far, end_verdict, accepted, verdict}
-use Rattle.vyrd_base.specs.FirstVersion.{old_broken_rule, old_front_after, old_front}
-use Rattle.vyrd_base.specs.FirstVersion.{old_fault_of_kind, old_first_fault, old_verdict_so_far}
-use Rattle.vyrd_base.specs.FirstVersion.{old_verdict}
+use Rattle.vyrd_base.proofs.Prelude
+use Prelude.{◌≡◌, List, [], ◌∷◌, length, Option, Some, None, refl, ap, ◌∙◌, unwrap_or, option_map}
+use Prelude.{◌+◌, option_or, then_some, Header, Kind, Call, Return, Write, Commit, BlockOpen}
+use Prelude.{BlockClose, BlockCommit, Entry, Rule, CallOpen, Verdict, Violation, Malformed, Place}
+use Prelude.{places_after, position_of, newest_first, first_answer, State, start, broken_rule}
+use Prelude.{front, front_after, first_break, WellFormed, states_of, fault_of_kind, fault_at}
+use Prelude.{line_of, violation_at, first_fault, shape_verdict, is_call_open, verdict_so_far}
+use Prelude.{end_verdict, accepted, verdict, old_broken_rule, rules_of}
+use Rattle.vyrd_base.specs.FirstVersion.{old_front_after, old_front, old_fault_of_kind}
+use Rattle.vyrd_base.specs.FirstVersion.{old_first_fault, old_verdict_so_far, old_verdict}
 use Rattle.vyrd_base.proofs.Fronts.{break_after}
 use Rattle.vyrd_base.proofs.NoStart.{line_of-none, states_along-none, start_verdict-none}
 use Rattle.vyrd_base.proofs.NoStart.{begun_verdict-none}
 use Rattle.vyrd_base.proofs.VersionWords.{broken_rule-old, first_words_at}
-use Rattle.vyrd_base.specs.Rules.{rules_of}
 
 -- the first break after some entries
 abbrev pub old_break_after : Header → List Entry → List Entry → Option Rule

@@ -1,28 +1,15 @@
 -- In version 1 no commit stands inside a block, so the words of a well-formed log are those of
 -- version 1's definition.
-use Rattle.std.proofs.Common.{◌≡◌, ℕ, Bool, true, false, ◌&&◌, ◌||◌, List, [], ◌∷◌, ◌++◌}
-use Rattle.std.proofs.Common.{None, refl, ap, subst, ◌∙◌, sym}
-use Rattle.std.specs.Prelude.{◌==◌}
-use Rattle.std.specs.List.{list_any}
-use Rattle.vyrd_base.specs.declared.header.Header.{Header}
-use Rattle.vyrd_base.specs.declared.log.Kind.{Kind}
-use Rattle.vyrd_base.specs.declared.log.Kind.TheVariants.{Call, Return, Write, Commit, BlockOpen}
-use Rattle.vyrd_base.specs.declared.log.Kind.TheVariants.{BlockClose, BlockCommit}
-use Rattle.vyrd_base.specs.declared.log.Entry.{Entry}
-use Rattle.vyrd_base.specs.Places.{Place}
-use Rattle.vyrd_base.specs.Callers.{has_block, has_inner_commit}
-use Rattle.vyrd_base.specs.Shape.{checks_at, broken_rule}
-use Rattle.vyrd_base.specs.Shape.{is_held_by_other}
-use Rattle.vyrd_base.specs.Words.{effects_at, effects}
-use Rattle.vyrd_base.specs.Words.{effects_of_others, words_with, words_at}
-use Rattle.vyrd_base.specs.FirstVersion.{old_broken_rule}
-use Rattle.vyrd_base.specs.BlockEnds.{ended_effects_at, ended_effects}
+use Rattle.vyrd_base.proofs.Prelude
+use Prelude.{◌≡◌, ℕ, Bool, true, false, ◌&&◌, ◌||◌, List, [], ◌∷◌, ◌++◌, None, refl, ap, subst, ◌∙◌}
+use Prelude.{sym, ◌==◌, list_any, Header, Kind, Call, Return, Write, Commit, BlockOpen, BlockClose}
+use Prelude.{BlockCommit, Entry, Place, has_block, has_inner_commit, checks_at, broken_rule}
+use Prelude.{is_held_by_other, effects_at, effects, effects_of_others, words_with, words_at}
+use Prelude.{old_broken_rule, ended_effects_at, ended_effects, WellFormed, is_same}
 use Rattle.vyrd_base.specs.BlockEnds.{ended_words}
-use Rattle.vyrd_base.specs.Front.{WellFormed}
 use Rattle.vyrd_base.proofs.BlockLaws.{entry, by_same}
 use Rattle.vyrd_base.proofs.ShadowLaws.{all_kept}
 use Rattle.vyrd_base.proofs.EffectLaws.{own_inner, other_inner}
-use Rattle.vyrd_base.proofs.TestLaws.{is_same}
 
 -- a lone commit stands in no block
 first_commit_kept : (h : Header) (c : ℕ) (earlier : List Entry) → h.version ≡ 1

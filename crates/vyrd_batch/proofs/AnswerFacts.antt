@@ -1,11 +1,7 @@
 -- The lines of verdicts, one after the other.
-use Rattle.std.proofs.Common.{◌≡◌, ℕ, ◌+◌, ◌<◌, List, [], ◌∷◌, ◌++◌, length, take, ap, ◌∙◌, sym}
-use Rattle.std.proofs.Common.{arith, append_assoc, append-nil, add-one}
-use Rattle.std.specs.Prelude.{get_or, Result, OnErr}
-use Rattle.std.proofs.lemmas.List.{length-take}
-use Rattle.std.proofs.Math.Seq.{take-suc}
-use Rattle.vyrd_base.specs.declared.verdict.Verdict.{Verdict}
-use Rattle.vyrd_batch.specs.BatchAnswers.{log_line, lines_from}
+use Rattle.vyrd_batch.proofs.Prelude.{◌≡◌, ℕ, ◌+◌, ◌<◌, List, [], ◌∷◌, ◌++◌, length, take, ap, ◌∙◌}
+use Rattle.vyrd_batch.proofs.Prelude.{sym, arith, append_assoc, append-nil, add-one, get_or, Result}
+use Rattle.vyrd_batch.proofs.Prelude.{OnErr, length-take, take-suc, Verdict, log_line, lines_from}
 
 lines_append : (log : ℕ) (xs ys : List Verdict) → lines_from log (xs ++ ys) ≡ lines_from log xs
     ++ lines_from (log + length xs) ys

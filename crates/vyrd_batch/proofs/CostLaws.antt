@@ -1,19 +1,11 @@
 -- What rounds of a batch cost.
-use Rattle.std.proofs.Common.{◌≡◌, ℕ, zero, suc, ◌+◌, ◌*◌, ◌-◌, ◌<◌, ◌≤◌, Bool, true, false}
-use Rattle.std.proofs.Common.{List, [], ◌∷◌, ◌++◌, length, drop, Option, Some, None, refl, ap}
-use Rattle.std.proofs.Common.{◌∙◌, sym, subst, arith, length-append, inl, inr}
-use Rattle.std.specs.Prelude.{nat_le, decimal, codes}
-use Rattle.std.proofs.lemmas.Fmt.{length-decimal-le, decimal_nonempty}
-use Rattle.std.proofs.lemmas.List.{length-drop, drop-drop}
-use Rattle.vyrd_base.specs.Spelling.{ended_line}
-use Rattle.vyrd_base.proofs.TestLaws.{at_most_of, above_of}
-use Rattle.vyrd_text.specs.Steps.{is_one_line}
-use Rattle.vyrd_batch.specs.declared.span.Span.{Span}
-use Rattle.vyrd_batch.specs.Batches.{most_logs, first_word, log_word, Cut}
-use Rattle.vyrd_batch.specs.Batches.{first_line, size_in, span_of, log_at}
-use Rattle.vyrd_batch.specs.Rounds.{IsNoLog, IsNothingMore, IsNothingEver, IsSpentBy}
-use Rattle.vyrd_batch.specs.Rounds.{longest_line}
-use Rattle.vyrd_batch.specs.Costs.{line_look, rest_look, moved, IsLeft, IsBegun}
+use Rattle.vyrd_batch.proofs.Prelude
+use Prelude.{◌≡◌, ℕ, zero, suc, ◌+◌, ◌*◌, ◌-◌, ◌<◌, ◌≤◌, Bool, true, false, List, [], ◌∷◌, ◌++◌}
+use Prelude.{length, drop, Option, Some, None, refl, ap, ◌∙◌, sym, subst, arith, length-append, inl}
+use Prelude.{inr, nat_le, decimal, codes, length-decimal-le, decimal_nonempty, length-drop}
+use Prelude.{drop-drop, ended_line, at_most_of, above_of, is_one_line, Span, most_logs, first_word}
+use Prelude.{log_word, Cut, first_line, size_in, span_of, log_at, IsNoLog, IsNothingMore}
+use Prelude.{IsNothingEver, IsSpentBy, longest_line, line_look, rest_look, moved, IsLeft, IsBegun}
 use Rattle.vyrd_batch.proofs.LineFacts.{no_line, one_line}
 use Rattle.vyrd_batch.proofs.SettledLaws.{IsLonger, first_longer, cut_len}
 use Rattle.vyrd_batch.proofs.RoundLaws.{from_place, count_more}

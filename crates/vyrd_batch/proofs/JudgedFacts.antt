@@ -1,15 +1,9 @@
 -- Verdicts that threads gave, part by part, as one list.
-use Rattle.std.proofs.Common.{◌≡◌, Vec, Global, Bor, ℕ, ◌≤◌, List, [], ◌∷◌, ◌++◌, length, take}
-use Rattle.std.proofs.Common.{drop, arith, map, Result, Ok, Err, IfOk, refl, ap, ◌∙◌, sym}
-use Rattle.std.specs.Prelude.{Contains, MatchResult, flat_map}
-use Rattle.std.specs.List.{AllZip, AllByRecursion}
-use Rattle.std.proofs.lemmas.List.{map-append, length-append, length-map, take-append-drop}
-use Rattle.std.proofs.lemmas.Grind.{flat_map-append}
-use Rattle.vyrd_base.specs.declared.verdict.Verdict.{Verdict}
-use Rattle.vyrd_base.specs.LogVerdicts.{log_verdict}
-use Rattle.vyrd_batch.specs.declared.span.Span.{Span}
-use Rattle.vyrd_batch.specs.Batches.{bytes_of}
-use Rattle.vyrd_batch.specs.BatchAnswers.{verdicts_of}
+use Rattle.vyrd_batch.proofs.Prelude
+use Prelude.{◌≡◌, Vec, Global, Bor, ℕ, ◌≤◌, List, [], ◌∷◌, ◌++◌, length, take, drop, arith, map}
+use Prelude.{Result, Ok, Err, IfOk, refl, ap, ◌∙◌, sym, Contains, MatchResult, flat_map, AllZip}
+use Prelude.{AllByRecursion, map-append, length-append, length-map, take-append-drop}
+use Prelude.{flat_map-append, Verdict, log_verdict, Span, bytes_of, verdicts_of}
 
 -- where each answer shows what it should if it is one, and all are, they all show it
 all_right : {X Y Z : Type 0} (E : Type 0) (show : Y → Z) (f : X → Z) (xs : List X) (ys : List Y)

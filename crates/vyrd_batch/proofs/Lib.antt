@@ -1,3 +1,4 @@
+mod Prelude
 pub mod LineFacts
 pub mod LogFacts
 pub mod AnswerFacts

@@ -1,16 +1,10 @@
 -- What the line before a log says, and where its bytes stand.
-use Rattle.std.proofs.Common.{◌≡◌, ℕ, ◌+◌, ◌-◌, ◌<◌, ◌≤◌, ◌^◌, true, cond, not, ◌&&◌, List, [], ◌∷◌}
-use Rattle.std.proofs.Common.{◌++◌, length, drop, Option, Some, None, refl, arith}
-use Rattle.std.specs.Prelude.{◌==◌, nat_le}
-use Rattle.std.specs.Str.{bytes_eq}
-use Rattle.std.proofs.lemmas.Bool.{not-true}
-use Rattle.std.proofs.Math.Seq.{drop-append-add}
-use Rattle.vyrd_base.proofs.SplitLaws.{number_of_decimal, bytes_same}
-use Rattle.vyrd_base.proofs.TestLaws.{first_true, second_true, both_true, is_at_most, isnt_at_most}
-use Rattle.vyrd_base.proofs.TestLaws.{same_number}
-use Rattle.vyrd_text.specs.Steps.{is_one_line}
-use Rattle.vyrd_batch.specs.Batches.{most_bytes, logs_end_within, log_word, first_line}
-use Rattle.vyrd_batch.specs.Batches.{size_in, span_of, log_at}
+use Rattle.vyrd_batch.proofs.Prelude
+use Prelude.{◌≡◌, ℕ, ◌+◌, ◌-◌, ◌<◌, ◌≤◌, ◌^◌, true, cond, not, ◌&&◌, List, [], ◌∷◌, ◌++◌, length}
+use Prelude.{drop, Option, Some, None, refl, arith, ◌==◌, nat_le, bytes_eq, not-true}
+use Prelude.{drop-append-add, number_of_decimal, bytes_same, first_true, second_true, both_true}
+use Prelude.{is_at_most, isnt_at_most, same_number, is_one_line, most_bytes, logs_end_within}
+use Prelude.{log_word, first_line, size_in, span_of, log_at}
 
 -- bytes without a line feed have no first line, and others have
 pub no_line : (bytes : List ℕ) → is_one_line bytes ≡ true → first_line bytes ≡ None

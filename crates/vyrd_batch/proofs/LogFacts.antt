@@ -1,15 +1,10 @@
 -- The logs of a batch, one after the other.
-use Rattle.std.proofs.Common.{◌≡◌, ℕ, zero, suc, ◌+◌, ◌-◌, ◌<◌, ◌≤◌, Bool, true, false, List, []}
-use Rattle.std.proofs.Common.{◌∷◌, ◌++◌, length, drop, Option, Some, None, Result, Ok, Err, refl}
-use Rattle.std.proofs.Common.{ap, ◌∙◌, sym, arith, append_assoc, append-nil}
-use Rattle.std.specs.Str.{bytes_eq}
-use Rattle.std.specs.List.{AllByRecursion}
-use Rattle.std.proofs.lemmas.Slice.Eq.{bytes_eq-Decides}
-use Rattle.vyrd_base.proofs.SplitLaws.{bytes_same}
-use Rattle.vyrd_text.specs.Steps.{is_one_line}
-use Rattle.vyrd_batch.specs.declared.span.Span.{Span}
-use Rattle.vyrd_batch.specs.Batches.{most_logs, first_word, last_line, Cut, first_line, log_at}
-use Rattle.vyrd_batch.specs.Batches.{span_before, logs_from, logs_behind, batch_reading, LiesWithin}
+use Rattle.vyrd_batch.proofs.Prelude
+use Prelude.{◌≡◌, ℕ, zero, suc, ◌+◌, ◌-◌, ◌<◌, ◌≤◌, Bool, true, false, List, [], ◌∷◌, ◌++◌, length}
+use Prelude.{drop, Option, Some, None, Result, Ok, Err, refl, ap, ◌∙◌, sym, arith, append_assoc}
+use Prelude.{append-nil, bytes_eq, AllByRecursion, bytes_eq-Decides, bytes_same, is_one_line, Span}
+use Prelude.{most_logs, first_word, last_line, Cut, first_line, log_at, span_before, logs_from}
+use Prelude.{logs_behind, batch_reading, LiesWithin}
 use Rattle.vyrd_batch.proofs.LineFacts.{no_line, one_line}
 
 -- the test of two lists that aren't the same

@@ -1,25 +1,16 @@
 -- A batch that is cut after some of its logs: it says these logs, and then what its rest says.
-use Rattle.std.proofs.Common.{◌≡◌, ℕ, zero, suc, ◌+◌, ◌-◌, ◌<◌, ◌≤◌, Bool, true, false, cond, List}
-use Rattle.std.proofs.Common.{[], ◌∷◌, ◌++◌, length, map, take, drop, Option, Some, None, Result}
-use Rattle.std.proofs.Common.{Ok, Err, refl, ap, ◌∙◌, sym, arith, append_assoc, append-nil}
-use Rattle.std.proofs.Common.{length-append, length-take, inl, inr}
-use Rattle.std.specs.Prelude.{◌⊎◌, is_some}
-use Rattle.std.specs.Str.{bytes_eq}
-use Rattle.std.proofs.lemmas.List.{take-append-drop, drop-drop, map-append, length-map}
+use Rattle.vyrd_batch.proofs.Prelude
+use Prelude.{◌≡◌, ℕ, zero, suc, ◌+◌, ◌-◌, ◌<◌, ◌≤◌, Bool, true, false, cond, List, [], ◌∷◌, ◌++◌}
+use Prelude.{length, map, take, drop, Option, Some, None, Result, Ok, Err, refl, ap, ◌∙◌, sym}
+use Prelude.{arith, append_assoc, append-nil, length-append, length-take, inl, inr, ◌⊎◌, is_some}
+use Prelude.{bytes_eq, take-append-drop, drop-drop, map-append, length-map, bytes_eq-Decides}
+use Prelude.{Verdict, ended_line, log_verdict, Span, most_logs, most_bytes, logs_end_within}
+use Prelude.{first_word, log_word, log_text, last_line, Cut, first_line, log_at, span_before}
+use Prelude.{logs_from, batch_reading, bytes_of, logs_of, batch_logs, LiesWithin, verdicts_of}
+use Prelude.{IsCut, IsNoLog, AreJudged, AreJudgedTo, IsNothingMore, IsNothingEver, IsSpentBy}
 use Rattle.std.proofs.Math.Seq.{take-add, take-append-add, take-append_seam, drop-append_seam}
-use Rattle.std.proofs.lemmas.Slice.Eq.{bytes_eq-Decides}
-use Rattle.vyrd_base.specs.declared.verdict.Verdict.{Verdict}
-use Rattle.vyrd_base.specs.Spelling.{ended_line}
-use Rattle.vyrd_base.specs.LogVerdicts.{log_verdict}
 use Rattle.vyrd_base.specs.Limits.{most_lines}
-use Rattle.vyrd_batch.specs.declared.span.Span.{Span}
-use Rattle.vyrd_batch.specs.Batches.{most_logs, most_bytes, logs_end_within, first_word, log_word}
-use Rattle.vyrd_batch.specs.Batches.{log_text, last_line, Cut, first_line, log_at, span_before}
-use Rattle.vyrd_batch.specs.Batches.{logs_from, batch_reading, bytes_of, logs_of, batch_logs}
-use Rattle.vyrd_batch.specs.Batches.{LiesWithin}
-use Rattle.vyrd_batch.specs.BatchAnswers.{verdicts_of}
-use Rattle.vyrd_batch.specs.Rounds.{logs_before, logs_on, IsCut, IsNoLog, AreJudged, AreJudgedTo}
-use Rattle.vyrd_batch.specs.Rounds.{IsRefused, IsJudgedBy, IsNothingMore, IsNothingEver, IsSpentBy}
+use Rattle.vyrd_batch.specs.Rounds.{logs_before, logs_on, IsRefused, IsJudgedBy}
 use Rattle.vyrd_batch.proofs.LogFacts.{all_more, at_line, logs_end, logs_full, reading_at}
 use Rattle.vyrd_batch.proofs.LogFacts.{behind_first_line}
 use Rattle.vyrd_batch.proofs.TextLaws.{StandsAt, stands_at, log_bytes, next_bytes, cut_is}

@@ -1,16 +1,12 @@
 -- Long inputs are settled.
-use Rattle.std.proofs.Common.{◌≡◌, ℕ, zero, suc, ◌+◌, ◌-◌, ◌<◌, ◌≤◌, Bool, true, false, cond, ◌&&◌}
-use Rattle.std.proofs.Common.{List, [], ◌∷◌, ◌++◌, length, drop, Option, Some, None, Result, Ok}
-use Rattle.std.proofs.Common.{Err, refl, ap, ◌∙◌, sym, arith, length-append, length-drop}
-use Rattle.std.specs.Prelude.{◌==◌, nat_le, option_map}
-use Rattle.std.specs.Str.{bytes_eq}
+use Rattle.vyrd_batch.proofs.Prelude
+use Prelude.{◌≡◌, ℕ, zero, suc, ◌+◌, ◌-◌, ◌<◌, ◌≤◌, Bool, true, false, cond, ◌&&◌, List, [], ◌∷◌}
+use Prelude.{◌++◌, length, drop, Option, Some, None, Result, Ok, Err, refl, ap, ◌∙◌, sym, arith}
+use Prelude.{length-append, length-drop, ◌==◌, nat_le, option_map, bytes_eq, bytes_eq-Decides}
+use Prelude.{is_at_most, at_most_of, isnt_at_most, Span, most_logs, logs_end_within, first_word}
+use Prelude.{last_line, Cut, longer, first_line, size_in, span_of, log_at, span_before, logs_from}
+use Prelude.{logs_behind, batch_reading, batch_logs}
 use Rattle.std.proofs.lemmas.List.{drop-append-le}
-use Rattle.std.proofs.lemmas.Slice.Eq.{bytes_eq-Decides}
-use Rattle.vyrd_base.proofs.TestLaws.{is_at_most, at_most_of, isnt_at_most}
-use Rattle.vyrd_batch.specs.declared.span.Span.{Span}
-use Rattle.vyrd_batch.specs.Batches.{most_logs, logs_end_within, first_word, last_line, Cut, longer}
-use Rattle.vyrd_batch.specs.Batches.{first_line, size_in, span_of, log_at, span_before, logs_from}
-use Rattle.vyrd_batch.specs.Batches.{logs_behind, batch_reading, batch_logs}
 use Rattle.vyrd_batch.specs.LongBatches.{longest_batch_input}
 use Rattle.vyrd_batch.proofs.LogFacts.{other_bytes}
 

@@ -1,25 +1,16 @@
 -- What is read as a batch is the text of one, and is read as its logs.
-use Rattle.std.proofs.Common.{◌≡◌, ℕ, zero, suc, ◌+◌, ◌-◌, ◌≤◌, Bool, true, false, cond, ◌&&◌, List}
-use Rattle.std.proofs.Common.{[], ◌∷◌, ◌++◌, length, map, take, drop, Option, Some, None, Result}
-use Rattle.std.proofs.Common.{Ok, Err, refl, ap, ◌∙◌, sym, arith, append_assoc}
-use Rattle.std.proofs.Common.{length-append, length-take}
-use Rattle.std.proofs.lemmas.Option.{same_Some}
-use Rattle.std.specs.Prelude.{◌==◌, nat_le, decimal, codes, option_map, flat_map}
-use Rattle.std.specs.Str.{bytes_eq}
-use Rattle.std.specs.List.{AllByRecursion}
-use Rattle.std.proofs.lemmas.List.{take-append-drop}
-use Rattle.std.proofs.Math.Seq.{drop-append-add, drop-append_seam, take-append_seam}
-use Rattle.std.proofs.lemmas.Slice.Eq.{bytes_eq-Decides}
-use Rattle.vyrd_base.specs.Lines.{number_of}
-use Rattle.vyrd_base.specs.Spelling.{ended_line}
-use Rattle.vyrd_base.proofs.TestLaws.{at_most_of, first_true, second_true, same_of}
+use Rattle.vyrd_batch.proofs.Prelude
+use Prelude.{◌≡◌, ℕ, zero, suc, ◌+◌, ◌-◌, ◌≤◌, Bool, true, false, cond, ◌&&◌, List, [], ◌∷◌, ◌++◌}
+use Prelude.{length, map, take, drop, Option, Some, None, Result, Ok, Err, refl, ap, ◌∙◌, sym}
+use Prelude.{arith, append_assoc, length-append, length-take, same_Some, ◌==◌, nat_le, decimal}
+use Prelude.{codes, option_map, flat_map, bytes_eq, AllByRecursion, take-append-drop}
+use Prelude.{drop-append-add, drop-append_seam, take-append_seam, bytes_eq-Decides, number_of}
+use Prelude.{ended_line, is_one_line, Span, most_logs, most_bytes, logs_end_within, first_word}
+use Prelude.{log_word, last_line, Cut, longer, first_line, size_in, span_of, log_at, span_before}
+use Prelude.{logs_from, logs_behind, batch_reading, bytes_of, logs_of, batch_logs, log_text}
+use Rattle.vyrd_base.proofs.TestLaws.{same_of, at_most_of, first_true, second_true}
 use Rattle.vyrd_base.proofs.SplitLaws.{lacks-append, decimal_lacks, no_line_feed}
-use Rattle.vyrd_text.specs.Steps.{is_one_line}
-use Rattle.vyrd_batch.specs.declared.span.Span.{Span}
-use Rattle.vyrd_batch.specs.Batches.{most_logs, most_bytes, logs_end_within, first_word, log_word}
-use Rattle.vyrd_batch.specs.Batches.{last_line, Cut, longer, first_line, size_in, span_of, log_at}
-use Rattle.vyrd_batch.specs.Batches.{span_before, logs_from, logs_behind, batch_reading, bytes_of}
-use Rattle.vyrd_batch.specs.Batches.{logs_of, batch_logs, log_text, batch_of, FitBatch}
+use Rattle.vyrd_batch.specs.Batches.{batch_of, FitBatch}
 use Rattle.vyrd_batch.proofs.LineFacts.{size_within, is_log}
 use Rattle.vyrd_batch.proofs.LogFacts.{logs_end, at_line, behind_first_line}
 

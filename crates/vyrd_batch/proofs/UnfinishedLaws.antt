@@ -1,21 +1,13 @@
 -- What may still become of bytes that hold no whole log.
-use Rattle.std.proofs.Common.{◌≡◌, ℕ, ◌+◌, ◌<◌, ◌≤◌, Bool, true, false, cond, ◌&&◌, Bor, List, []}
-use Rattle.std.proofs.Common.{◌∷◌, ◌++◌, length, drop, Option, Some, None, refl, ap, ◌∙◌, sym}
-use Rattle.std.proofs.Common.{arith, append_assoc, length-append, inl, inr}
-use Rattle.std.specs.Prelude.{◌⊎◌, nat_le, decimal, codes, is_some, replicate, MatchOption}
-use Rattle.std.specs.Str.{bytes_eq}
-use Rattle.std.proofs.lemmas.Fmt.{length-decimal-le}
+use Rattle.vyrd_batch.proofs.Prelude
+use Prelude.{◌≡◌, ℕ, ◌+◌, ◌<◌, ◌≤◌, Bool, true, false, cond, ◌&&◌, Bor, List, [], ◌∷◌, ◌++◌, length}
+use Prelude.{drop, Option, Some, None, refl, ap, ◌∙◌, sym, arith, append_assoc, length-append, inl}
+use Prelude.{inr, ◌⊎◌, nat_le, decimal, codes, is_some, bytes_eq, length-decimal-le, same_Some}
+use Prelude.{bytes_eq-Decides, number_of, first_true, second_true, at_most_of, above_of, ended_line}
+use Prelude.{is_one_line, Span, most_bytes, logs_end_within, first_word, log_word, Cut, first_line}
+use Prelude.{size_in, span_of, log_at, IsNothingMore, IsNothingEver, most_left, longest_line}
+use Rattle.std.specs.Prelude.{replicate, MatchOption}
 use Rattle.std.proofs.lemmas.List.{length-replicate}
-use Rattle.std.proofs.lemmas.Option.{same_Some}
-use Rattle.std.proofs.lemmas.Slice.Eq.{bytes_eq-Decides}
-use Rattle.vyrd_base.specs.Lines.{number_of}
-use Rattle.vyrd_base.proofs.TestLaws.{first_true, second_true, at_most_of, above_of}
-use Rattle.vyrd_base.specs.Spelling.{ended_line}
-use Rattle.vyrd_text.specs.Steps.{is_one_line}
-use Rattle.vyrd_batch.specs.declared.span.Span.{Span}
-use Rattle.vyrd_batch.specs.Batches.{most_bytes, logs_end_within, first_word, log_word, Cut}
-use Rattle.vyrd_batch.specs.Batches.{first_line, size_in, span_of, log_at}
-use Rattle.vyrd_batch.specs.Rounds.{IsNothingMore, IsNothingEver, most_left, longest_line}
 use Rattle.vyrd_batch.proofs.LineFacts.{no_line, no_size, too_far, is_log}
 use Rattle.vyrd_batch.proofs.SettledLaws.{IsLonger, first_longer}
 

@@ -1,21 +1,10 @@
 -- A text of versions 1 and 2 can name a built-in subject alone.
-use Rattle.std.proofs.Common.{◌≡◌, ℕ, Bool, true, false, cond, ◌&&◌, List, [], ◌∷◌, ◌^◌, Option}
-use Rattle.std.proofs.Common.{Some, None, Ok, Err, Result, refl}
-use Rattle.std.specs.Prelude.{ok_or, nat_lt}
-use Rattle.std.specs.Str.{bytes_eq}
-use Rattle.std.specs.List.{slice_split}
-use Rattle.std.specs.Prelude.{◌==◌}
-use Rattle.vyrd_base.specs.declared.header.Header.{Header}
-use Rattle.vyrd_base.specs.declared.subject.Subject.{Subject}
-use Rattle.vyrd_base.specs.declared.verdict.Rule.{Rule}
-use Rattle.vyrd_base.specs.declared.verdict.Rule.TheVariants.{BadHeader, UnknownVersion}
-use Rattle.vyrd_base.specs.Limits.{is_sized}
-use Rattle.vyrd_base.specs.Subjects.{is_built_in, limits_of}
-use Rattle.vyrd_base.specs.Spelling.{header_line}
-use Rattle.vyrd_base.specs.Lines.{fields_of, number_of, subject_called, header_if, header_of}
-use Rattle.vyrd_base.specs.Lines.{header_spelled, header_from, header_in}
-use Rattle.vyrd_base.specs.Reading.{Reading, Input, body_read, header_before, stopped, text_read}
-use Rattle.vyrd_base.specs.Reading.{reading}
+use Rattle.vyrd_check.proofs.Prelude
+use Prelude.{◌≡◌, ℕ, Bool, true, false, cond, ◌&&◌, List, [], ◌∷◌, ◌^◌, Option, Some, None, Ok, Err}
+use Prelude.{Result, refl, ok_or, nat_lt, bytes_eq, slice_split, ◌==◌, Header, Subject, Rule}
+use Prelude.{BadHeader, UnknownVersion, is_sized, is_built_in, limits_of, header_line, fields_of}
+use Prelude.{number_of, subject_called, header_if, header_of, header_spelled, header_from}
+use Prelude.{header_in, Reading, Input, body_read, header_before, stopped, text_read, reading}
 use Rattle.vyrd_base.proofs.SubjectLaws.{called_built_in}
 
 -- whether a header, if there is one, is that of a built-in subject

@@ -1,13 +1,10 @@
 -- What a checker answers, by what it keeps.
-use Rattle.std.proofs.Common.{◌≡◌, ℕ, true, List, [], ◌∷◌, ◌++◌, length, append_assoc, Some}
-use Rattle.std.proofs.Common.{refl, ap, subst, ◌∙◌, sym, append-nil, arith}
-use Rattle.std.specs.Prelude.{◌==◌, is_some}
+use Rattle.vyrd_check.proofs.Prelude.{◌≡◌, ℕ, true, List, [], ◌∷◌, ◌++◌, length, append_assoc, Some}
+use Rattle.vyrd_check.proofs.Prelude.{refl, ap, subst, ◌∙◌, sym, append-nil, arith, ◌==◌, is_some}
+use Rattle.vyrd_check.proofs.Prelude.{Verdict, text_verdict, text_verdict_so_far, IsLimit}
+use Rattle.vyrd_check.proofs.Prelude.{CheckerState, FollowsBy, HasChecked}
 use Rattle.std.proofs.lemmas.Bool.Decides.{nat_tests}
-use Rattle.vyrd_base.specs.declared.verdict.Verdict.{Verdict}
-use Rattle.vyrd_base.specs.TextVerdicts.{text_verdict, text_verdict_so_far}
 use Rattle.vyrd_base.proofs.TextLasts.{text_verdict_lasts, text_verdict_stands}
-use Rattle.vyrd_base.specs.Limits.{IsLimit}
-use Rattle.vyrd_check.specs.Checking.{CheckerState, FollowsBy, HasChecked}
 
 -- the verdict that is kept is that of the bytes so far
 pub so_far_is : (c : CheckerState) (bytes : List ℕ) → HasChecked c bytes → c.so_far

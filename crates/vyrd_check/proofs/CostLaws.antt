@@ -1,23 +1,12 @@
 -- What a piece costs is paid by what was owed before it, and by what its bytes cost.
-use Rattle.std.proofs.Common.{◌≡◌, ℕ, ◌+◌, ◌≤◌, Bool, true, false, ◌||◌, List, [], ◌++◌, map}
-use Rattle.std.proofs.Common.{Option, Some, None, refl, ap, subst, ◌∙◌, sym, arith, length-append}
-use Rattle.std.proofs.Common.{append_assoc, append-nil}
-use Rattle.std.specs.List.{sum_by}
-use Rattle.std.proofs.lemmas.List.{map-append}
-use Rattle.std.proofs.lemmas.List.Sums.{sum_by-append}
-use Rattle.vyrd_base.specs.declared.header.Header.{Header}
-use Rattle.vyrd_base.specs.declared.log.Entry.{Entry}
-use Rattle.vyrd_base.specs.declared.log.StartWord.{StartWord}
-use Rattle.vyrd_base.specs.declared.verdict.Verdict.{Verdict}
-use Rattle.vyrd_base.specs.Reading.{Reading, has_any, reading}
-use Rattle.vyrd_base.proofs.ReadingGrows.{TextGrown, reading_grows}
-use Rattle.vyrd_view.specs.Comparing.{word_price, price_by}
-use Rattle.vyrd_judge.specs.Costs.{callers_of, judge_debt, log_cost}
-use Rattle.vyrd_judge.specs.Following.{JudgeView}
-use Rattle.vyrd_check.specs.Checking.{IsAt, IsJudging, IsReady, IsBegun, CheckerKept, CheckerState}
-use Rattle.vyrd_check.specs.Costs.{entry_cost, starting_cost, entries_cost, end_cost, reading_cost}
-use Rattle.vyrd_check.specs.Costs.{bytes_cost}
-use Rattle.vyrd_check.specs.Owed.{judge_owes, following_cost, kept_debt, debt_after, checker_debt}
+use Rattle.vyrd_check.proofs.Prelude
+use Prelude.{◌≡◌, ℕ, ◌+◌, ◌≤◌, Bool, true, false, ◌||◌, List, [], ◌++◌, map, Option, Some, None}
+use Prelude.{refl, ap, subst, ◌∙◌, sym, arith, length-append, append_assoc, append-nil, sum_by}
+use Prelude.{map-append, sum_by-append, Header, Entry, StartWord, Verdict, Reading, has_any}
+use Prelude.{reading, TextGrown, reading_grows, word_price, price_by, callers_of, judge_debt}
+use Prelude.{log_cost, JudgeView, IsAt, IsJudging, IsReady, IsBegun, CheckerKept, CheckerState}
+use Prelude.{entry_cost, starting_cost, entries_cost, end_cost, reading_cost, bytes_cost}
+use Prelude.{judge_owes, following_cost, kept_debt, debt_after, checker_debt}
 use Rattle.vyrd_check.proofs.PieceLaws.{header_of_charter}
 
 no_end : (o : Option Header) → end_cost o false ≡ 0

@@ -1,32 +1,17 @@
 -- What a piece that was read and judged makes of what is kept.
-use Rattle.std.proofs.Common.{◌≡◌, ℕ, ◌+◌, ◌≤◌, true, false, ◌||◌, List, [], ◌++◌, length}
-use Rattle.std.proofs.Common.{Option, Some, None, refl, ap, subst, ◌∙◌, sym, arith}
-use Rattle.std.specs.Prelude.{option_map}
-use Rattle.std.specs.Option.{option_or}
+use Rattle.vyrd_check.proofs.Prelude
+use Prelude.{◌≡◌, ℕ, ◌+◌, ◌≤◌, true, false, ◌||◌, List, [], ◌++◌, length, Option, Some, None, refl}
+use Prelude.{ap, subst, ◌∙◌, sym, arith, option_map, option_or, ∥∥₁_elim, Header, Entry, Verdict}
+use Prelude.{Malformed, is_built_in, Reading, has_any, text_verdict_so_far, TextGrown}
+use Prelude.{reading_grows, input_of, IsLimit, ReaderState, HasRead, JudgeView, read_so_far}
+use Prelude.{IsJudging, IsReady, IsBegun, HasRoom, CheckerKept, IsUndecided, IsSomewhere, wrong_in}
+use Prelude.{has_begun, bytes_cost, judge_owes, following_cost, kept_debt}
 use Rattle.std.proofs.lemmas.Bool.{or_right}
-use Rattle.std.proofs.Math.Logic.{∥∥₁_elim}
 use Rattle.std.proofs.Math.Bool.{Bool-set}
-use Rattle.vyrd_base.specs.declared.header.Header.{Header}
-use Rattle.vyrd_base.specs.declared.log.Entry.{Entry}
-use Rattle.vyrd_base.specs.declared.verdict.Verdict.{Verdict}
-use Rattle.vyrd_base.specs.declared.verdict.Verdict.TheVariants.{Malformed}
 use Rattle.vyrd_base.specs.Starts.{may_start}
-use Rattle.vyrd_base.specs.Subjects.{is_built_in}
-use Rattle.vyrd_base.specs.Reading.{Reading, has_any}
-use Rattle.vyrd_base.specs.TextVerdicts.{text_verdict_so_far}
-use Rattle.vyrd_base.proofs.ReadingGrows.{TextGrown, reading_grows, input_of}
 use Rattle.vyrd_base.proofs.ReadingSound.{reading_writable}
 use Rattle.vyrd_base.proofs.TestLaws.{at_most_of, is_at_most}
-use Rattle.vyrd_base.specs.Limits.{IsLimit}
-use Rattle.vyrd_text.specs.Readers.{ReaderState, HasRead}
 use Rattle.vyrd_text.specs.Answered.{IsGrownBy}
-use Rattle.vyrd_judge.specs.Following.{JudgeView}
-use Rattle.vyrd_check.specs.LogReadings.{read_so_far}
-use Rattle.vyrd_check.specs.Checking.{IsJudging, IsReady, IsBegun, HasRoom, CheckerKept}
-use Rattle.vyrd_check.specs.Checking.{IsUndecided, IsSomewhere, wrong_in}
-use Rattle.vyrd_check.specs.Checking.{has_begun}
-use Rattle.vyrd_check.specs.Costs.{bytes_cost}
-use Rattle.vyrd_check.specs.Owed.{judge_owes, following_cost, kept_debt}
 use Rattle.vyrd_check.proofs.ReadingFacts.{entries_few, headless_empty, text_right, known_so_far}
 use Rattle.vyrd_check.proofs.ReadingFacts.{entries_right}
 use Rattle.vyrd_check.proofs.PieceLaws.{judge_before, has_room}

@@ -1,3 +1,4 @@
+mod Prelude
 pub mod WholeFacts
 pub mod ReadingFacts
 pub mod PieceLaws

@@ -1,31 +1,13 @@
 -- How what is kept goes on with a piece of the text.
-use Rattle.std.proofs.Common.{◌≡◌, ◌≤◌, Bool, true, false, cond, ◌||◌, List, [], ◌++◌, length}
-use Rattle.std.proofs.Common.{Option, Some, None, refl, ◌∙◌, sym, arith, length-append, option_map}
-use Rattle.std.specs.Prelude.{option_and_then, is_none, is_some, IfSome}
-use Rattle.std.specs.Bool.{then_some}
-use Rattle.std.specs.Option.{option_or}
-use Rattle.vyrd_base.specs.Rules.{Charter, built_in, rules_of, rules_by}
-use Rattle.vyrd_base.specs.declared.header.Header.{Header}
-use Rattle.vyrd_base.specs.declared.log.Entry.{Entry}
-use Rattle.vyrd_base.specs.declared.log.StartWord.{StartWord}
-use Rattle.vyrd_base.specs.declared.verdict.Rule.TheVariants.{StartState}
-use Rattle.vyrd_base.specs.declared.verdict.Verdict.TheVariants.{Malformed}
-use Rattle.vyrd_base.specs.Front.{front}
-use Rattle.vyrd_base.specs.Starts.{state_at_start}
-use Rattle.vyrd_base.specs.Reading.{Reading, has_any, reading}
-use Rattle.vyrd_base.specs.Verdicts.{verdict_so_far, end_verdict}
-use Rattle.vyrd_base.specs.TextVerdicts.{text_verdict_so_far}
-use Rattle.vyrd_base.proofs.ReadingGrows.{TextGrown}
-use Rattle.vyrd_base.proofs.TextLasts.{nothing_so_far}
-use Rattle.vyrd_base.specs.Limits.{most_lines}
-use Rattle.vyrd_text.specs.Readers.{ReaderState, HasRead}
-use Rattle.vyrd_view.specs.Comparing.{price_by}
-use Rattle.vyrd_view.specs.Known.{by_rules}
-use Rattle.vyrd_judge.specs.Costs.{judge_debt, start_cost}
-use Rattle.vyrd_judge.specs.Following.{JudgeView, HasFollowed}
-use Rattle.vyrd_judge.proofs.OnlineLaws.{faultless_of}
-use Rattle.vyrd_check.specs.Checking.{wrong_in, has_begun, IsJudging, IsBefore, IsReady, HasRoom}
-use Rattle.vyrd_check.specs.Checking.{IsMade, IsBegun, IsUndecided}
+use Rattle.vyrd_check.proofs.Prelude
+use Prelude.{◌≡◌, ◌≤◌, Bool, true, false, cond, ◌||◌, List, [], ◌++◌, length, Option, Some, None}
+use Prelude.{refl, ◌∙◌, sym, arith, length-append, option_map, option_and_then, is_none, is_some}
+use Prelude.{IfSome, then_some, option_or, Charter, built_in, rules_of, rules_by, Header, Entry}
+use Prelude.{StartWord, StartState, Malformed, front, state_at_start, Reading, has_any, reading}
+use Prelude.{verdict_so_far, end_verdict, text_verdict_so_far, TextGrown, nothing_so_far}
+use Prelude.{most_lines, ReaderState, HasRead, price_by, by_rules, judge_debt, start_cost}
+use Prelude.{JudgeView, HasFollowed, faultless_of, wrong_in, has_begun, IsJudging, IsBefore}
+use Prelude.{IsReady, HasRoom, IsMade, IsBegun, IsUndecided}
 
 -- a judge without a verdict has counted the entries that it has followed
 pub counted : (j : JudgeView) (starting : List StartWord) (log : List Entry) → j.so_far ≡ None

@@ -1,31 +1,16 @@
 -- How many entries a reading has, and what is wrong with them.
-use Rattle.std.proofs.Common.{◌≡◌, ℕ, ◌+◌, ◌≤◌, Bool, true, false, cond, List, [], ◌∷◌, length}
-use Rattle.std.proofs.Common.{Option, Some, None, Result, Ok, Err, refl, ◌∙◌, sym, arith}
-use Rattle.std.specs.Prelude.{◌==◌, nat_lt, unwrap_or, option_map, option_and_then}
-use Rattle.std.specs.Option.{option_or}
-use Rattle.std.specs.List.{slice_split}
-use Rattle.std.specs.Str.{bytes_eq}
-use Rattle.vyrd_base.specs.Rules.{rules_of}
-use Rattle.vyrd_base.specs.declared.header.Header.{Header}
-use Rattle.vyrd_base.specs.declared.subject.Subject.{Subject}
-use Rattle.vyrd_base.specs.declared.log.Entry.{Entry}
-use Rattle.vyrd_base.specs.declared.log.StartWord.{StartWord}
-use Rattle.vyrd_base.specs.declared.verdict.Rule.{Rule}
-use Rattle.vyrd_base.specs.declared.verdict.Rule.TheVariants.{TooManyLines}
-use Rattle.vyrd_base.specs.declared.verdict.Verdict.{Verdict}
-use Rattle.vyrd_base.specs.declared.verdict.Verdict.TheVariants.{Malformed}
-use Rattle.vyrd_base.specs.Spelling.{end_line}
-use Rattle.vyrd_base.specs.Starts.{start_rule}
-use Rattle.vyrd_base.specs.Lines.{start_in, entry_in, header_in}
-use Rattle.vyrd_base.specs.Reading.{Reading, stopped, ended, after_end_rule, entry_before}
-use Rattle.vyrd_base.specs.Reading.{lines_read, start_before, starts_read, body_read, header_before}
-use Rattle.vyrd_base.specs.Reading.{text_read, reading}
-use Rattle.vyrd_base.specs.TextVerdicts.{entries_verdict, text_verdict, text_verdict_so_far}
-use Rattle.vyrd_base.specs.Verdicts.{verdict_so_far, end_verdict, accepted, verdict}
-use Rattle.vyrd_base.proofs.ReadingGrows.{so_far}
+use Rattle.vyrd_check.proofs.Prelude
+use Prelude.{◌≡◌, ℕ, ◌+◌, ◌≤◌, Bool, true, false, cond, List, [], ◌∷◌, length, Option, Some, None}
+use Prelude.{Result, Ok, Err, refl, ◌∙◌, sym, arith, option_or, slice_split, bytes_eq, rules_of}
+use Prelude.{Header, Subject, Entry, StartWord, Rule, TooManyLines, Verdict, Malformed, end_line}
+use Prelude.{start_rule, start_in, entry_in, header_in, Reading, stopped, ended, after_end_rule}
+use Prelude.{entry_before, lines_read, start_before, starts_read, body_read, header_before}
+use Prelude.{text_read, reading, text_verdict, text_verdict_so_far, verdict_so_far, end_verdict}
+use Prelude.{verdict, so_far, read_so_far, read_whole, wrong_in, has_begun}
+use Rattle.std.specs.Prelude.{unwrap_or, ◌==◌, nat_lt, option_map, option_and_then}
+use Rattle.vyrd_base.specs.TextVerdicts.{entries_verdict}
+use Rattle.vyrd_base.specs.Verdicts.{accepted}
 use Rattle.vyrd_base.proofs.TestLaws.{not_below_of}
-use Rattle.vyrd_check.specs.LogReadings.{read_so_far, read_whole}
-use Rattle.vyrd_check.specs.Checking.{wrong_in, has_begun}
 use Rattle.vyrd_check.proofs.WholeFacts.{whole_same}
 
 -- lines from line n on give no more entries than there may be lines

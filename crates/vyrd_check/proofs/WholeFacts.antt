@@ -1,23 +1,11 @@
 -- The whole input says of header, starting words, entries and `end` what its bytes say so far.
-use Rattle.std.proofs.Common.{◌≡◌, ℕ, ◌+◌, Bool, true, false, cond, List, [], ◌∷◌, Option, Some}
-use Rattle.std.proofs.Common.{None, Result, Ok, Err, refl, ap}
-use Rattle.std.specs.Prelude.{◌==◌, nat_lt}
-use Rattle.std.specs.List.{slice_split}
-use Rattle.std.specs.Str.{bytes_eq}
-use Rattle.vyrd_base.specs.declared.header.Header.{Header}
-use Rattle.vyrd_base.specs.declared.subject.Subject.{Subject}
-use Rattle.vyrd_base.specs.declared.log.Entry.{Entry}
-use Rattle.vyrd_base.specs.declared.log.StartWord.{StartWord}
-use Rattle.vyrd_base.specs.declared.verdict.Rule.{Rule}
-use Rattle.vyrd_base.specs.declared.verdict.Rule.TheVariants.{TooManyLines, BadEntry}
-use Rattle.vyrd_base.specs.Spelling.{end_line}
-use Rattle.vyrd_base.specs.Starts.{start_rule}
-use Rattle.vyrd_base.specs.Lines.{start_in, entry_in, header_in}
-use Rattle.vyrd_base.specs.Reading.{Reading, stopped, ended, after_end_rule, entry_before}
-use Rattle.vyrd_base.specs.Reading.{lines_read, start_before, starts_read, body_read, header_before}
-use Rattle.vyrd_base.specs.Reading.{text_read, reading}
-use Rattle.vyrd_base.proofs.ReadingGrows.{so_far, input_of}
-use Rattle.vyrd_check.specs.LogReadings.{read_so_far, read_whole}
+use Rattle.vyrd_check.proofs.Prelude
+use Prelude.{◌≡◌, ℕ, ◌+◌, Bool, true, false, cond, List, [], ◌∷◌, Option, Some, None, Result, Ok}
+use Prelude.{Err, refl, ap, ◌==◌, nat_lt, slice_split, bytes_eq, Header, Subject, Entry, StartWord}
+use Prelude.{Rule, end_line, start_rule, start_in, entry_in, header_in, Reading, stopped, ended}
+use Prelude.{after_end_rule, entry_before, lines_read, start_before, starts_read, body_read}
+use Prelude.{header_before, text_read, reading, so_far, input_of, read_so_far, read_whole}
+use Rattle.vyrd_base.specs.declared.verdict.Rule.TheVariants.{BadEntry, TooManyLines}
 
 -- two readings that differ in their faults at most
 pub record IsSameText (a b : Reading) : Type 0 where

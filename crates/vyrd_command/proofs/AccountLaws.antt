@@ -1,23 +1,10 @@
 -- What an account has taken in with one event more, and the whole text that it leaves.
-use Rattle.std.proofs.Common.{◌≡◌, ℕ, List, [], ◌∷◌, ◌++◌, Some, None, refl, ap, ◌∙◌, sym}
-use Rattle.std.proofs.Common.{append_assoc, append-nil}
-use Rattle.std.specs.Prelude.{codes, flat_map}
-use Rattle.std.proofs.lemmas.Grind.{flat_map-append}
-use Rattle.vyrd_base.specs.declared.header.Header.{Header}
-use Rattle.vyrd_base.specs.declared.history.Stamped.{Stamped}
-use Rattle.vyrd_base.specs.declared.log.Entry.{Entry}
-use Rattle.vyrd_base.specs.declared.verdict.Verdict.{Verdict}
-use Rattle.vyrd_base.specs.Histories.{logged, log_of}
-use Rattle.vyrd_base.specs.Spelling.{ended_line, header_line, entry_line}
-use Rattle.vyrd_base.specs.VerdictText.{verdict_text}
-use Rattle.vyrd_verifier.proofs.JudgeLaws.{log_with, log_without, no_log}
-use Rattle.vyrd_text.proofs.WrittenLaws.{whole_log}
-use Rattle.vyrd_mover.specs.HistoryText.{history_header_line, event_line}
-use Rattle.vyrd_mover.proofs.WrittenLaws.{whole_history}
-use Rattle.vyrd_command.specs.declared.show.Show.{Show}
+use Rattle.vyrd_command.proofs.Prelude
+use Prelude.{◌≡◌, ℕ, List, [], ◌∷◌, ◌++◌, Some, None, refl, ap, ◌∙◌, sym, append_assoc, append-nil}
+use Prelude.{codes, flat_map, flat_map-append, Header, Stamped, Entry, Verdict, logged, log_of}
+use Prelude.{ended_line, header_line, entry_line, verdict_text, log_with, log_without, no_log}
+use Prelude.{whole_log, history_header_line, event_line, whole_history, Show, text_so_far, run_text}
 use Rattle.vyrd_command.specs.declared.show.Show.TheVariants as shown
-use Rattle.vyrd_command.specs.Inside.Accounts.{text_so_far}
-use Rattle.vyrd_command.specs.Steps.{run_text}
 
 -- one line more
 line_more : {A : Type 0} (line : A → List ℕ) (first old new : List ℕ) (xs : List A) (x : A)

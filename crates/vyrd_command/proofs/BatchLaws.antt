@@ -1,24 +1,12 @@
 -- What was read of an input says the logs of the whole input, and what is judged of it while it is
 -- read.
-use Rattle.std.proofs.Common.{◌≡◌, ℕ, ◌+◌, ◌*◌, ◌≤◌, List, ◌++◌, length, refl, sym, subst, arith}
-use Rattle.std.proofs.Common.{length-append, append_assoc, append-nil}
-use Rattle.std.specs.Prelude.{IfSome, Result, Ok, Err, IfOk}
-use Rattle.vyrd_base.specs.Devices.{SourceKnown}
-use Rattle.vyrd_base.specs.declared.verdict.Verdict.{Verdict}
-use Rattle.vyrd_batch.specs.Batches.{batch_logs, batch_of}
-use Rattle.vyrd_batch.specs.BatchAnswers.{verdicts_of, batch_text, batch_status}
-use Rattle.vyrd_batch.specs.LongBatches.{longest_batch_input}
-use Rattle.vyrd_batch.proofs.SettledLaws.{logs_are_settled}
-use Rattle.vyrd_batch.proofs.TextLaws.{read_batch_is_text}
-use Rattle.vyrd_batch.specs.Rounds.{BatchView, IsJudged, IsSpent}
-use Rattle.vyrd_batch.specs.Costs.{round_cost}
-use Rattle.vyrd_batch.proofs.RoundLaws.{judged_longer}
-use Rattle.vyrd_check_command.specs.declared.answer.Answer.{Answer}
-use Rattle.vyrd_check_command.proofs.TakenLaws.{taken_more}
-use Rattle.vyrd_command.specs.Inputs.{IsInputRead, IsMoreRead, IsFewTaken}
-use Rattle.vyrd_command.specs.Batches.{IsBatchAnswer, IsReading}
-use Rattle.vyrd_command.specs.Inside.BatchCosts.{round_bytes, IsSinceRound, IsReadFor, IsTakenFor}
-use Rattle.vyrd_command.proofs.InputLaws.{whole_input, long_refused}
+use Rattle.vyrd_command.proofs.Prelude
+use Prelude.{◌≡◌, ℕ, ◌+◌, ◌*◌, ◌≤◌, List, ◌++◌, length, refl, sym, subst, arith, length-append}
+use Prelude.{append_assoc, append-nil, IfSome, Result, Ok, Err, IfOk, SourceKnown, Verdict}
+use Prelude.{batch_logs, batch_of, verdicts_of, batch_text, batch_status, longest_batch_input}
+use Prelude.{logs_are_settled, read_batch_is_text, BatchView, IsJudged, IsSpent, round_cost}
+use Prelude.{judged_longer, Answer, taken_more, IsInputRead, IsMoreRead, IsFewTaken, IsBatchAnswer}
+use Prelude.{IsReading, round_bytes, IsSinceRound, IsReadFor, IsTakenFor, whole_input, long_refused}
 
 pub logs_are_input : (before after : SourceKnown) (bytes : List ℕ)
     → IsInputRead longest_batch_input before after bytes

@@ -1,11 +1,7 @@
 -- What a source gives is put after the bytes that were taken before.
-use Rattle.std.proofs.Common.{◌≡◌, ℕ, ◌+◌, ◌≤◌, List, ◌++◌, length, take, drop, ap, subst, sym, ◌∙◌}
-use Rattle.std.proofs.Common.{arith}
-use Rattle.std.proofs.lemmas.List.{take_all}
-use Rattle.std.proofs.Math.Seq.{take-add, take-append_seam}
-use Rattle.vyrd_base.specs.Devices.{SourceKnown, Gives}
-use Rattle.vyrd_check_command.specs.Inputs.{IsTaken}
-use Rattle.vyrd_check_command.proofs.TakenLaws.{taken_more}
+use Rattle.vyrd_command.proofs.Prelude.{◌≡◌, ℕ, ◌+◌, ◌≤◌, List, ◌++◌, length, take, drop, ap, subst}
+use Rattle.vyrd_command.proofs.Prelude.{sym, ◌∙◌, arith, take_all, take-add, take-append_seam}
+use Rattle.vyrd_command.proofs.Prelude.{SourceKnown, Gives, IsTaken, taken_more}
 
 pub taken_behind : (before between after : SourceKnown) (count n : ℕ) (old new : List ℕ)
     → IsTaken before.rest (take count old) between.rest

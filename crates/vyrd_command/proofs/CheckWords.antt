@@ -1,12 +1,11 @@
 -- The words of the form `check` are those for which a program that only checks does so.
-use Rattle.std.proofs.Common.{◌≡◌, ℕ, Bool, true, false, List, [], ◌∷◌, Option, Some, None, refl}
-use Rattle.std.specs.Prelude.{codes, if◌then◌else◌}
+use Rattle.vyrd_command.proofs.Prelude.{◌≡◌, ℕ, Bool, true, false, List, [], ◌∷◌, Option, Some}
+use Rattle.vyrd_command.proofs.Prelude.{None, refl, codes, if◌then◌else◌, Form}
 use Rattle.std.specs.Option.{option_and_then}
 use Rattle.std.specs.Str.{bytes_eq}
 use Rattle.vyrd_explain.specs.declared.about.About.TheVariants.{Fault, Changes}
 use Rattle.vyrd_check_command.specs.Inside.Words.{is_check}
 use Rattle.vyrd_command.specs.declared.show.Show.TheVariants.{Verdict, Log, History}
-use Rattle.vyrd_command.specs.declared.form.Form.{Form}
 use Rattle.vyrd_command.specs.declared.form.Form.TheVariants.{Check, Step, Run, Gen, Movers, Batch}
 use Rattle.vyrd_command.specs.declared.form.Form.TheVariants.{Tell}
 use Rattle.vyrd_command.specs.Forms.{form_in}

@@ -1,18 +1,11 @@
 -- From what is made ready for words of a form to what is written. `said` is the form of the words,
 -- if they have one.
-use Rattle.std.proofs.Common.{◌≡◌, ℕ, ◌≤◌, List, [], length, true, false, Option, Some, None, refl}
-use Rattle.std.proofs.Common.{ap, ◌∙◌, sym, subst, arith, inl, inr}
-use Rattle.std.specs.Prelude.{◌≢◌, ◌⊎◌}
-use Rattle.vyrd_base.specs.Devices.{SourceKnown}
-use Rattle.vyrd_base.specs.Limits.{most_lines}
-use Rattle.vyrd_check_command.specs.Outputs.{Appends, AppendsFront}
-use Rattle.vyrd_check_command.specs.Checks.{IsAnswered, IsAnsweredInPart, IsSettled}
-use Rattle.vyrd_check_command.specs.Checks.{HasRoomForAnswer}
-use Rattle.vyrd_command.specs.declared.form.Form.{Form}
+use Rattle.vyrd_command.proofs.Prelude
+use Prelude.{◌≡◌, ℕ, ◌≤◌, List, [], length, true, false, Option, Some, None, refl, ap, ◌∙◌, sym}
+use Prelude.{subst, arith, inl, inr, ◌≢◌, ◌⊎◌, SourceKnown, most_lines, Appends, AppendsFront}
+use Prelude.{IsAnswered, IsAnsweredInPart, IsSettled, HasRoomForAnswer, Form, usage_line, IsStatus}
+use Prelude.{IsAnswerStatus, IsAnswer, HasAnswered, HasAnsweredInPart, HasRoom, reads, IsEnough}
 use Rattle.vyrd_command.specs.declared.form.Form.TheVariants as asked
-use Rattle.vyrd_command.specs.Forms.{usage_line}
-use Rattle.vyrd_command.specs.Commands.{IsStatus, IsAnswerStatus, IsAnswer, HasAnswered}
-use Rattle.vyrd_command.specs.Commands.{HasAnsweredInPart, HasRoom, reads, IsEnough}
 
 no_answer : (form : Form) (n : ℕ) → 3 ≤ n → n ≤ 6 → IsAnswerStatus (Some form) n → ⊥
 no_answer form n low high answered = grind arith

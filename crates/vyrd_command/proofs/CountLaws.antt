@@ -1,9 +1,6 @@
 -- What the count of faults of a device tells of the reads or writes.
-use Rattle.std.proofs.Common.{◌≡◌, ℕ, ◌≤◌, Bool, true, false, subst, sym, arith}
-use Rattle.std.specs.Prelude.{◌⊎◌, if◌then◌else◌}
-use Rattle.std.proofs.lemmas.Bool.Decides.{nat_tests}
-use Rattle.vyrd_base.specs.Devices.{next_count}
-use Rattle.vyrd_command.specs.Inside.Counts.{HasRisen}
+use Rattle.vyrd_command.proofs.Prelude.{◌≡◌, ℕ, ◌≤◌, Bool, true, false, subst, sym, arith, ◌⊎◌}
+use Rattle.vyrd_command.proofs.Prelude.{if◌then◌else◌, nat_tests, next_count, HasRisen}
 
 -- one more is greater, if the count doesn't stand at its last value
 next_rises : (n : ℕ) → HasRisen n (next_count n)

@@ -1,27 +1,17 @@
 -- The answer to a workload of a correct structure is that its run is accepted.
-use Rattle.std.proofs.Common.{◌≡◌, ℕ, ◌≤◌, ◌⊎◌, inl, inr, List, Option, Some, Result, Ok, refl, ap}
-use Rattle.std.proofs.Common.{◌∙◌, subst, arith}
-use Rattle.std.specs.Prelude.{IfSome}
-use Rattle.vyrd_base.specs.declared.log.Entry.{Entry}
-use Rattle.vyrd_base.specs.declared.history.Stamped.{Stamped}
-use Rattle.vyrd_base.specs.declared.verdict.Verdict.{Verdict}
-use Rattle.vyrd_base.specs.Histories.{log_of}
+use Rattle.vyrd_command.proofs.Prelude
+use Prelude.{◌≡◌, ℕ, ◌≤◌, ◌⊎◌, inl, inr, List, Option, Some, Result, Ok, refl, ap, ◌∙◌, subst}
+use Prelude.{arith, IfSome, Entry, Stamped, Verdict, log_of, most_ops, Workload, KeepsLimits}
+use Prelude.{Refusal, work_reading, reading_sound, status_of, Show, IsRunAnswer, IsRunStatus}
+use Prelude.{IsLiveRun, SaysCorrect, SaysFewEvents, IsGenStatus}
 use Rattle.vyrd_base.specs.Verdicts.{accepted}
-use Rattle.vyrd_memory.specs.Bounds.{most_ops}
-use Rattle.vyrd_work.specs.Workloads.{Workload}
-use Rattle.vyrd_work.specs.WorkLimits.{KeepsLimits}
-use Rattle.vyrd_work.specs.WorkReading.{Refusal, work_reading}
 use Rattle.vyrd_work.specs.Generated.{generated}
-use Rattle.vyrd_work.proofs.TextLaws.{reading_sound}
 use Rattle.vyrd_work.proofs.GeneratedLaws.{generated_keeps}
 use Rattle.vyrd_every.specs.Schedules.{IsCorrect, IsCorrectWithFewEvents}
 use Rattle.vyrd_every.proofs.Workloads.{schedule_accepted, not_stuck, few_events}
-use Rattle.vyrd_check_command.specs.Outputs.{status_of}
-use Rattle.vyrd_command.specs.declared.show.Show.{Show}
 use Rattle.vyrd_command.specs.Steps.{AnswersStep, IsStepAnswer, IsStepStatus, IsTurnedTo}
-use Rattle.vyrd_command.specs.Runs.{AnswersRun, IsRunAnswer, IsRunStatus, IsLiveRun}
-use Rattle.vyrd_command.specs.CorrectInputs.{SaysCorrect, SaysFewEvents}
-use Rattle.vyrd_command.specs.Generated.{IsGenAnswer, IsGenStatus}
+use Rattle.vyrd_command.specs.Runs.{AnswersRun}
+use Rattle.vyrd_command.specs.Generated.{IsGenAnswer}
 use Rattle.vyrd_command.proofs.StepLaws.{turned_is_legal, turned_plays}
 
 accepted_status : (entries : List Entry) → status_of (accepted entries) ≡ 0

@@ -1,16 +1,9 @@
 -- What is written about a correct structure accepts it. `said` is the form of the words, and `own`
 -- the status that was made ready.
-use Rattle.std.proofs.Common.{◌≡◌, ℕ, ◌≤◌, List, Option, Some, ◌∙◌, sym, subst, inr}
-use Rattle.std.specs.Prelude.{◌⊎◌}
-use Rattle.vyrd_memory.specs.Bounds.{most_ops}
-use Rattle.vyrd_command.specs.declared.form.Form.{Form}
+use Rattle.vyrd_command.proofs.Prelude.{◌≡◌, ℕ, ◌≤◌, List, Option, Some, ◌∙◌, sym, subst, inr, ◌⊎◌}
+use Rattle.vyrd_command.proofs.Prelude.{most_ops, Form, Show, IsAnswerStatus, IsAnswer, SaysCorrect}
+use Rattle.vyrd_command.proofs.Prelude.{SaysFewEvents, IsStepStatus, IsRunStatus, IsGenStatus}
 use Rattle.vyrd_command.specs.declared.form.Form.TheVariants as asked
-use Rattle.vyrd_command.specs.declared.show.Show.{Show}
-use Rattle.vyrd_command.specs.Commands.{IsAnswerStatus, IsAnswer}
-use Rattle.vyrd_command.specs.CorrectInputs.{SaysCorrect, SaysFewEvents}
-use Rattle.vyrd_command.specs.Steps.{IsStepStatus}
-use Rattle.vyrd_command.specs.Runs.{IsRunStatus}
-use Rattle.vyrd_command.specs.Generated.{IsGenStatus}
 use Rattle.vyrd_command.proofs.EveryLaws.{step_is_accepted, run_is_accepted, run_is_unspent}
 use Rattle.vyrd_command.proofs.EveryLaws.{gen_is_accepted, step_given, run_given, gen_given}
 

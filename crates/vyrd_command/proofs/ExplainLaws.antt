@@ -1,9 +1,9 @@
 -- What was taken of an input, and what is explained of it.
-use Rattle.std.proofs.Common.{◌≡◌, ℕ, List, [], ◌+◌, ◌-◌, ◌≤◌, ◌++◌, length, length-append, Bool}
-use Rattle.std.proofs.Common.{true, false, ap, ◌∙◌, sym, subst, arith, inr}
-use Rattle.std.specs.Prelude.{◌⊎◌, IfSome}
-use Rattle.vyrd_base.specs.declared.verdict.Verdict.{Verdict}
-use Rattle.vyrd_base.specs.Devices.{SourceKnown, IsAtEnd}
+use Rattle.vyrd_command.proofs.Prelude
+use Prelude.{◌≡◌, ℕ, List, [], ◌+◌, ◌-◌, ◌≤◌, ◌++◌, length, length-append, Bool, true, false, ap}
+use Prelude.{◌∙◌, sym, subst, arith, inr, ◌⊎◌, IfSome, Verdict, SourceKnown, IsTaken, longest_read}
+use Prelude.{status_of, taken_more, taken_nothing, IsMoreRead, longest_explained}
+use Rattle.vyrd_base.specs.Devices.{IsAtEnd}
 use Rattle.vyrd_base.specs.LogVerdicts.{log_verdict}
 use Rattle.vyrd_base.specs.Limits.{IsLimit}
 use Rattle.vyrd_explain.specs.declared.about.About.{About}
@@ -11,13 +11,8 @@ use Rattle.vyrd_explain.specs.Explained.{explained, is_settled}
 use Rattle.vyrd_explain.specs.Explaining.{ExplainerState, HasTaken, limit_of}
 use Rattle.vyrd_explain.proofs.SettledLaws.{settled_stays, nothing_settled, verdict_lasts}
 use Rattle.vyrd_explain.proofs.SettledLaws.{text_lasts, unsettled_is_short}
-use Rattle.vyrd_check_command.specs.Inputs.{IsTaken, longest_read}
-use Rattle.vyrd_check_command.specs.Outputs.{status_of}
-use Rattle.vyrd_check_command.proofs.TakenLaws.{taken_more, taken_nothing, no_more_bytes}
-use Rattle.vyrd_check_command.proofs.TakenLaws.{begins_later}
-use Rattle.vyrd_command.specs.Inputs.{IsMoreRead}
+use Rattle.vyrd_check_command.proofs.TakenLaws.{no_more_bytes, begins_later}
 use Rattle.vyrd_command.specs.Explains.{SaysWhole, AnswersExplain, IsExplainNoFurther, IsLogTaken}
-use Rattle.vyrd_command.specs.Explains.{longest_explained}
 
 -- So many bytes were taken of an input, by what explains it, and the answer may still change.
 pub record TakenSoFar (max : ℕ) (before now : SourceKnown) (explainer : ExplainerState)

@@ -1,11 +1,10 @@
 -- Words that spell a number.
-use Rattle.std.proofs.Common.{◌≡◌, ℕ, ◌<◌, ◌≤◌, ◌^◌, Bool, true, false, cond, ◌&&◌, List, Option}
-use Rattle.std.proofs.Common.{Some, None, ap, arith}
-use Rattle.std.specs.Prelude.{nat_le, decimal}
-use Rattle.std.proofs.lemmas.Bool.Decides.{nat_tests}
+use Rattle.vyrd_command.proofs.Prelude.{◌≡◌, ℕ, ◌<◌, ◌≤◌, Bool, true, false, List, Option, Some}
+use Rattle.vyrd_command.proofs.Prelude.{None, ap, arith, decimal, nat_tests, most_ops}
+use Rattle.std.proofs.Common.{◌^◌, cond, ◌&&◌}
+use Rattle.std.specs.Prelude.{nat_le}
 use Rattle.vyrd_base.specs.Lines.{number_of}
 use Rattle.vyrd_base.proofs.SplitLaws.{number_of_decimal, bytes_same}
-use Rattle.vyrd_memory.specs.Bounds.{most_ops}
 use Rattle.vyrd_command.specs.Forms.{is_count}
 
 -- the word that a number is spelled by

@@ -1,3 +1,4 @@
+mod Prelude
 pub mod InputLaws
 pub mod BehindLaws
 pub mod FormLaws

@@ -1,24 +1,16 @@
 -- What was read of an input says the history of the whole input.
-use Rattle.std.proofs.Common.{◌≡◌, ℕ, List, [], ◌+◌, ◌++◌, length, length-append, refl, ap}
-use Rattle.std.proofs.Common.{sym, subst, arith}
-use Rattle.std.specs.Prelude.{IfSome, IfOk, Result, Ok, Err}
+use Rattle.vyrd_command.proofs.Prelude
+use Prelude.{◌≡◌, ℕ, List, [], ◌+◌, ◌++◌, length, length-append, refl, ap, sym, subst, arith}
+use Prelude.{IfSome, IfOk, Result, Ok, Err, SourceKnown, Blocks, Recorded, history_reading, HasRead}
+use Prelude.{longest_history, Answer, IsTaken, taken_more, taken_nothing, IsInputRead, IsMoreRead}
+use Prelude.{IsMoversAnswer, status_of_blocks, whole_input, long_refused}
 use Rattle.std.specs.declared.alloc.AllocError.{AllocError}
-use Rattle.vyrd_base.specs.Devices.{SourceKnown}
-use Rattle.vyrd_mover.specs.declared.blocks.Blocks.{Blocks}
 use Rattle.vyrd_mover.specs.BlocksText.{blocks_text}
 use Rattle.vyrd_mover.specs.EventsRead.{AreBlocksOf}
-use Rattle.vyrd_mover.specs.HistoryText.{Recorded}
-use Rattle.vyrd_mover.specs.HistoryReading.{Refusal, history_reading}
-use Rattle.vyrd_mover.specs.HistoryReaders.{ReaderState, HasRead}
-use Rattle.vyrd_mover.specs.LongHistories.{longest_history}
+use Rattle.vyrd_mover.specs.HistoryReading.{Refusal}
+use Rattle.vyrd_mover.specs.HistoryReaders.{ReaderState}
 use Rattle.vyrd_mover.proofs.SettledLaws.{reading_settled}
 use Rattle.vyrd_mover.proofs.TextLaws.{reading_sound}
-use Rattle.vyrd_check_command.specs.declared.answer.Answer.{Answer}
-use Rattle.vyrd_check_command.specs.Inputs.{IsTaken}
-use Rattle.vyrd_check_command.proofs.TakenLaws.{taken_more, taken_nothing}
-use Rattle.vyrd_command.specs.Inputs.{IsInputRead, IsMoreRead}
-use Rattle.vyrd_command.specs.Moved.{IsMoversAnswer, status_of_blocks}
-use Rattle.vyrd_command.proofs.InputLaws.{whole_input, long_refused}
 
 pub history_is_input : (before after : SourceKnown) (bytes : List ℕ)
     → IsInputRead longest_history before after bytes

@@ -1,17 +1,8 @@
 -- No answer that a read came before has the status of a failed read.
-use Rattle.std.proofs.Common.{ℕ, ◌≤◌, List, Result, arith}
-use Rattle.std.specs.Prelude.{◌≢◌}
-use Rattle.vyrd_mover.specs.declared.blocks.Blocks.{Blocks}
-use Rattle.vyrd_mover.specs.HistoryText.{Recorded}
+use Rattle.vyrd_command.proofs.Prelude
+use Prelude.{ℕ, ◌≤◌, List, Result, arith, ◌≢◌, Blocks, Recorded, Workload, Refusal, verdict_low}
+use Prelude.{Show, IsStepAnswer, IsRunAnswer, IsMoversAnswer, status_of_blocks, IsBatchStatus}
 use Rattle.vyrd_mover.specs.HistoryReading as movers
-use Rattle.vyrd_work.specs.Workloads.{Workload}
-use Rattle.vyrd_work.specs.WorkReading.{Refusal}
-use Rattle.vyrd_check_command.proofs.StatusLaws.{verdict_low}
-use Rattle.vyrd_command.specs.declared.show.Show.{Show}
-use Rattle.vyrd_command.specs.Steps.{IsStepAnswer}
-use Rattle.vyrd_command.specs.Runs.{IsRunAnswer}
-use Rattle.vyrd_command.specs.Moved.{IsMoversAnswer, status_of_blocks}
-use Rattle.vyrd_command.specs.Batches.{IsBatchStatus}
 
 blocks_low : (b : Blocks) → status_of_blocks b ≤ 1
 blocks_low b = search arith

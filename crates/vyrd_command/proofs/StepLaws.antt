@@ -1,32 +1,14 @@
 -- What is known of the run of a workload that keeps its limits, and of the input that it was read
 -- from.
-use Rattle.std.proofs.Common.{◌≡◌, ℕ, true, List, [], length, Option, Some, refl, ◌∙◌, sym, arith}
-use Rattle.std.specs.Prelude.{IfSome, MatchOption, Result, Ok, Err}
-use Rattle.vyrd_base.specs.declared.history.Stamped.{Stamped}
-use Rattle.vyrd_base.specs.Devices.{SourceKnown}
-use Rattle.vyrd_base.specs.Histories.{cells_of, is_legal, log_of}
-use Rattle.vyrd_base.specs.declared.verdict.Verdict.{Verdict}
-use Rattle.vyrd_base.specs.Rules.{rules_of}
-use Rattle.vyrd_base.specs.Verdicts.{verdict}
-use Rattle.vyrd_memory.specs.Turns.{RunsTo}
+use Rattle.vyrd_command.proofs.Prelude
+use Prelude.{◌≡◌, ℕ, true, List, [], length, Option, Some, refl, ◌∙◌, sym, arith, IfSome}
+use Prelude.{MatchOption, Result, Ok, Err, Stamped, SourceKnown, cells_of, is_legal, log_of}
+use Prelude.{Verdict, rules_of, verdict, RunsTo, run_is_legal, run_plays, only_races, most_events}
+use Prelude.{Workload, work_text, KeepsLimits, Refusal, work_reading, work_scripts, longest_input}
+use Prelude.{scripts_sound, reading_sound, AllHadRoom, Show, IsInputRead, NamesOnlyRaces}
+use Prelude.{IsTurnedTo, IsStepAnswer, IsLiveRun, IsRunAnswer, whole_input, long_refused}
 use Rattle.vyrd_memory.specs.Runs.{PlayToTheEnd}
-use Rattle.vyrd_memory.proofs.LegalRuns.{run_is_legal, run_plays}
-use Rattle.vyrd_memory.proofs.RaceLaws.{only_races}
-use Rattle.vyrd_trace.specs.Hands.{most_events}
-use Rattle.vyrd_work.specs.Workloads.{Workload, work_text}
-use Rattle.vyrd_work.specs.WorkLimits.{KeepsLimits}
-use Rattle.vyrd_work.specs.WorkReading.{Refusal, work_reading}
-use Rattle.vyrd_work.specs.WorkScripts.{work_scripts}
-use Rattle.vyrd_work.specs.LongInputs.{longest_input}
-use Rattle.vyrd_work.proofs.SoundScripts.{scripts_sound}
-use Rattle.vyrd_work.proofs.TextLaws.{reading_sound}
 use Rattle.vyrd_work.proofs.SettledLaws.{reading_settled}
-use Rattle.vyrd_live.specs.LiveRuns.{AllHadRoom}
-use Rattle.vyrd_command.specs.declared.show.Show.{Show}
-use Rattle.vyrd_command.specs.Inputs.{IsInputRead}
-use Rattle.vyrd_command.specs.Steps.{NamesOnlyRaces, IsTurnedTo, IsStepAnswer}
-use Rattle.vyrd_command.specs.Runs.{IsLiveRun, IsRunAnswer}
-use Rattle.vyrd_command.proofs.InputLaws.{whole_input, long_refused}
 
 -- the history of a run by turns is legal, and each script is played to its end in it
 pub turned_is_legal : (w : Workload) (history : List Stamped) → KeepsLimits w

@@ -1,22 +1,9 @@
 -- What an account tells of a run that ended is the answer.
-use Rattle.std.proofs.Common.{◌≡◌, ℕ, List, [], ◌++◌, length, Option, Some, None, refl}
-use Rattle.std.specs.Prelude.{IfSome}
-use Rattle.vyrd_base.specs.Histories.{log_of}
-use Rattle.vyrd_base.specs.Rules.{built_in, rules_of, rules_by}
-use Rattle.vyrd_base.specs.Verdicts.{verdict}
-use Rattle.vyrd_base.specs.VerdictText.{verdict_text}
-use Rattle.vyrd_memory.specs.Showing.{HasRun}
-use Rattle.vyrd_trace.specs.Hands.{most_events}
-use Rattle.vyrd_work.specs.Workloads.{Workload}
-use Rattle.vyrd_work.specs.WorkLimits.{KeepsLimits}
-use Rattle.vyrd_work.specs.WorkScripts.{work_scripts}
-use Rattle.vyrd_live.specs.LiveRuns.{LeavesRun}
-use Rattle.vyrd_check_command.specs.Outputs.{status_of}
-use Rattle.vyrd_command.specs.declared.show.Show.{Show}
-use Rattle.vyrd_command.specs.Inside.Accounts.{AccountView, HasTaken}
-use Rattle.vyrd_command.specs.Steps.{run_text, TellsRun}
-use Rattle.vyrd_command.specs.Runs.{TellsLive}
-use Rattle.vyrd_command.specs.Generated.{generated_line, CountsRun}
+use Rattle.vyrd_command.proofs.Prelude
+use Prelude.{◌≡◌, ℕ, List, [], ◌++◌, length, Option, Some, None, refl, IfSome, log_of, built_in}
+use Prelude.{rules_of, rules_by, verdict, verdict_text, HasRun, most_events, Workload, KeepsLimits}
+use Prelude.{work_scripts, LeavesRun, status_of, Show, AccountView, HasTaken, run_text, TellsRun}
+use Prelude.{TellsLive, generated_line, CountsRun}
 use Rattle.vyrd_command.proofs.StepLaws.{is_turned, is_live}
 
 pub of_some : {A : Type 0} (P : Type 0) (o : Option A) (x : A) → o ≡ Some x → IfSome o (λ _. P) → P

@@ -1,41 +1,17 @@
 -- The log has no fault, so it is accepted.
-use Rattle.std.proofs.Common.{◌≡◌, ℕ, ◌<◌, true, false, List, [], ◌∷◌, ◌++◌, Some, None, length}
-use Rattle.std.proofs.Common.{refl, ap, ◌∙◌}
-use Rattle.std.specs.Prelude.{filter_map}
-use Rattle.std.specs.List.{cons_option}
-use Rattle.vyrd_base.specs.declared.header.Header.{Header}
-use Rattle.vyrd_base.specs.declared.log.Kind.TheVariants.{Call, Return, Write, Commit, BlockOpen}
-use Rattle.vyrd_base.specs.declared.log.Kind.TheVariants.{BlockClose, BlockCommit}
-use Rattle.vyrd_base.specs.declared.log.Entry.{Entry}
-use Rattle.vyrd_base.specs.declared.history.Did.{Did}
-use Rattle.vyrd_base.specs.declared.history.Did.TheVariants.{Read, Wrote, Took, Gave, Marked}
-use Rattle.vyrd_base.specs.declared.history.Stamped.{Stamped}
-use Rattle.vyrd_base.specs.Places.{Place, places, places_after, first_answer, newest_first_onto}
-use Rattle.vyrd_base.specs.Places.{newest_first}
-use Rattle.vyrd_base.specs.Front.{front, first_break, WellFormed}
-use Rattle.vyrd_base.specs.Amounts.{Amounts}
-use Rattle.vyrd_base.specs.States.{State}
-use Rattle.vyrd_base.specs.Specification.{start}
-use Rattle.vyrd_base.specs.Commits.{next_reply, committed_at, commits_after, commits, commit_count}
-use Rattle.vyrd_base.specs.Faults.{fault_of_kind, fault_of_commit, fault_at}
-use Rattle.vyrd_base.specs.BlockEnds.{ended_words}
-use Rattle.vyrd_base.specs.Views.{view_of_words}
+use Rattle.vyrd_every.proofs.Prelude
+use Prelude.{◌≡◌, ℕ, ◌<◌, true, false, List, [], ◌∷◌, ◌++◌, Some, None, length, refl, ap, ◌∙◌}
+use Prelude.{filter_map, cons_option, Header, Call, Return, Write, Commit, BlockOpen, BlockClose}
+use Prelude.{BlockCommit, Entry, Did, Read, Wrote, Took, Gave, Marked, Stamped, Place, places}
+use Prelude.{places_after, first_answer, newest_first_onto, newest_first, front, first_break}
+use Prelude.{WellFormed, Amounts, State, start, next_reply, committed_at, commits_after, commits}
+use Prelude.{commit_count, fault_of_kind, fault_of_commit, fault_at, ended_words, view_of_words}
+use Prelude.{violation_at, states_along, first_fault, shape_verdict, is_call_open, accepted}
+use Prelude.{verdict, cells_of, is_legal, logged, log_of, log_entry, entry, same_number, Script}
+use Prelude.{stop, answer_of, after_answer, left_after, part_of, script_of, PlayToTheEnd}
+use Prelude.{legal_events, caller_low, are_answers, IsRun, newest_log, none_open, all_keep}
+use Prelude.{all_rest, first_version_built_in, WillReturn, log_in, rules_of}
 use Rattle.vyrd_base.proofs.NoStart.{states_along-none, verdict_so_far-none, end_verdict-none}
-use Rattle.vyrd_base.specs.Verdicts.{violation_at, states_along, first_fault, shape_verdict}
-use Rattle.vyrd_base.specs.Verdicts.{is_call_open, accepted, verdict}
-use Rattle.vyrd_base.specs.Histories.{cells_of, is_legal, logged, log_of}
-use Rattle.vyrd_base.proofs.HistoryLaws.{log_entry}
-use Rattle.vyrd_base.proofs.BlockLaws.{entry}
-use Rattle.vyrd_base.proofs.TestLaws.{same_number}
-use Rattle.vyrd_memory.specs.Scripts.{Script, stop, answer_of, after_answer, left_after}
-use Rattle.vyrd_memory.specs.Turns.{part_of, script_of}
-use Rattle.vyrd_memory.specs.Runs.{PlayToTheEnd}
-use Rattle.vyrd_memory.proofs.LegalEvents.{legal_events, caller_low, are_answers}
-use Rattle.vyrd_memory.proofs.LegalRuns.{IsRun}
-use Rattle.vyrd_memory.proofs.RaceLaws.{newest_log, none_open, all_keep, all_rest}
-use Rattle.vyrd_base.proofs.HeaderLaws.{first_version_built_in}
-use Rattle.vyrd_every.specs.RightScripts.{WillReturn}
-use Rattle.vyrd_every.specs.Between.{log_in}
 use Rattle.vyrd_every.proofs.Answered.{passed_after, commits_now}
 use Rattle.vyrd_every.proofs.NextEvent.{Committing, Leading, Returning, run_before}
 use Rattle.vyrd_every.proofs.Keeping.{GoesOn, Keeping}
@@ -43,7 +19,6 @@ use Rattle.vyrd_every.proofs.Coming.{reply_comes}
 use Rattle.vyrd_every.proofs.Reached.{no_break, all_front}
 use Rattle.vyrd_every.proofs.VerdictStates.{states_with, later_states, states_begin, state_goes_on}
 use Rattle.vyrd_every.proofs.Judged.{commit_is_right, return_is_right}
-use Rattle.vyrd_base.specs.Rules.{rules_of}
 
 -- the first fault among the entries to come, with the states that have passed and those to come
 abbrev FaultFrom : Header → List Amounts → Amounts → List Entry → List Entry → Type 0

@@ -1,22 +1,10 @@
 -- Which states an observer has seen: the commits along the log, and the states from a caller's call
 -- on.
-use Rattle.std.proofs.Common.{◌≡◌, ℕ, zero, suc, ◌+◌, ◌≤◌, Bool, true, false, cond, ◌||◌, List, []}
-use Rattle.std.proofs.Common.{◌∷◌, ◌++◌, length, refl, arith}
-use Rattle.std.specs.Prelude.{◌==◌}
-use Rattle.std.specs.List.{cons_option, list_any}
-use Rattle.vyrd_base.specs.declared.log.Kind.TheVariants.{Write}
-use Rattle.vyrd_base.specs.declared.log.Entry.{Entry}
-use Rattle.vyrd_base.specs.declared.history.Did.{Did}
-use Rattle.vyrd_base.specs.declared.history.Did.TheVariants.{Read, Wrote, Took, Gave, Marked}
-use Rattle.vyrd_base.specs.Callers.{Called, is_call, entries_before_call}
-use Rattle.vyrd_base.specs.Amounts.{Amounts}
-use Rattle.vyrd_base.specs.Specification.{answer_in}
-use Rattle.vyrd_base.specs.Commits.{is_commit, commit_count}
-use Rattle.vyrd_base.specs.Histories.{logged}
-use Rattle.vyrd_base.proofs.Lasting.{commit_count-cons}
-use Rattle.vyrd_base.proofs.BlockLaws.{entry}
-use Rattle.vyrd_base.proofs.TestLaws.{same_number}
-use Rattle.vyrd_every.specs.Between.{has_answer}
+use Rattle.vyrd_every.proofs.Prelude
+use Prelude.{◌≡◌, ℕ, zero, suc, ◌+◌, ◌≤◌, Bool, true, false, cond, ◌||◌, List, [], ◌∷◌, ◌++◌}
+use Prelude.{length, refl, arith, ◌==◌, cons_option, list_any, Write, Entry, Did, Read, Wrote, Took}
+use Prelude.{Gave, Marked, Called, is_call, entries_before_call, Amounts, answer_in, is_commit}
+use Prelude.{commit_count, logged, commit_count-cons, entry, same_number, has_answer}
 
 -- whether an event commits
 abbrev pub commits_now : Did → Bool

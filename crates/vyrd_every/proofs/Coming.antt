@@ -1,26 +1,12 @@
 -- A reply that a script will give comes in the log, where the script is played to its end.
-use Rattle.std.proofs.Common.{◌≡◌, ℕ, ◌⊎◌, inl, inr, Bool, true, false, cond, List, [], ◌∷◌, Option}
-use Rattle.std.proofs.Common.{Some, None, refl, ap, ◌∙◌, sym, subst}
-use Rattle.std.specs.Prelude.{◌==◌, filter_map}
-use Rattle.std.specs.Option.{option_or}
-use Rattle.std.specs.List.{cons_option}
-use Rattle.vyrd_base.specs.declared.log.Kind.TheVariants.{Call, Return, Write, Commit, BlockOpen}
-use Rattle.vyrd_base.specs.declared.log.Kind.TheVariants.{BlockClose, BlockCommit}
-use Rattle.vyrd_base.specs.declared.log.Entry.{Entry}
-use Rattle.vyrd_base.specs.declared.history.Did.{Did}
-use Rattle.vyrd_base.specs.declared.history.Did.TheVariants.{Read, Wrote, Took, Gave, Marked}
-use Rattle.vyrd_base.specs.declared.history.Stamped.{Stamped}
-use Rattle.vyrd_base.specs.Places.{newest_first_onto}
-use Rattle.vyrd_base.specs.Commits.{returned, next_reply}
-use Rattle.vyrd_base.specs.Histories.{logged}
-use Rattle.vyrd_base.proofs.HistoryLaws.{log_entry}
-use Rattle.vyrd_base.proofs.BlockLaws.{own_answer, other_answer}
-use Rattle.vyrd_base.proofs.TestLaws.{same_of}
-use Rattle.vyrd_memory.specs.Scripts.{Script, stop, step, next_act, after_answer, event_of}
-use Rattle.vyrd_memory.specs.Scripts.{answer_of, left_after, IsAnswer, Plays}
-use Rattle.vyrd_memory.specs.Turns.{part_of}
-use Rattle.vyrd_memory.proofs.Situations.{act_of_event, AreAnswers, event_act}
-use Rattle.vyrd_every.specs.RightScripts.{WillReturn}
+use Rattle.vyrd_every.proofs.Prelude
+use Prelude.{◌≡◌, ℕ, ◌⊎◌, inl, inr, Bool, true, false, cond, List, [], ◌∷◌, Option, Some, None}
+use Prelude.{refl, ap, ◌∙◌, sym, subst, ◌==◌, filter_map, option_or, cons_option, Call, Return}
+use Prelude.{Write, Commit, BlockOpen, BlockClose, BlockCommit, Entry, Did, Read, Wrote, Took, Gave}
+use Prelude.{Marked, Stamped, newest_first_onto, returned, next_reply, logged, log_entry}
+use Prelude.{own_answer, other_answer, same_of, Script, stop, step, next_act, after_answer}
+use Prelude.{event_of, answer_of, left_after, IsAnswer, Plays, part_of, act_of_event, AreAnswers}
+use Prelude.{event_act, WillReturn}
 
 -- the reply that an event of the caller logs, if it is a return
 abbrev reply_of : Did → Option ℕ

@@ -1,27 +1,15 @@
 -- A run by turns ends or gets stuck, whatever the scripts are: each event leaves less of one
 -- script,
 -- and a script is finite.
-use Rattle.std.proofs.Common.{◌≡◌, ℕ, zero, suc, ◌<◌, ◌⊎◌, inl, inr, Bool, true, false, not}
-use Rattle.std.proofs.Common.{◌&&◌, ◌||◌}
-use Rattle.std.proofs.Common.{List, [], ◌∷◌, ◌++◌, Option, Some, None, length, refl, ap, ◌∙◌, sym}
-use Rattle.std.proofs.Common.{arith}
-use Rattle.std.specs.Prelude.{◌≢◌, is_some}
-use Rattle.std.proofs.lemmas.List.{append-nil}
+use Rattle.vyrd_every.proofs.Prelude
+use Prelude.{◌≡◌, ℕ, zero, suc, ◌<◌, ◌⊎◌, inl, inr, Bool, true, false, not, ◌&&◌, ◌||◌, List, []}
+use Prelude.{◌∷◌, ◌++◌, Option, Some, None, length, refl, ap, ◌∙◌, sym, arith, ◌≢◌, is_some}
+use Prelude.{append-nil, list_all, list_any, Did, Stamped, numbers_below, newest_first}
+use Prelude.{newest_first_onto, same_of, apart_of, Act, Done, Turn, Script, stop, step, next_act}
+use Prelude.{after_answer, answer_of, left_after, part_of, script_of, act_of, after_turns, is_done}
+use Prelude.{are_done, is_held_up, are_stuck, RunsTo, GetsStuck}
 use Rattle.std.proofs.lemmas.Option.{none-some}
-use Rattle.std.specs.List.{list_all, list_any}
-use Rattle.vyrd_base.specs.declared.history.Did.{Did}
-use Rattle.vyrd_base.specs.declared.history.Stamped.{Stamped}
-use Rattle.vyrd_base.specs.Places.{numbers_below, newest_first, newest_first_onto}
-use Rattle.vyrd_base.proofs.TestLaws.{same_of, apart_of}
-use Rattle.vyrd_memory.specs.declared.act.Act.{Act}
-use Rattle.vyrd_memory.specs.declared.act.Act.TheVariants.{Done}
-use Rattle.vyrd_memory.specs.declared.op.Turn.{Turn}
-use Rattle.vyrd_memory.specs.Scripts.{Script, stop, step, next_act, after_answer, answer_of}
-use Rattle.vyrd_memory.specs.Scripts.{left_after}
-use Rattle.vyrd_memory.specs.Turns.{part_of, script_of, act_of, event_now, with_event, after_turns}
-use Rattle.vyrd_memory.specs.Turns.{after_rounds, is_done, are_done, is_held_up, are_stuck}
-use Rattle.vyrd_memory.specs.Turns.{turns_of, run_for}
-use Rattle.vyrd_memory.specs.Turns.{RunsTo, GetsStuck}
+use Rattle.vyrd_memory.specs.Turns.{event_now, with_event, after_rounds, turns_of, run_for}
 
 -- the script in a place, and none past the list
 abbrev at : List Script → ℕ → Script

@@ -1,20 +1,10 @@
 -- Scripts one after the other do right, and so do operations, if the procedure of each does.
-use Rattle.std.proofs.Common.{◌≡◌, ℕ, true, List, [], ◌∷◌, Some, None, refl}
-use Rattle.vyrd_base.specs.declared.log.Kind.TheVariants.{Call, Return, Write, Commit, BlockOpen}
-use Rattle.vyrd_base.specs.declared.log.Kind.TheVariants.{BlockClose, BlockCommit}
-use Rattle.vyrd_base.specs.Amounts.{Amounts}
-use Rattle.vyrd_base.proofs.TestLaws.{first_true, second_true}
-use Rattle.vyrd_memory.specs.declared.act.Act.{Act}
-use Rattle.vyrd_memory.specs.declared.act.Act.TheVariants.{Load, Store, Take, Give, Mark, Done}
-use Rattle.vyrd_memory.specs.declared.op.Op.{Op}
-use Rattle.vyrd_memory.specs.Players.{is_callable, are_callable}
-use Rattle.vyrd_memory.specs.Alone.{Memory}
-use Rattle.vyrd_memory.specs.Scripts.{Script, stop, step, followed_by, operations}
-use Rattle.vyrd_memory.specs.Soundness.{Situation, at_rest, just_called, after_act}
-use Rattle.vyrd_every.specs.Structures.{Structure}
-use Rattle.vyrd_every.specs.Locals.{Locals, shown_after, Rests}
-use Rattle.vyrd_every.specs.RightScripts.{WillReturn, Commits, Leads, ActsRight, DoesRight, IsRight}
-use Rattle.vyrd_every.proofs.Acts.{quiet}
+use Rattle.vyrd_every.proofs.Prelude
+use Prelude.{◌≡◌, ℕ, true, List, [], ◌∷◌, Some, None, refl, Call, Return, Write, Commit, BlockOpen}
+use Prelude.{BlockClose, BlockCommit, Amounts, first_true, second_true, Act, Load, Store, Take}
+use Prelude.{Give, Mark, Done, Op, is_callable, are_callable, Memory, Script, stop, step}
+use Prelude.{followed_by, operations, Situation, at_rest, just_called, after_act, Structure, Locals}
+use Prelude.{shown_after, Rests, WillReturn, Commits, Leads, ActsRight, DoesRight, IsRight, quiet}
 
 -- what returns before something else follows
 pub follows_return : (reply : ℕ) (script later : Script) → WillReturn reply script

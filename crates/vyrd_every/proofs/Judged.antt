@@ -1,34 +1,14 @@
 -- No commit is a fault, and no observer's return is one.
-use Rattle.std.proofs.Common.{◌≡◌, ℕ, Bool, true, false, cond, ◌||◌, List, [], ◌∷◌, ◌++◌, map}
-use Rattle.std.proofs.Common.{Option, Some, None, length, refl, ◌∙◌, sym}
-use Rattle.std.specs.Prelude.{◌==◌, filter, slice_get, option_and_then}
-use Rattle.std.specs.Option.{option_and}
-use Rattle.std.specs.List.{list_any}
-use Rattle.std.proofs.lemmas.Bool.{not-false}
-use Rattle.vyrd_base.specs.declared.header.Header.{Header}
-use Rattle.vyrd_base.specs.declared.log.Entry.{Entry}
-use Rattle.vyrd_base.specs.declared.log.Kind.TheVariants.{Return}
-use Rattle.vyrd_base.specs.declared.verdict.Why.TheVariants.{Observer}
-use Rattle.vyrd_base.specs.Places.{Place}
-use Rattle.vyrd_base.specs.Callers.{Called, open_call, has_committed, entries_before_call}
+use Rattle.vyrd_every.proofs.Prelude
+use Prelude.{◌≡◌, ℕ, Bool, true, false, cond, ◌||◌, List, [], ◌∷◌, ◌++◌, map, Option, Some, None}
+use Prelude.{length, refl, ◌∙◌, sym, ◌==◌, filter, slice_get, option_and_then, option_and, list_any}
+use Prelude.{not-false, Header, Entry, Return, Observer, Place, Called, open_call, has_committed}
+use Prelude.{entries_before_call, is_observer, is_built_in, Amounts, least, first_difference, State}
+use Prelude.{showing, next_state, answer_in, ended_words, WellFormed, first_words_at, view_of_words}
+use Prelude.{next_reply, commit_count, states_since_call, observer_fault, return_fault}
+use Prelude.{fault_of_commit, entry, returns_committed, same_number, has_answer, rules_of}
 use Rattle.vyrd_base.specs.Shape.{broken_rule, is_observing}
-use Rattle.vyrd_base.specs.Subjects.{is_observer, is_built_in}
-use Rattle.vyrd_base.specs.Amounts.{Amounts, least, first_difference}
-use Rattle.vyrd_base.specs.States.{State, showing}
-use Rattle.vyrd_base.specs.Specification.{next_state, answer_in}
-use Rattle.vyrd_base.specs.BlockEnds.{ended_words}
-use Rattle.vyrd_base.specs.Front.{WellFormed}
-use Rattle.vyrd_base.proofs.VersionWords.{first_words_at}
-use Rattle.vyrd_base.specs.Views.{view_of_words}
-use Rattle.vyrd_base.specs.Commits.{next_reply, commit_count}
-use Rattle.vyrd_base.specs.Faults.{states_since_call, observer_fault, return_fault}
-use Rattle.vyrd_base.specs.Faults.{fault_of_commit}
-use Rattle.vyrd_base.proofs.BlockLaws.{entry}
-use Rattle.vyrd_base.proofs.CommittedLaws.{returns_committed}
-use Rattle.vyrd_base.proofs.TestLaws.{same_number}
-use Rattle.vyrd_every.specs.Between.{has_answer}
 use Rattle.vyrd_every.proofs.VerdictStates.{state_here, states_seen, any_showing}
-use Rattle.vyrd_base.specs.Rules.{rules_of}
 
 -- a state differs from itself nowhere
 none_kept : (p : ℕ → Bool) (xs : List ℕ) → ((x : ℕ) → p x ≡ false) → filter p xs ≡ []

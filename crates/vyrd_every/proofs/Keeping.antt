@@ -1,24 +1,11 @@
 -- What a proof about a structure has to give: something that holds at the beginning and after every
 -- event, with the states that
 -- have passed. All that follows of the log goes by this alone.
-use Rattle.std.specs.Prelude.{◌≡◌, ℕ, ◌<◌, true, false, List, [], ◌∷◌, length}
-use Rattle.vyrd_base.specs.declared.header.Header.{Header}
-use Rattle.vyrd_base.specs.declared.history.Did.{Did}
-use Rattle.vyrd_base.specs.declared.history.Stamped.{Stamped}
-use Rattle.vyrd_base.specs.Amounts.{Amounts}
-use Rattle.vyrd_base.specs.Specification.{start}
-use Rattle.vyrd_base.specs.Commits.{commit_count}
-use Rattle.vyrd_base.specs.BlockEnds.{ended_words}
-use Rattle.vyrd_base.specs.Views.{view_of_words}
-use Rattle.vyrd_base.specs.Front.{WellFormed}
-use Rattle.vyrd_memory.specs.declared.act.Act.TheVariants.{Take}
-use Rattle.vyrd_memory.specs.Scripts.{Script, after_answer, left_after}
-use Rattle.vyrd_memory.specs.Soundness.{holds}
-use Rattle.vyrd_memory.specs.Runs.{AreSoundScripts}
-use Rattle.vyrd_memory.specs.Turns.{part_of, script_of, act_of, is_done}
-use Rattle.vyrd_memory.proofs.Situations.{situation_after}
-use Rattle.vyrd_memory.proofs.LegalRuns.{IsRun}
-use Rattle.vyrd_every.specs.Between.{log_in}
+use Rattle.vyrd_every.proofs.Prelude.{◌≡◌, ℕ, ◌<◌, true, false, List, [], ◌∷◌, length, Header, Did}
+use Rattle.vyrd_every.proofs.Prelude.{Stamped, Amounts, start, commit_count, ended_words}
+use Rattle.vyrd_every.proofs.Prelude.{view_of_words, WellFormed, Take, Script, after_answer}
+use Rattle.vyrd_every.proofs.Prelude.{left_after, holds, AreSoundScripts, part_of, script_of}
+use Rattle.vyrd_every.proofs.Prelude.{act_of, is_done, situation_after, IsRun, log_in}
 use Rattle.vyrd_every.proofs.Answered.{passed_after}
 use Rattle.vyrd_every.proofs.NextEvent.{Leading, Returning}
 

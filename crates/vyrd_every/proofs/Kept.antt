@@ -1,19 +1,9 @@
 -- The invariant of a structure, as what the rest of the proof asks for.
-use Rattle.std.proofs.Common.{◌≡◌, ℕ, ◌<◌, true, false, List, [], refl, ap, subst}
-use Rattle.vyrd_base.specs.declared.history.Stamped.{Stamped}
-use Rattle.vyrd_base.specs.Amounts.{Amounts}
-use Rattle.vyrd_base.specs.Specification.{start}
-use Rattle.vyrd_memory.specs.declared.act.Act.{Act}
-use Rattle.vyrd_memory.specs.declared.act.Act.TheVariants.{Load, Store, Take, Give, Mark, Done}
-use Rattle.vyrd_memory.specs.Alone.{Memory}
-use Rattle.vyrd_memory.specs.Scripts.{Script, stop, step, next_act, left_after}
-use Rattle.vyrd_memory.specs.Soundness.{Situation, holds}
-use Rattle.vyrd_memory.specs.Turns.{part_of, script_of, is_done}
-use Rattle.vyrd_memory.proofs.Situations.{situation_after}
-use Rattle.vyrd_every.specs.Structures.{Structure, shown_by}
-use Rattle.vyrd_every.specs.Locals.{Locals, empty_locals}
-use Rattle.vyrd_every.specs.RightScripts.{Reaches, DoesRight, AreRight}
-use Rattle.vyrd_every.specs.Between.{log_in, Invariant}
+use Rattle.vyrd_every.proofs.Prelude
+use Prelude.{◌≡◌, ℕ, ◌<◌, true, false, List, [], refl, ap, subst, Stamped, Amounts, start, Act}
+use Prelude.{Load, Store, Take, Give, Mark, Done, Memory, Script, stop, step, next_act, left_after}
+use Prelude.{Situation, holds, part_of, script_of, is_done, situation_after, Structure, shown_by}
+use Prelude.{Locals, empty_locals, Reaches, DoesRight, AreRight, log_in, Invariant}
 use Rattle.vyrd_every.proofs.Relies.{rely_same}
 use Rattle.vyrd_every.proofs.NextEvent.{next_event}
 use Rattle.vyrd_every.proofs.Keeping.{Keeping}

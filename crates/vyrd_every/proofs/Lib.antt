@@ -1,3 +1,4 @@
+mod Prelude
 -- single acts do right, and scripts one after the other
 mod Relies
 mod Acts

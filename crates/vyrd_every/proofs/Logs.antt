@@ -1,35 +1,13 @@
 -- What one more event makes of what the log says.
-use Rattle.std.proofs.Common.{◌≡◌, ℕ, ◌<◌, Bool, true, false, cond, List, [], ◌∷◌, ◌++◌, Some, None}
-use Rattle.std.proofs.Common.{refl, arith}
-use Rattle.std.specs.Prelude.{◌==◌}
-use Rattle.std.specs.List.{cons_option}
-use Rattle.std.proofs.lemmas.Bool.Decides.{nat_tests}
-use Rattle.vyrd_base.specs.declared.header.Header.{Header}
-use Rattle.vyrd_base.specs.declared.log.Kind.{Kind}
-use Rattle.vyrd_base.specs.declared.log.Kind.TheVariants.{Call, Return, Write, Commit, BlockOpen}
-use Rattle.vyrd_base.specs.declared.log.Kind.TheVariants.{BlockClose, BlockCommit}
-use Rattle.vyrd_base.specs.declared.log.Entry.{Entry}
-use Rattle.vyrd_base.specs.declared.history.Did.{Did}
-use Rattle.vyrd_base.specs.declared.history.Did.TheVariants.{Read, Wrote, Took, Gave, Marked}
-use Rattle.vyrd_base.specs.declared.verdict.Rule.TheVariants.{BlockRaced}
-use Rattle.vyrd_base.specs.Callers.{open_call, has_block, holds_word}
+use Rattle.vyrd_every.proofs.Prelude
+use Prelude.{◌≡◌, ℕ, ◌<◌, Bool, true, false, cond, List, [], ◌∷◌, ◌++◌, Some, None, refl, arith}
+use Prelude.{◌==◌, cons_option, nat_tests, Header, Kind, Call, Return, Write, Commit, BlockOpen}
+use Prelude.{BlockClose, BlockCommit, Entry, Did, Read, Wrote, Took, Gave, Marked, BlockRaced}
+use Prelude.{open_call, has_block, holds_word, block_writes, ended_effects, ended_value, logged}
+use Prelude.{WellFormed, entry, own_answer, other_answer, own_writes, other_writes, holds_other}
+use Prelude.{no_inner_commit, with_cell, Situation, act_of_event, OnlyRaced, none_any, Structure}
+use Prelude.{shown_by, Locals, written, shown_after, pending_after, called_after, Reaches, never}
 use Rattle.vyrd_base.specs.Shape.{Check, first_broken, broken_rule, is_held_by_other}
-use Rattle.vyrd_base.specs.Words.{block_writes}
-use Rattle.vyrd_base.specs.BlockEnds.{ended_effects, ended_value}
-use Rattle.vyrd_base.specs.Histories.{logged}
-use Rattle.vyrd_base.specs.Front.{WellFormed}
-use Rattle.vyrd_base.proofs.BlockLaws.{entry, own_answer, other_answer, own_writes, other_writes}
-use Rattle.vyrd_base.proofs.ShadowLaws.{holds_other}
-use Rattle.vyrd_base.proofs.VersionWords.{no_inner_commit}
-use Rattle.vyrd_memory.specs.Alone.{with_cell}
-use Rattle.vyrd_memory.specs.Soundness.{Situation}
-use Rattle.vyrd_memory.proofs.Situations.{act_of_event}
-use Rattle.vyrd_memory.proofs.KeptRules.{OnlyRaced}
-use Rattle.vyrd_memory.proofs.RaceLaws.{none_any}
-use Rattle.vyrd_every.specs.Structures.{Structure, shown_by}
-use Rattle.vyrd_every.specs.Locals.{Locals, written, shown_after, pending_after, called_after}
-use Rattle.vyrd_every.specs.RightScripts.{Reaches}
-use Rattle.vyrd_every.proofs.Acts.{never}
 
 -- one more effect
 pub one_more : (word value : ℕ) (writes : List (ℕ × ℕ)) (w : ℕ)

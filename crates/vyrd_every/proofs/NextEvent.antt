@@ -1,46 +1,19 @@
 -- What holds between any two events of a legal history in which callers play scripts that do right,
 -- and how one more event
 -- keeps it.
-use Rattle.std.proofs.Common.{◌≡◌, ℕ, ◌<◌, ◌⊎◌, inl, inr, Bool, true, false, cond, List, [], ◌∷◌}
-use Rattle.std.proofs.Common.{◌++◌, Option, Some, None, length, refl, ap, ◌∙◌, sym, subst}
-use Rattle.std.specs.Prelude.{◌==◌}
-use Rattle.std.specs.List.{cons_option}
-use Rattle.std.proofs.lemmas.List.{append-nil}
-use Rattle.std.proofs.lemmas.Option.{same_Some}
-use Rattle.vyrd_base.specs.declared.header.Header.{Header}
-use Rattle.vyrd_base.specs.declared.log.Kind.{Kind}
-use Rattle.vyrd_base.specs.declared.log.Kind.TheVariants.{Call, Return, Write, Commit, BlockOpen}
-use Rattle.vyrd_base.specs.declared.log.Kind.TheVariants.{BlockClose, BlockCommit}
-use Rattle.vyrd_base.specs.declared.log.Entry.{Entry}
-use Rattle.vyrd_base.specs.declared.history.Did.{Did}
-use Rattle.vyrd_base.specs.declared.history.Did.TheVariants.{Read, Wrote, Took, Gave, Marked}
-use Rattle.vyrd_base.specs.declared.history.Stamped.{Stamped}
-use Rattle.vyrd_base.specs.Callers.{Called, open_call, holds_word, entries_before_call}
-use Rattle.vyrd_base.specs.Subjects.{is_observer}
-use Rattle.vyrd_base.specs.Amounts.{Amounts}
-use Rattle.vyrd_base.specs.Specification.{next_state}
-use Rattle.vyrd_base.specs.Commits.{commit_count}
-use Rattle.vyrd_base.specs.Histories.{cells_of, may_do, is_plain, logged}
-use Rattle.vyrd_base.specs.Front.{WellFormed}
-use Rattle.vyrd_base.proofs.BlockLaws.{by_same}
-use Rattle.vyrd_base.proofs.TestLaws.{second_true, same_of, same_number}
-use Rattle.vyrd_base.proofs.StateLaws.{commits_before_call}
-use Rattle.vyrd_memory.specs.declared.act.Act.TheVariants.{Mark}
-use Rattle.vyrd_memory.specs.Alone.{Memory}
-use Rattle.vyrd_memory.specs.Scripts.{Script, after_answer, answer_of, left_after, Plays}
-use Rattle.vyrd_memory.specs.Soundness.{Situation, holds, may_act, after_act}
-use Rattle.vyrd_memory.specs.Turns.{part_of, script_of}
-use Rattle.vyrd_memory.specs.Runs.{AreSoundScripts}
-use Rattle.vyrd_memory.proofs.Situations.{act_of_event, situation_after, KeepsTo}
-use Rattle.vyrd_memory.proofs.LegalEvents.{caller_low, does}
-use Rattle.vyrd_memory.proofs.Agreements.{Agrees, agrees}
-use Rattle.vyrd_memory.proofs.KeptRules.{write_kept, mark_kept}
-use Rattle.vyrd_memory.proofs.LegalRuns.{IsRun, run_keeps}
-use Rattle.vyrd_every.specs.Structures.{Structure, Fits, shown_by}
-use Rattle.vyrd_every.specs.Locals.{Locals, Access, shown_after, called_after, answer_at}
-use Rattle.vyrd_every.specs.RightScripts.{WillReturn, Commits, Sees, Answers, Reaches, ActsRight}
-use Rattle.vyrd_every.specs.Between.{log_in, OfCaller, has_answer, Invariant}
-use Rattle.vyrd_every.proofs.Acts.{never}
+use Rattle.vyrd_every.proofs.Prelude
+use Prelude.{◌≡◌, ℕ, ◌<◌, ◌⊎◌, inl, inr, Bool, true, false, cond, List, [], ◌∷◌, ◌++◌, Option, Some}
+use Prelude.{None, length, refl, ap, ◌∙◌, sym, subst, ◌==◌, cons_option, append-nil, same_Some}
+use Prelude.{Header, Kind, Call, Return, Write, Commit, BlockOpen, BlockClose, BlockCommit, Entry}
+use Prelude.{Did, Read, Wrote, Took, Gave, Marked, Stamped, Called, open_call, holds_word}
+use Prelude.{entries_before_call, is_observer, Amounts, next_state, commit_count, cells_of, may_do}
+use Prelude.{is_plain, logged, WellFormed, by_same, second_true, same_of, same_number}
+use Prelude.{commits_before_call, Mark, Memory, Script, after_answer, answer_of, left_after, Plays}
+use Prelude.{Situation, holds, may_act, after_act, part_of, script_of, AreSoundScripts}
+use Prelude.{act_of_event, situation_after, KeepsTo, caller_low, does, Agrees, agrees, write_kept}
+use Prelude.{mark_kept, IsRun, run_keeps, Structure, Fits, shown_by, Locals, Access, shown_after}
+use Prelude.{called_after, answer_at, log_in, OfCaller, has_answer, Invariant, never}
+use Rattle.vyrd_every.specs.RightScripts.{Sees, Answers, WillReturn, Commits, Reaches, ActsRight}
 use Rattle.vyrd_every.proofs.Logs.{held_by_none, write_unraced, IsNoWrite, mark_unraced}
 use Rattle.vyrd_every.proofs.Raw.{raw_is_shown, one_holder}
 use Rattle.vyrd_every.proofs.Ones.{OwnStep, own_step, other_step, still_apart}

@@ -1,35 +1,16 @@
 -- What holds of one caller between any two events, and how one more event keeps it: its own, or
 -- another caller's.
-use Rattle.std.proofs.Common.{◌≡◌, ℕ, Bool, true, false, cond, not, List, ◌∷◌, Some, None, refl}
-use Rattle.std.proofs.Common.{◌∙◌, sym, subst}
-use Rattle.std.specs.Prelude.{◌==◌, ◌&&◌, ◌||◌, is_some, unwrap_or}
-use Rattle.std.specs.Option.{option_or}
-use Rattle.std.specs.List.{cons_option}
-use Rattle.std.proofs.lemmas.Bool.{not-true}
-use Rattle.vyrd_base.specs.declared.log.Kind.TheVariants.{Call, Return, Write, Commit, BlockOpen}
-use Rattle.vyrd_base.specs.declared.log.Kind.TheVariants.{BlockClose, BlockCommit}
-use Rattle.vyrd_base.specs.declared.log.Entry.{Entry}
-use Rattle.vyrd_base.specs.declared.history.Did.{Did}
-use Rattle.vyrd_base.specs.declared.history.Did.TheVariants.{Read, Wrote, Took, Gave, Marked}
-use Rattle.vyrd_base.specs.Places.{first_answer}
-use Rattle.vyrd_base.specs.Callers.{by_caller, write_or_open, has_block, holds_word}
-use Rattle.vyrd_base.specs.Histories.{logged}
-use Rattle.vyrd_base.proofs.BlockLaws.{entry, wrote, own_block, own_wrote}
-use Rattle.vyrd_base.proofs.TestLaws.{same_of, both_of}
-use Rattle.vyrd_memory.specs.declared.act.Act.{Act}
-use Rattle.vyrd_memory.specs.Alone.{Memory}
-use Rattle.vyrd_memory.specs.Scripts.{Script, stop, step, next_act, after_answer, event_of}
-use Rattle.vyrd_memory.specs.Scripts.{answer_of, left_after}
-use Rattle.vyrd_memory.specs.Soundness.{Situation, holds, observes, may_act, after_act}
-use Rattle.vyrd_memory.proofs.Situations.{act_of_event, situation_after, event_act}
-use Rattle.vyrd_memory.proofs.Agreements.{Agrees, four_true}
-use Rattle.vyrd_every.specs.Structures.{Structure, shown_by}
-use Rattle.vyrd_every.specs.Locals.{Locals, Access, shown_after, answer_at}
-use Rattle.vyrd_every.specs.Others.{Rely, Guarantee}
-use Rattle.vyrd_every.specs.RightScripts.{Reaches, ActsRight, DoesRight}
-use Rattle.vyrd_every.specs.Between.{OfCaller}
+use Rattle.vyrd_every.proofs.Prelude
+use Prelude.{◌≡◌, ℕ, Bool, true, false, cond, not, List, ◌∷◌, Some, None, refl, ◌∙◌, sym, subst}
+use Prelude.{◌==◌, ◌&&◌, ◌||◌, is_some, unwrap_or, option_or, cons_option, not-true, Call, Return}
+use Prelude.{Write, Commit, BlockOpen, BlockClose, BlockCommit, Entry, Did, Read, Wrote, Took, Gave}
+use Prelude.{Marked, first_answer, by_caller, write_or_open, has_block, holds_word, logged, entry}
+use Prelude.{wrote, own_block, own_wrote, same_of, both_of, Act, Memory, Script, stop, step}
+use Prelude.{next_act, after_answer, event_of, answer_of, left_after, Situation, holds, observes}
+use Prelude.{may_act, after_act, act_of_event, situation_after, event_act, Agrees, four_true}
+use Prelude.{Structure, shown_by, Locals, Access, shown_after, answer_at, Rely, Guarantee, Reaches}
+use Prelude.{ActsRight, DoesRight, OfCaller, never}
 use Rattle.vyrd_every.proofs.Relies.{rely_same, rely_more}
-use Rattle.vyrd_every.proofs.Acts.{never}
 use Rattle.vyrd_every.proofs.Logs.{shown_step, pending_step, pending_other, called_step}
 use Rattle.vyrd_every.proofs.Logs.{called_other, word_other}
 

@@ -1,19 +1,9 @@
 -- A plain word that no open block has written has the value that the log shows.
-use Rattle.std.proofs.Common.{◌≡◌, ℕ, ◌<◌, true, false, List, [], ◌∷◌, ◌∙◌, sym, arith}
-use Rattle.std.proofs.lemmas.Bool.Decides.{nat_tests}
-use Rattle.vyrd_base.specs.declared.history.Stamped.{Stamped}
-use Rattle.vyrd_base.specs.Callers.{holds_word}
-use Rattle.vyrd_base.specs.Histories.{Cells, cells_of, is_lock, value_in}
-use Rattle.vyrd_base.specs.Front.{WellFormed}
-use Rattle.vyrd_base.proofs.HistoryLaws.{Legal, last_is_value}
-use Rattle.vyrd_base.proofs.ShadowLaws.{well_formed_sound}
-use Rattle.vyrd_memory.specs.Turns.{part_of}
-use Rattle.vyrd_memory.proofs.Situations.{situation_after, KeepsTo}
-use Rattle.vyrd_memory.proofs.LegalEvents.{AreLegal, does}
-use Rattle.vyrd_memory.proofs.HeldLocks.{held_is}
-use Rattle.vyrd_every.specs.Structures.{Structure, Fits, shown_by}
-use Rattle.vyrd_every.specs.Locals.{Access}
-use Rattle.vyrd_every.specs.Between.{log_in}
+use Rattle.vyrd_every.proofs.Prelude.{◌≡◌, ℕ, ◌<◌, true, false, List, [], ◌∷◌, ◌∙◌, sym, arith}
+use Rattle.vyrd_every.proofs.Prelude.{nat_tests, Stamped, holds_word, Cells, cells_of, is_lock}
+use Rattle.vyrd_every.proofs.Prelude.{value_in, WellFormed, Legal, last_is_value, well_formed_sound}
+use Rattle.vyrd_every.proofs.Prelude.{part_of, situation_after, KeepsTo, AreLegal, does, held_is}
+use Rattle.vyrd_every.proofs.Prelude.{Structure, Fits, shown_by, Access, log_in}
 
 pub legal_too : (cells : Cells) (earlier : List Stamped) → AreLegal cells earlier
     → Legal cells earlier

@@ -1,17 +1,8 @@
 -- What holds at the beginning, and so after every event.
-use Rattle.std.proofs.Common.{◌≡◌, List, [], ◌∷◌, None, refl, sym, subst}
-use Rattle.vyrd_base.specs.declared.header.Header.{Header}
-use Rattle.vyrd_base.specs.declared.log.Entry.{Entry}
-use Rattle.vyrd_base.specs.declared.history.Stamped.{Stamped}
-use Rattle.vyrd_base.specs.Places.{newest_first_onto, newest_first}
-use Rattle.vyrd_base.specs.Front.{front, first_break, WellFormed}
-use Rattle.vyrd_base.specs.Amounts.{Amounts}
-use Rattle.vyrd_base.specs.Specification.{start}
-use Rattle.vyrd_base.specs.Histories.{log_of}
+use Rattle.vyrd_every.proofs.Prelude.{◌≡◌, List, [], ◌∷◌, None, refl, sym, subst, Header, Entry}
+use Rattle.vyrd_every.proofs.Prelude.{Stamped, newest_first_onto, newest_first, front, first_break}
+use Rattle.vyrd_every.proofs.Prelude.{WellFormed, Amounts, start, log_of, Script, IsRun, newest_log}
 use Rattle.vyrd_base.proofs.Fronts.{break_after, front_after_whole}
-use Rattle.vyrd_memory.specs.Scripts.{Script}
-use Rattle.vyrd_memory.proofs.LegalRuns.{IsRun}
-use Rattle.vyrd_memory.proofs.RaceLaws.{newest_log}
 use Rattle.vyrd_every.proofs.Answered.{passed_after}
 use Rattle.vyrd_every.proofs.NextEvent.{run_before}
 use Rattle.vyrd_every.proofs.Keeping.{GoesOn, Keeping}

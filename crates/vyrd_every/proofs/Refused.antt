@@ -1,39 +1,21 @@
 -- Steps that don't do right.
-use Rattle.std.proofs.Common.{◌≡◌, ◌≢◌, ℕ, ◌+◌, ◌*◌, ◌/◌, ◌<◌, ◌≤◌, true, false, []}
-use Rattle.std.proofs.Common.{◌∷◌, Some, refl, ap, ◌∙◌, arith, None}
-use Rattle.std.specs.Prelude.{◌==◌, ◌||◌}
-use Rattle.std.specs.List.{list_any}
-use Rattle.vyrd_base.specs.declared.header.Header.{Header}
-use Rattle.vyrd_base.specs.declared.subject.Args.{Args}
-use Rattle.vyrd_base.specs.declared.subject.Method.{Method}
+use Rattle.vyrd_every.proofs.Prelude
+use Prelude.{◌≡◌, ◌≢◌, ℕ, ◌+◌, ◌*◌, ◌/◌, ◌<◌, ◌≤◌, true, false, [], ◌∷◌, Some, refl, ap, ◌∙◌, arith}
+use Prelude.{None, ◌==◌, ◌||◌, list_any, Header, Args, Method, AppendFrom, isnt_same, Load, Store}
+use Prelude.{Take, Give, Memory, Script, step, perform, Situation, holds, just_called, after_act}
+use Prelude.{gone, multiset_procedure, cache_procedure, buffers_procedure, multiset, cache, buffers}
+use Prelude.{Locals, DoesRight, IsRight, Shape, TreeLocals, TreeRight, never}
 use Rattle.vyrd_base.specs.declared.subject.Method.TheVariants.{Multiset as OfMultiset}
 use Rattle.vyrd_base.specs.declared.subject.Method.TheVariants.{Cache as OfCache}
 use Rattle.vyrd_base.specs.declared.subject.Method.TheVariants.{Buffers as OfBuffers}
 use Rattle.vyrd_base.specs.declared.multiset.MultisetMethod.TheVariants.{Insert}
 use Rattle.vyrd_base.specs.declared.cache.CacheMethod.TheVariants.{Write}
-use Rattle.vyrd_base.specs.declared.buffers.BuffersMethod.TheVariants.{AppendFrom}
-use Rattle.vyrd_base.proofs.TestLaws.{isnt_same}
-use Rattle.vyrd_memory.specs.declared.act.Act.TheVariants.{Load, Store, Take, Give}
 use Rattle.vyrd_memory.specs.declared.op.Variant.TheVariants.{Broken}
-use Rattle.vyrd_memory.specs.Alone.{Memory}
-use Rattle.vyrd_memory.specs.Scripts.{Script, step, perform}
-use Rattle.vyrd_memory.specs.Soundness.{Situation, holds, just_called, after_act}
-use Rattle.vyrd_memory.proofs.SoundActs.{gone}
-use Rattle.vyrd_multiset.specs.Procedures.{multiset_procedure}
 use Rattle.vyrd_cache.specs.Cells.{lock_of}
-use Rattle.vyrd_cache.specs.Procedures.{cache_procedure}
 use Rattle.vyrd_buffers.specs.Cells as texts
-use Rattle.vyrd_buffers.specs.Procedures.{buffers_procedure}
-use Rattle.vyrd_tree.specs.Cells.{node_cell, root_cell, root_lock}
 use Rattle.vyrd_tree.specs.Cells as cells
-use Rattle.vyrd_every.specs.Guarded.{multiset, cache, buffers}
-use Rattle.vyrd_every.specs.Locals.{Locals}
-use Rattle.vyrd_every.specs.RightScripts.{DoesRight, IsRight}
-use Rattle.vyrd_every.specs.Trees.Shapes.{Shape}
-use Rattle.vyrd_every.specs.Trees.Locals.{TreeLocals}
-use Rattle.vyrd_every.specs.Trees.RightScripts.{TreeRight}
+use Rattle.vyrd_tree.specs.Cells.{node_cell, root_cell, root_lock}
 use Rattle.vyrd_every.proofs.Relies.{rely_same}
-use Rattle.vyrd_every.proofs.Acts.{never}
 
 -- the locals of a caller that has just called
 abbrev calling : Method → Args → Locals

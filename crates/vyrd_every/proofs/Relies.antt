@@ -1,10 +1,5 @@
 -- The others may do nothing, and one thing after the other.
-use Rattle.std.proofs.Common.{refl, ◌∙◌}
-use Rattle.vyrd_memory.specs.Alone.{Memory}
-use Rattle.vyrd_memory.specs.Soundness.{Situation}
-use Rattle.vyrd_every.specs.Structures.{Structure}
-use Rattle.vyrd_every.specs.Locals.{Locals}
-use Rattle.vyrd_every.specs.Others.{Rely}
+use Rattle.vyrd_every.proofs.Prelude.{refl, ◌∙◌, Memory, Situation, Structure, Locals, Rely}
 
 pub rely_same : (S : Structure) (s : Situation) (k : Locals) (shown : Memory)
     → Rely S s k shown shown

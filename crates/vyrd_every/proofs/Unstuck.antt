@@ -1,30 +1,14 @@
 -- The run by turns isn't stuck: a caller that waits for a lock has only lower ones, and the caller
 -- that holds that lock waits for a higher one.
-use Rattle.std.proofs.Common.{◌≡◌, ℕ, zero, suc, ◌+◌, ◌<◌, ◌≤◌, ◌⊎◌, inl, inr, Bool, true, false}
-use Rattle.std.proofs.Common.{not, ◌&&◌, ◌||◌, List, [], ◌∷◌, length, refl, arith}
-use Rattle.std.specs.Prelude.{◌==◌, nat_lt, nat_le}
-use Rattle.std.specs.List.{list_all}
-use Rattle.std.proofs.lemmas.Bool.Decides.{nat_tests}
-use Rattle.vyrd_base.specs.declared.header.Header.{Header}
-use Rattle.vyrd_base.specs.declared.history.Did.{Did}
-use Rattle.vyrd_base.specs.declared.history.Stamped.{Stamped}
-use Rattle.vyrd_base.specs.Places.{numbers_from}
-use Rattle.vyrd_base.specs.Histories.{Cells, cells_of, is_lock, value_in, may_do}
-use Rattle.vyrd_base.proofs.TestLaws.{first_true, second_true, same_number, below_of}
-use Rattle.vyrd_base.proofs.CellLaws.{plain_isnt}
-use Rattle.vyrd_memory.specs.declared.act.Act.{Act}
-use Rattle.vyrd_memory.specs.declared.act.Act.TheVariants.{Take}
-use Rattle.vyrd_memory.specs.declared.op.Turn.{Turn}
-use Rattle.vyrd_memory.specs.Scripts.{Script, step, next_act, left_after}
-use Rattle.vyrd_memory.specs.Soundness.{Situation, IsSound, holds}
-use Rattle.vyrd_memory.specs.Turns.{part_of, script_of, act_of, is_done, are_done, is_held_up}
-use Rattle.vyrd_memory.specs.Turns.{are_stuck, after_turns, GetsStuck}
-use Rattle.vyrd_memory.proofs.NumberLists.{all_pass}
-use Rattle.vyrd_memory.proofs.Situations.{situation_after, sound_keeps}
-use Rattle.vyrd_memory.proofs.LegalEvents.{AreLegal, does, caller_low, value_with, are_answers}
-use Rattle.vyrd_memory.proofs.HeldLocks.{held_is}
-use Rattle.vyrd_memory.proofs.LegalRuns.{IsRun, run_sound, turns_run, rounds_run}
-use Rattle.vyrd_every.proofs.Acts.{never}
+use Rattle.vyrd_every.proofs.Prelude
+use Prelude.{◌≡◌, ℕ, zero, suc, ◌+◌, ◌<◌, ◌≤◌, ◌⊎◌, inl, inr, Bool, true, false, not, ◌&&◌, ◌||◌}
+use Prelude.{List, [], ◌∷◌, length, refl, arith, ◌==◌, nat_lt, nat_le, list_all, nat_tests, Header}
+use Prelude.{Did, Stamped, numbers_from, Cells, cells_of, is_lock, value_in, may_do, first_true}
+use Prelude.{second_true, same_number, below_of, plain_isnt, Act, Take, Turn, Script, step}
+use Prelude.{next_act, left_after, Situation, IsSound, holds, part_of, script_of, act_of, is_done}
+use Prelude.{are_done, is_held_up, are_stuck, after_turns, GetsStuck, all_pass, situation_after}
+use Prelude.{sound_keeps, AreLegal, does, caller_low, value_with, are_answers, held_is, IsRun}
+use Prelude.{run_sound, turns_run, rounds_run, never}
 use Rattle.vyrd_every.proofs.Keeping.{Keeping}
 use Rattle.vyrd_every.proofs.Reached.{Reached, reached}
 

@@ -1,23 +1,12 @@
 -- The states of a verdict, told by the amounts that they show. The rest of this crate speaks of
 -- amounts, and a verdict of states.
 -- Those of a built-in structure hide nothing, so here the two meet.
-use Rattle.std.proofs.Common.{◌≡◌, ℕ, ◌+◌, Bool, ◌||◌, List, [], ◌∷◌, ◌++◌, map, length, Some, None}
-use Rattle.std.proofs.Common.{refl, ap, ◌∙◌, sym}
-use Rattle.std.specs.Prelude.{slice_get, take, drop}
-use Rattle.std.specs.List.{list_any}
-use Rattle.std.proofs.lemmas.List.{append_assoc, map-append, length-map, drop-map}
-use Rattle.std.proofs.Math.Seq.{take-append-add}
-use Rattle.vyrd_base.specs.declared.header.Header.{Header}
-use Rattle.vyrd_base.specs.declared.log.Entry.{Entry}
-use Rattle.vyrd_base.specs.Callers.{Called, entries_before_call}
-use Rattle.vyrd_base.specs.Amounts.{Amounts}
-use Rattle.vyrd_base.specs.States.{State, showing}
-use Rattle.vyrd_base.specs.Specification.{next_state}
-use Rattle.vyrd_base.specs.Commits.{Committed, state_after, states_from}
-use Rattle.vyrd_base.specs.Commits.{commit_count}
-use Rattle.vyrd_base.specs.Faults.{states_since_call}
-use Rattle.vyrd_base.specs.Rules.{rules_of}
-use Rattle.vyrd_base.proofs.Lasting.{slice_get_seam}
+use Rattle.vyrd_every.proofs.Prelude
+use Prelude.{◌≡◌, ℕ, ◌+◌, Bool, ◌||◌, List, [], ◌∷◌, ◌++◌, map, length, Some, None, refl, ap, ◌∙◌}
+use Prelude.{sym, slice_get, take, drop, list_any, append_assoc, take-append-add, Header, Entry}
+use Prelude.{Called, entries_before_call, Amounts, State, showing, next_state, Committed}
+use Prelude.{state_after, states_from, commit_count, states_since_call, rules_of, slice_get_seam}
+use Rattle.std.proofs.lemmas.List.{map-append, length-map, drop-map}
 
 -- the states if these have passed, this is the one now, and these executions are to come
 abbrev pub states_with : Header → List Amounts → Amounts → List Committed → List State

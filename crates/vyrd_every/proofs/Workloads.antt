@@ -1,47 +1,26 @@
 -- The laws, of workloads.
-use Rattle.std.proofs.Common.{◌≡◌, ℕ, ◌+◌, ◌*◌, ◌<◌, ◌≤◌, Bool, true, false, List, [], ◌∷◌, Option}
-use Rattle.std.proofs.Common.{Some, None, option_map, length, refl, ap, ◌∙◌, sym, subst, arith}
-use Rattle.std.specs.Option.{option_or}
-use Rattle.std.specs.List.{AllByRecursion}
-use Rattle.vyrd_base.specs.declared.header.Header.{Header}
+use Rattle.vyrd_every.proofs.Prelude
+use Prelude.{option_or, AllByRecursion, Header, Multiset, Cache, Tree, Buffers, Kind, Entry}
+use Prelude.{Stamped, Place, places, first_answer, newest_first, is_built_in, first_break, State}
+use Prelude.{fault_at, log_of, violation_at, states_along, first_fault, is_call_open, accepted}
+use Prelude.{verdict, Op, Correct, Memory, is_callable, are_callable, Script, operations, at_rest}
+use Prelude.{script_of, GetsStuck, IsRun, Workload, KeepsLimits, procedure_in, ops_of, work_script}
+use Prelude.{work_scripts, ops_are_callable, script_at, scripts_sound, IsCorrect, IsSchedule}
+use Prelude.{Structure, empty_locals, DoesRight, IsRight, AreRight, multiset, cache, buffers}
+use Prelude.{IsCorrectTree, multiset_procedure, cache_procedure, buffers_procedure, rules_of}
+use Rattle.std.proofs.Common.{option_map, ◌≡◌, ℕ, ◌+◌, ◌*◌, ◌<◌, ◌≤◌, Bool, true, false, List, []}
+use Rattle.std.proofs.Common.{◌∷◌, Option, Some, None, length, refl, ap, ◌∙◌, sym, subst, arith}
 use Rattle.vyrd_base.specs.declared.subject.Subject.{Subject}
-use Rattle.vyrd_base.specs.declared.subject.Subject.TheVariants.{Multiset, Cache, Tree, Buffers}
 use Rattle.vyrd_base.specs.declared.subject.Subject.TheVariants.{Own}
-use Rattle.vyrd_base.specs.declared.log.Kind.{Kind}
-use Rattle.vyrd_base.specs.declared.log.Entry.{Entry}
-use Rattle.vyrd_base.specs.declared.history.Stamped.{Stamped}
 use Rattle.vyrd_base.specs.declared.verdict.Why.{Why}
 use Rattle.vyrd_base.specs.declared.verdict.Verdict.TheVariants.{Violation}
-use Rattle.vyrd_base.specs.Places.{Place, places, first_answer, newest_first}
-use Rattle.vyrd_base.specs.Subjects.{is_built_in}
-use Rattle.vyrd_base.specs.Front.{first_break}
-use Rattle.vyrd_base.specs.States.{State}
-use Rattle.vyrd_base.specs.Faults.{fault_at}
-use Rattle.vyrd_base.specs.Histories.{log_of}
-use Rattle.vyrd_base.specs.Verdicts.{line_of, violation_at, states_along, first_fault, is_call_open}
-use Rattle.vyrd_base.specs.Verdicts.{accepted, verdict}
+use Rattle.vyrd_base.specs.Verdicts.{line_of}
 use Rattle.vyrd_base.proofs.HeaderLaws.{some_size}
-use Rattle.vyrd_memory.specs.declared.op.Op.{Op}
 use Rattle.vyrd_memory.specs.Bounds.{bound_in, bounds_of}
-use Rattle.vyrd_memory.specs.declared.op.Variant.TheVariants.{Correct}
-use Rattle.vyrd_memory.specs.Alone.{Memory}
-use Rattle.vyrd_memory.specs.Players.{is_callable, are_callable}
-use Rattle.vyrd_memory.specs.Scripts.{Script, operations}
-use Rattle.vyrd_memory.specs.Soundness.{at_rest}
-use Rattle.vyrd_memory.specs.Turns.{script_of, GetsStuck}
-use Rattle.vyrd_memory.proofs.LegalRuns.{IsRun}
-use Rattle.vyrd_work.specs.Workloads.{Workload}
-use Rattle.vyrd_work.specs.WorkLimits.{KeepsLimits}
-use Rattle.vyrd_work.specs.WorkScripts.{procedure_in, ops_of, work_script, work_scripts}
 use Rattle.vyrd_work.proofs.BuiltIn.{work_built_in}
-use Rattle.vyrd_work.proofs.ScriptLaws.{ops_are_few, ops_are_callable}
-use Rattle.vyrd_work.proofs.SoundScripts.{script_at, scripts_sound}
-use Rattle.vyrd_every.specs.Schedules.{IsCorrect, has_few_events, most_few_events}
-use Rattle.vyrd_every.specs.Schedules.{most_cache_events, IsCorrectWithFewEvents, IsSchedule}
-use Rattle.vyrd_every.specs.Structures.{Structure}
-use Rattle.vyrd_every.specs.Locals.{empty_locals}
-use Rattle.vyrd_every.specs.RightScripts.{DoesRight, IsRight, AreRight}
-use Rattle.vyrd_every.specs.Guarded.{multiset, cache, buffers}
+use Rattle.vyrd_work.proofs.ScriptLaws.{ops_are_few}
+use Rattle.vyrd_every.specs.Schedules.{has_few_events, most_few_events, most_cache_events}
+use Rattle.vyrd_every.specs.Schedules.{IsCorrectWithFewEvents}
 use Rattle.vyrd_every.proofs.Followed.{operations_right}
 use Rattle.vyrd_every.proofs.Multisets.Guards.{multiset_fits}
 use Rattle.vyrd_every.proofs.Multisets.Wholes.{multiset_right}
@@ -49,7 +28,6 @@ use Rattle.vyrd_every.proofs.Caches.Guards.{cache_fits}
 use Rattle.vyrd_every.proofs.Caches.Wholes.{cache_right}
 use Rattle.vyrd_every.proofs.Buffers.Guards.{buffers_fit}
 use Rattle.vyrd_every.proofs.Buffers.Wholes.{buffers_right}
-use Rattle.vyrd_every.specs.Trees.Starts.{IsCorrectTree}
 use Rattle.vyrd_every.proofs.Keeping.{Keeping}
 use Rattle.vyrd_every.proofs.Trees.Wholes.{tree_script_right}
 use Rattle.vyrd_every.proofs.Trees.Keeps.{tree_keeping}
@@ -57,10 +35,6 @@ use Rattle.vyrd_every.proofs.Kept.{keeping_of}
 use Rattle.vyrd_every.proofs.Reached.{no_break, all_front}
 use Rattle.vyrd_every.proofs.Accepted.{AreDone, whole_run, none_open_at_end, no_fault, is_accepted}
 use Rattle.vyrd_every.proofs.Unstuck.{never_stuck}
-use Rattle.vyrd_multiset.specs.Procedures.{multiset_procedure}
-use Rattle.vyrd_cache.specs.Procedures.{cache_procedure}
-use Rattle.vyrd_buffers.specs.Procedures.{buffers_procedure}
-use Rattle.vyrd_base.specs.Rules.{rules_of}
 
 -- the script of a caller does right, if the procedure of each operation does
 script_right : (S : Structure) (w : Workload) (procedure : Op → Script) (c : ℕ) (now : Memory)

@@ -1,22 +1,12 @@
 -- The keys at which two sides differ: they are told by which keys they are, since they rise.
-use Rattle.std.proofs.Common.{◌≡◌, ℕ, ◌+◌, ◌<◌, ◌≤◌, Bool, true, false, cond, not, ◌&&◌, ◌||◌, T}
-use Rattle.std.proofs.Common.{List, [], ◌∷◌, ◌++◌, refl, ap, ◌∙◌, sym, subst, arith}
-use Rattle.std.specs.Prelude.{◌==◌, ◌≢◌, nat_lt, filter}
-use Rattle.std.specs.Ordering.{nat_cmp, is_lt}
-use Rattle.std.specs.FinMap.Entries.{below_all, is_sorted}
-use Rattle.std.specs.List.{AllByRecursion}
-use Rattle.std.proofs.lemmas.Bool.{or_left, or_right}
-use Rattle.std.proofs.lemmas.Bool.Decides.{nat_tests}
-use Rattle.vyrd_base.specs.Amounts.{Amounts, IsAmounts, amount_of, keys_of, collected, given}
-use Rattle.vyrd_base.specs.Amounts.{with_amount}
-use Rattle.vyrd_base.proofs.AmountLaws.{amount_of-with_amount, same_amounts}
-use Rattle.vyrd_base.proofs.AmountLaws.{first_of_and, second_of_and}
-use Rattle.vyrd_base.proofs.DifferenceLaws.{is_in}
-use Rattle.vyrd_base.proofs.SumLaws.{amount_of-collected, IsAmounts-collected, given-append}
-use Rattle.vyrd_base.proofs.TestLaws.{same_of, is_same, same_number, isnt_same, flipped}
-use Rattle.vyrd_base.proofs.TestLaws.{below_of, not_below_of}
-use Rattle.vyrd_follow.specs.Doings.{differ_at}
-use Rattle.vyrd_follow.specs.Following.{keys_of_both, differences}
+use Rattle.vyrd_follow.proofs.Prelude
+use Prelude.{◌≡◌, ℕ, ◌+◌, ◌<◌, ◌≤◌, Bool, true, false, cond, not, ◌&&◌, ◌||◌, T, List, [], ◌∷◌}
+use Prelude.{◌++◌, refl, ap, ◌∙◌, sym, subst, arith, ◌==◌, ◌≢◌, nat_lt, filter, nat_cmp, is_lt}
+use Prelude.{below_all, is_sorted, AllByRecursion, or_left, or_right, nat_tests, Amounts, IsAmounts}
+use Prelude.{amount_of, keys_of, collected, given, with_amount, amount_of-with_amount, same_amounts}
+use Prelude.{first_of_and, second_of_and, is_in, amount_of-collected, IsAmounts-collected}
+use Prelude.{given-append, same_of, is_same, same_number, isnt_same, flipped, below_of}
+use Prelude.{not_below_of, differ_at, keys_of_both, differences}
 
 -- each of these is above the key
 abbrev pub AllAbove : ℕ → List ℕ → Type 0

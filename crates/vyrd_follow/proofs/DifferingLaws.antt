@@ -1,20 +1,12 @@
 -- Two lists of amounts, key by key from the least on.
-use Rattle.std.proofs.Common.{◌≡◌, ℕ, zero, suc, ◌+◌, ◌<◌, ◌≤◌, Bool, true, false, cond, not, ◌||◌}
-use Rattle.std.proofs.Common.{T, List, [], ◌∷◌, ◌++◌, map, length, drop, Some, None, refl, ap}
-use Rattle.std.proofs.Common.{◌∙◌, sym, subst, arith, append_assoc, append-nil}
-use Rattle.std.specs.Prelude.{◌==◌, ◌≢◌, slice_get}
-use Rattle.std.specs.Ordering.{nat_cmp, is_lt}
-use Rattle.std.specs.FinMap.Entries.{below_all}
-use Rattle.std.proofs.lemmas.Bool.{or_right}
-use Rattle.std.proofs.lemmas.Option.{same_Some}
-use Rattle.vyrd_base.specs.Amounts.{Amounts, IsAmounts, amount_of}
-use Rattle.vyrd_base.proofs.AmountLaws.{apart_from, first_of_and, second_of_and}
-use Rattle.vyrd_base.proofs.DifferenceLaws.{is_in}
-use Rattle.vyrd_base.proofs.TestLaws.{same_of, is_same, isnt_same, same_number, flipped}
+use Rattle.vyrd_follow.proofs.Prelude
+use Prelude.{◌≡◌, ℕ, zero, suc, ◌+◌, ◌<◌, ◌≤◌, Bool, true, false, cond, not, ◌||◌, T, List, [], ◌∷◌}
+use Prelude.{◌++◌, map, length, drop, Some, None, refl, ap, ◌∙◌, sym, subst, arith, append_assoc}
+use Prelude.{append-nil, ◌==◌, ◌≢◌, slice_get, nat_cmp, is_lt, below_all, or_right, same_Some}
+use Prelude.{Amounts, IsAmounts, amount_of, first_of_and, second_of_and, is_in, same_of, is_same}
+use Prelude.{isnt_same, same_number, flipped, differ_at, differences, turned_to, turns}
+use Rattle.vyrd_base.proofs.AmountLaws.{apart_from}
 use Rattle.vyrd_base.proofs.TestLaws.{lower_isnt, at_most_of, above_of}
-use Rattle.vyrd_follow.specs.Doings.{differ_at}
-use Rattle.vyrd_follow.specs.Following.{differences}
-use Rattle.vyrd_follow.specs.Turns.{turned_to, turns}
 use Rattle.vyrd_follow.proofs.DifferenceLaws.{AllAbove, amount_of-cons, differences_are}
 use Rattle.vyrd_follow.proofs.DifferenceLaws.{differences_rise, among_differences, true_false}
 use Rattle.vyrd_follow.proofs.DifferenceLaws.{first_among}

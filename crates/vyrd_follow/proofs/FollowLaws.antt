@@ -1,28 +1,16 @@
 -- What is said of a front, one entry further.
-use Rattle.std.proofs.Common.{◌≡◌, ℕ, ◌+◌, ◌<◌, List, [], ◌++◌, length, Option, Some}
-use Rattle.std.proofs.Common.{None, refl, ap, ◌∙◌, sym, arith, append_assoc}
-use Rattle.std.specs.Prelude.{IfSome, option_map, flat_map}
-use Rattle.std.specs.Option.{option_map_or}
+use Rattle.vyrd_follow.proofs.Prelude
+use Prelude.{◌≡◌, ℕ, ◌+◌, ◌<◌, List, [], ◌++◌, length, Option, Some, None, refl, ap, ◌∙◌, sym}
+use Prelude.{arith, append_assoc, option_map_or, Header, Entry, StartWord, plain_words}
+use Prelude.{numbers_below, Charter, rules_by, State, length_below, items_text, IsKnown, run_by}
+use Prelude.{Item, words_through, effects_there, words_then, agreed_items, start_items}
+use Rattle.std.specs.Prelude.{option_map, IfSome, flat_map}
 use Rattle.std.proofs.lemmas.Grind.{flat_map-append}
-use Rattle.vyrd_base.specs.declared.header.Header.{Header}
-use Rattle.vyrd_base.specs.declared.log.Entry.{Entry}
-use Rattle.vyrd_base.specs.declared.log.StartWord.{StartWord}
-use Rattle.vyrd_base.specs.Layout.{plain_words}
-use Rattle.vyrd_base.specs.Places.{numbers_below}
-use Rattle.vyrd_base.specs.Rules.{Charter, rules_by}
 use Rattle.vyrd_base.specs.Starts.{state_at_start}
-use Rattle.vyrd_base.specs.States.{State}
-use Rattle.vyrd_base.proofs.PlaceLaws.{length_below}
-use Rattle.vyrd_item_text.specs.ItemText.{item_text, items_text}
-use Rattle.vyrd_states.specs.Running.{IsKnown, run_by}
+use Rattle.vyrd_item_text.specs.ItemText.{item_text}
 use Rattle.vyrd_states.proofs.RunLaws.{known_first, never_known}
-use Rattle.vyrd_witness.specs.declared.item.Item.{Item}
-use Rattle.vyrd_witness.specs.Changes.{words_through}
-use Rattle.vyrd_witness.specs.Effects.{effects_there}
-use Rattle.vyrd_witness.specs.ViewWitnesses.{words_then}
 use Rattle.vyrd_witness.proofs.BelowLaws.{below_next}
 use Rattle.vyrd_witness.proofs.EffectLaws.{entry_there, words_next}
-use Rattle.vyrd_follow.specs.Following.{agreed_items, start_items}
 
 -- the words
 pub words_on : (h : Header) (starting : List StartWord) (front : List Entry) (at : ℕ)

@@ -1,19 +1,12 @@
 -- Amounts that are put together in the order of their keys.
-use Rattle.std.proofs.Common.{◌≡◌, ℕ, ◌+◌, ◌<◌, cond, not, [], ◌∷◌, ◌++◌, length, get_or, take}
-use Rattle.std.proofs.Common.{drop}
-use Rattle.std.proofs.Common.{refl, ap, ◌∙◌, sym, subst, arith}
-use Rattle.std.specs.Prelude.{◌==◌, filter}
-use Rattle.std.specs.Ordering.{nat_cmp}
-use Rattle.std.specs.declared.cmp.Ordering.TheVariants.{Greater}
+use Rattle.vyrd_follow.proofs.Prelude.{◌≡◌, ℕ, ◌+◌, ◌<◌, cond, not, [], ◌∷◌, ◌++◌, length, get_or}
+use Rattle.vyrd_follow.proofs.Prelude.{take, drop, refl, ap, ◌∙◌, sym, subst, arith, ◌==◌, filter}
+use Rattle.vyrd_follow.proofs.Prelude.{nat_cmp, Greater, AllByRecursion, nat_tests, take_more}
+use Rattle.vyrd_follow.proofs.Prelude.{slice_get-get_or, Amounts, IsAmounts, with_amount, isnt_same}
 use Rattle.std.specs.FinMap.Entries.{put}
-use Rattle.std.specs.List.{AllByRecursion}
-use Rattle.std.proofs.lemmas.Bool.Decides.{nat_tests}
-use Rattle.std.proofs.lemmas.List.{take_more, take-append-drop}
+use Rattle.std.proofs.lemmas.List.{take-append-drop}
 use Rattle.std.proofs.lemmas.List.Elements.{recursion_from_All}
-use Rattle.std.proofs.lemmas.Option.{slice_get-get_or}
-use Rattle.vyrd_base.specs.Amounts.{Amounts, IsAmounts, with_amount}
 use Rattle.vyrd_base.proofs.KeyLaws.{lesser_keys}
-use Rattle.vyrd_base.proofs.TestLaws.{isnt_same}
 use Rattle.vyrd_follow.proofs.DifferingLaws.{behind_is, formed_behind}
 
 greater_of : (k e : ℕ) → e < k → nat_cmp k e ≡ Greater

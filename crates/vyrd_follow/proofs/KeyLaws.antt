@@ -1,25 +1,19 @@
 -- The keys that a step of a built-in structure can change are among those that its call looks at.
-use Rattle.std.proofs.Common.{◌≡◌, ℕ, Bool, true, false, cond, ◌||◌, [], ◌∷◌, Option, Some}
-use Rattle.std.proofs.Common.{None, refl, ap, ◌∙◌, sym}
-use Rattle.std.specs.Prelude.{◌==◌, nat_lt}
-use Rattle.std.specs.Option.{option_map}
-use Rattle.std.proofs.lemmas.Option.{same_Some}
-use Rattle.vyrd_base.specs.declared.header.Header.{Header}
+use Rattle.vyrd_follow.proofs.Prelude.{◌≡◌, ℕ, Bool, true, false, cond, ◌||◌, [], ◌∷◌, Option, Some}
+use Rattle.vyrd_follow.proofs.Prelude.{None, refl, ap, ◌∙◌, sym, ◌==◌, nat_lt, option_map}
+use Rattle.vyrd_follow.proofs.Prelude.{same_Some, Header, Amounts, amount_of, rules_of, same_of}
 use Rattle.vyrd_base.specs.declared.subject.Args.{Args}
 use Rattle.vyrd_base.specs.declared.subject.Method.{Method}
+use Rattle.vyrd_base.specs.declared.subject.Method.TheVariants.{OwnNever, OwnAtMostOnce, OwnOnce}
 use Rattle.vyrd_base.specs.declared.subject.Method.TheVariants.{Multiset as OfMultiset}
 use Rattle.vyrd_base.specs.declared.subject.Method.TheVariants.{Cache as OfCache, Tree as OfTree}
 use Rattle.vyrd_base.specs.declared.subject.Method.TheVariants.{Buffers as OfBuffers}
-use Rattle.vyrd_base.specs.declared.subject.Method.TheVariants.{OwnNever, OwnAtMostOnce, OwnOnce}
 use Rattle.vyrd_base.specs.declared.multiset.MultisetMethod.TheVariants as multiset
 use Rattle.vyrd_base.specs.declared.cache.CacheMethod.TheVariants as cache
 use Rattle.vyrd_base.specs.declared.tree.TreeMethod.TheVariants as tree
 use Rattle.vyrd_base.specs.declared.buffers.BuffersMethod.TheVariants as buffers
-use Rattle.vyrd_base.specs.Amounts.{Amounts, amount_of}
-use Rattle.vyrd_base.specs.Rules.{rules_of}
 use Rattle.vyrd_base.specs.Specification.{next_state}
-use Rattle.vyrd_base.specs.States.{State, showing}
-use Rattle.vyrd_base.proofs.TestLaws.{same_of}
+use Rattle.vyrd_base.specs.States.{showing, State}
 use Rattle.vyrd_spec.specs.Touching.{touched_by, is_touched}
 use Rattle.vyrd_spec.proofs.StepMeets.{untouched}
 use Rattle.vyrd_states.specs.Looks.{keys_looked_at, pair_keys}

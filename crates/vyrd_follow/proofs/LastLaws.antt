@@ -1,25 +1,12 @@
 -- The last step that set something, one effect more.
-use Rattle.std.proofs.Common.{◌≡◌, ℕ, zero, suc, ◌+◌, ◌<◌, Bool, true, false, cond, List, [], ◌∷◌}
-use Rattle.std.proofs.Common.{◌++◌, length, take, drop, map, set, get_or, Option, Some, None, refl}
-use Rattle.std.proofs.Common.{ap, ◌∙◌, sym, arith, append-nil, append_assoc, replicate}
-use Rattle.std.specs.Prelude.{filter, filter_map}
-use Rattle.std.specs.List.{cons_option, flat_map}
-use Rattle.std.proofs.lemmas.List.{map-append, length-append, flat_map_more}
-use Rattle.std.proofs.lemmas.List.Elements.{filter-append}
-use Rattle.vyrd_base.specs.declared.log.Entry.{Entry}
-use Rattle.vyrd_base.specs.declared.log.StartWord.{StartWord}
-use Rattle.vyrd_base.specs.declared.own.effect.Effect.{Effect}
-use Rattle.vyrd_base.specs.Own.Methods.{last_in}
-use Rattle.vyrd_base.specs.Places.{numbers_below}
-use Rattle.vyrd_base.specs.Rules.{Charter}
-use Rattle.vyrd_base.proofs.ListLaws.{slice_get-last}
-use Rattle.vyrd_base.proofs.PlaceLaws.{numbers_below-push}
-use Rattle.vyrd_witness.specs.declared.item.Item.{Item}
-use Rattle.vyrd_witness.specs.declared.item.Item.TheVariants.{LastStepped}
-use Rattle.vyrd_follow.specs.declared.thing.Thing.{Thing}
-use Rattle.vyrd_follow.specs.Doings.{done_at}
-use Rattle.vyrd_follow.specs.LastSteps.{does_set, placed_at, done_before, last_setting, last_of}
-use Rattle.vyrd_follow.specs.LastSteps.{last_item}
+use Rattle.vyrd_follow.proofs.Prelude
+use Prelude.{◌≡◌, ℕ, zero, suc, ◌+◌, ◌<◌, Bool, true, false, cond, List, [], ◌∷◌, ◌++◌, length}
+use Prelude.{take, drop, map, set, get_or, Option, Some, None, refl, ap, ◌∙◌, sym, arith}
+use Prelude.{append-nil, append_assoc, replicate, filter, filter_map, cons_option, map-append}
+use Prelude.{length-append, flat_map_more, filter-append, Entry, StartWord, Effect, last_in}
+use Prelude.{numbers_below, Charter, slice_get-last, numbers_below-push, Item, LastStepped, Thing}
+use Prelude.{done_at, does_set, placed_at, done_before, last_setting, last_of, last_item}
+use Rattle.std.specs.List.{flat_map}
 
 last_in-push : (xs : List (ℕ × Effect)) (x : ℕ × Effect) → last_in (xs ++ x ∷ []) ≡ Some x
 last_in-push xs x = grind (arith, length-append xs (x ∷ []), slice_get-last xs x)

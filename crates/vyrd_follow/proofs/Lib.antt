@@ -1,3 +1,4 @@
+mod Prelude
 pub mod DifferenceLaws
 pub mod TurnLaws
 pub mod DifferingLaws

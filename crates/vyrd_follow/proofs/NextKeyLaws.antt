@@ -1,24 +1,14 @@
 -- How the keys at which two views differ are gone through, from one key of the changed part to the
 -- next.
-use Rattle.std.proofs.Common.{◌≡◌, ◌≢◌, ℕ, ◌+◌, ◌<◌, ◌≤◌, Bool, true, false, cond, List, [], ◌∷◌}
-use Rattle.std.proofs.Common.{◌++◌, map, Option, Some, None, refl, ◌∙◌, arith}
-use Rattle.std.specs.Prelude.{nat_lt, IfSome}
-use Rattle.std.proofs.lemmas.List.{append-nil, append_assoc}
-use Rattle.vyrd_base.specs.Amounts.{Amounts, IsAmounts, amount_of, given, with_amount}
-use Rattle.vyrd_base.specs.Places.{numbers_below}
-use Rattle.vyrd_base.proofs.AmountLaws.{amount_of-with_amount, same_amounts}
-use Rattle.vyrd_base.proofs.DifferenceLaws.{is_in}
-use Rattle.vyrd_base.proofs.SumLaws.{other_part}
-use Rattle.vyrd_base.proofs.TestLaws.{same_of, is_same, same_number, apart_of, isnt_same}
-use Rattle.vyrd_base.proofs.TestLaws.{below_of, is_below}
-use Rattle.vyrd_base.proofs.TestLaws.{not_below_of, isnt_below}
-use Rattle.vyrd_view.specs.Laws.Sums.{given_map_push}
-use Rattle.vyrd_follow.specs.Doings.{differ_at}
-use Rattle.vyrd_follow.specs.Following.{differences}
-use Rattle.vyrd_follow.specs.NextKeys.{comes_before}
-use Rattle.vyrd_follow.proofs.DifferenceLaws.{Rise, not_among, differences_rise}
-use Rattle.vyrd_follow.proofs.DifferenceLaws.{among_differences, differences_left}
-use Rattle.vyrd_follow.proofs.DifferenceLaws.{no_differences_from_itself}
+use Rattle.vyrd_follow.proofs.Prelude
+use Prelude.{◌≡◌, ◌≢◌, ℕ, ◌+◌, ◌<◌, ◌≤◌, Bool, true, false, cond, List, [], ◌∷◌, ◌++◌, map, Option}
+use Prelude.{Some, None, refl, ◌∙◌, arith, nat_lt, IfSome, append-nil, append_assoc, Amounts}
+use Prelude.{IsAmounts, amount_of, given, with_amount, numbers_below, amount_of-with_amount}
+use Prelude.{same_amounts, is_in, other_part, same_of, is_same, same_number, apart_of, isnt_same}
+use Prelude.{below_of, not_below_of, given_map_push, differ_at, differences, comes_before}
+use Rattle.vyrd_base.proofs.TestLaws.{is_below, isnt_below}
+use Rattle.vyrd_follow.proofs.DifferenceLaws.{Rise, not_among, differences_rise, among_differences}
+use Rattle.vyrd_follow.proofs.DifferenceLaws.{differences_left, no_differences_from_itself}
 
 -- ---- how far the amounts have been brought up to date
 

@@ -1,10 +1,8 @@
 -- Keys that are gathered as amounts of 1.
-use Rattle.std.proofs.Common.{◌≡◌, ◌≢◌, ℕ, ◌+◌, ◌*◌, ◌<◌, Bool, cond, List, ◌∙◌, sym, subst, arith}
-use Rattle.std.specs.Prelude.{◌==◌, slice_index}
-use Rattle.vyrd_base.specs.Amounts.{Amounts, amount_of, with_amount}
-use Rattle.vyrd_base.specs.Tree.{node_word}
-use Rattle.vyrd_base.proofs.AmountLaws.{amount_of-with_amount}
-use Rattle.vyrd_base.proofs.TestLaws.{same_of, apart_of, same_number}
+use Rattle.vyrd_follow.proofs.Prelude.{◌≡◌, ◌≢◌, ℕ, ◌+◌, ◌*◌, ◌<◌, Bool, cond, List, ◌∙◌, sym}
+use Rattle.vyrd_follow.proofs.Prelude.{subst, arith, ◌==◌, slice_index, Amounts, amount_of}
+use Rattle.vyrd_follow.proofs.Prelude.{with_amount, node_word, amount_of-with_amount, same_of}
+use Rattle.vyrd_follow.proofs.Prelude.{apart_of, same_number}
 
 -- a key that is put is there
 pub put_there : (s : Amounts) (k : ℕ) → amount_of (with_amount s k 1) k ≢ 0

@@ -1,18 +1,10 @@
 -- The keys that a write to a node turns, from those that the node gives to.
-use Rattle.std.proofs.Common.{◌≡◌, ◌≢◌, ℕ, ◌+◌, ◌*◌, ◌/◌, ◌%◌, ◌^◌, ◌<◌, ◌≤◌, Bool, true, false}
-use Rattle.std.proofs.Common.{not, length, map, get_or, set, take, ap, ◌∙◌, sym, arith, List, []}
-use Rattle.std.specs.Prelude.{filter}
-use Rattle.std.proofs.lemmas.List.{take_all}
-use Rattle.vyrd_base.specs.declared.header.Header.{Header}
-use Rattle.vyrd_base.specs.declared.subject.Subject.TheVariants.{Tree}
-use Rattle.vyrd_base.specs.Amounts.{Amounts, IsAmounts, amount_of, keys_of}
-use Rattle.vyrd_base.specs.Tree.{node_word}
-use Rattle.vyrd_base.specs.Views.{view_of_words}
-use Rattle.vyrd_base.proofs.TestLaws.{same_of, apart_of, is_same}
-use Rattle.vyrd_view.specs.Chains.{is_on_chain}
+use Rattle.vyrd_follow.proofs.Prelude
+use Prelude.{◌≡◌, ◌≢◌, ℕ, ◌+◌, ◌*◌, ◌/◌, ◌%◌, ◌^◌, ◌<◌, ◌≤◌, Bool, true, false, not, length, map}
+use Prelude.{get_or, set, take, ap, ◌∙◌, sym, arith, List, [], filter, take_all, Header, Tree}
+use Prelude.{Amounts, IsAmounts, amount_of, keys_of, node_word, view_of_words, same_of, apart_of}
+use Prelude.{is_same, is_on_chain, differ_at, turned_to, turns}
 use Rattle.vyrd_view.proofs.NodeLaws.{marked_within}
-use Rattle.vyrd_follow.specs.Doings.{differ_at}
-use Rattle.vyrd_follow.specs.Turns.{turned_to, turns}
 use Rattle.vyrd_follow.proofs.DifferenceLaws.{differences_are, differences_of, key_among, keys_rise}
 use Rattle.vyrd_follow.proofs.DifferenceLaws.{true_false}
 use Rattle.vyrd_follow.proofs.TreeLaws.{node_turned, node_none, word_before}

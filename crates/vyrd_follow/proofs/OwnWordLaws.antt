@@ -1,24 +1,10 @@
 -- What own words show is what the words of all whole parts show.
-use Rattle.std.proofs.Common.{◌≡◌, ℕ, ◌*◌, ◌/◌, ◌≤◌, List, ◌++◌, length, map, set, take}
-use Rattle.std.proofs.Common.{length-set, refl, ap, ◌∙◌, sym, arith}
-use Rattle.std.proofs.lemmas.List.{append-nil, take-set-le}
-use Rattle.std.proofs.Math.Nat.{div-add-mod}
-use Rattle.vyrd_base.specs.declared.header.Header.{Header}
-use Rattle.vyrd_base.specs.declared.log.StartWord.{StartWord}
-use Rattle.vyrd_base.specs.declared.subject.Subject.TheVariants.{Own}
-use Rattle.vyrd_base.specs.Amounts.{Amounts}
-use Rattle.vyrd_base.specs.Layout.{plain_words, plain_words_of}
-use Rattle.vyrd_base.specs.Own.OwnRules.{own_view}
-use Rattle.vyrd_base.specs.Own.Reader.{written_in}
-use Rattle.vyrd_base.specs.Rules.{own}
-use Rattle.vyrd_base.specs.Starts.{words_at_start}
-use Rattle.vyrd_base.proofs.PlaceLaws.{length_below}
-use Rattle.vyrd_own_spec.specs.Parts.{width_of}
-use Rattle.vyrd_own_states.proofs.OwnShownLaws.{are_whole, whole_seen}
+use Rattle.vyrd_follow.proofs.Prelude
+use Prelude.{◌≡◌, ℕ, ◌*◌, ◌/◌, ◌≤◌, List, ◌++◌, length, map, set, take, length-set, refl, ap, ◌∙◌}
+use Prelude.{sym, arith, append-nil, take-set-le, div-add-mod, Header, StartWord, Own, Amounts}
+use Prelude.{plain_words, plain_words_of, own_view, written_in, own, words_at_start, length_below}
+use Prelude.{width_of, are_whole, whole_seen, Item, differences, changed_item}
 use Rattle.vyrd_witness.specs.declared.effect.Effect.{Effect}
-use Rattle.vyrd_witness.specs.declared.item.Item.{Item}
-use Rattle.vyrd_follow.specs.Following.{differences}
-use Rattle.vyrd_follow.specs.NextKeys.{changed_item}
 use Rattle.vyrd_follow.proofs.DifferenceLaws.{no_differences_from_itself}
 
 -- how many words there are

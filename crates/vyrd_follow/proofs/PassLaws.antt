@@ -1,12 +1,9 @@
 -- What runs past one entry more.
-use Rattle.std.proofs.Common.{◌≡◌, ℕ, ◌+◌, ◌<◌, List, length, Option, Some, None, slice_get}
-use Rattle.std.proofs.Common.{sym, arith}
-use Rattle.vyrd_base.specs.declared.log.Entry.{Entry}
-use Rattle.vyrd_base.specs.declared.log.StartWord.{StartWord}
-use Rattle.vyrd_base.specs.Rules.{Charter, Rules, rules_by}
-use Rattle.vyrd_base.specs.States.{State}
+use Rattle.vyrd_follow.proofs.Prelude.{◌≡◌, ℕ, ◌+◌, ◌<◌, List, length, Option, Some, None}
+use Rattle.vyrd_follow.proofs.Prelude.{slice_get, sym, arith, Entry, StartWord, Charter, Rules}
+use Rattle.vyrd_follow.proofs.Prelude.{rules_by, State, IsKnown, LeadsTo}
 use Rattle.vyrd_base.proofs.CommitLaws.{Commits}
-use Rattle.vyrd_states.specs.Running.{IsKnown, LeadsTo, Run, state_by, state_past}
+use Rattle.vyrd_states.specs.Running.{Run, state_by, state_past}
 use Rattle.vyrd_states.proofs.CallLaws.{state_past-commit}
 use Rattle.vyrd_states.proofs.RunLaws.{known_next, none_next, known_none}
 use Rattle.vyrd_witness.specs.declared.execution.Execution.{Execution}

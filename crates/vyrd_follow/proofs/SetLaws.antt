@@ -1,9 +1,6 @@
 -- The amounts that a step sets, of the keys that are named.
-use Rattle.std.proofs.Common.{◌≡◌, ℕ, ◌<◌, ◌≤◌, List, [], ◌∷◌, ◌++◌, take, Option, Some, arith}
-use Rattle.std.specs.Option.{option_map_or}
-use Rattle.vyrd_base.specs.declared.own.effect.Effect.{Effect}
-use Rattle.vyrd_base.specs.States.{State}
-use Rattle.vyrd_follow.specs.Doings.{amounts_set}
+use Rattle.vyrd_follow.proofs.Prelude.{◌≡◌, ℕ, ◌<◌, ◌≤◌, List, [], ◌∷◌, ◌++◌, take, Option, Some}
+use Rattle.vyrd_follow.proofs.Prelude.{arith, option_map_or, Effect, State, amounts_set}
 
 pub one_key : (n a b : ℕ) → 0 < n → n ≤ 1 → a ∷ [] ≡ take n (a ∷ b ∷ [])
 one_key n a b some few = grind (arith, few)

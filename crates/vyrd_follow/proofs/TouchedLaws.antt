@@ -1,20 +1,11 @@
 -- The keys that a write can matter to, by the part that its word is in.
-use Rattle.std.proofs.Common.{◌≡◌, ◌≢◌, ℕ, ◌+◌, ◌*◌, ◌/◌, ◌^◌, ◌<◌, true, false, ◌||◌}
-use Rattle.std.proofs.Common.{List}
-use Rattle.std.proofs.Common.{length, set, refl, ap, ◌∙◌, sym, arith}
-use Rattle.std.specs.Prelude.{◌==◌, slice_index}
-use Rattle.std.proofs.lemmas.List.{set-get_or}
-use Rattle.vyrd_base.specs.declared.header.Header.{Header}
+use Rattle.vyrd_follow.proofs.Prelude.{◌≡◌, ◌≢◌, ℕ, ◌+◌, ◌*◌, ◌/◌, ◌^◌, ◌<◌, true, false, ◌||◌}
+use Rattle.vyrd_follow.proofs.Prelude.{List, length, set, refl, ap, ◌∙◌, sym, arith, ◌==◌}
+use Rattle.vyrd_follow.proofs.Prelude.{slice_index, set-get_or, Header, amount_of, collected, given}
+use Rattle.vyrd_follow.proofs.Prelude.{plain_words, is_built_in, parts_of, view_of_words, low_size}
+use Rattle.vyrd_follow.proofs.Prelude.{amount_of-collected, other_part, isnt_same, pairs_by}
 use Rattle.vyrd_base.specs.declared.subject.Subject.TheVariants.{Multiset, Cache, Buffers}
-use Rattle.vyrd_base.specs.Amounts.{amount_of, collected, given}
-use Rattle.vyrd_base.specs.Layout.{plain_words}
 use Rattle.vyrd_base.specs.Multiset.{slot_parts}
-use Rattle.vyrd_base.specs.Subjects.{is_built_in}
-use Rattle.vyrd_base.specs.Views.{parts_of, view_of_words}
-use Rattle.vyrd_base.proofs.HeaderLaws.{low_size}
-use Rattle.vyrd_base.proofs.SumLaws.{amount_of-collected, other_part}
-use Rattle.vyrd_base.proofs.TestLaws.{isnt_same}
-use Rattle.vyrd_view.specs.Decoded.{pairs_by}
 use Rattle.vyrd_view.specs.Pairs.{chunk_gives, buffer_gives}
 use Rattle.vyrd_view.specs.Laws.Chunks.{chunks_fit, chunks_show}
 use Rattle.vyrd_view.specs.Laws.Buffers.{buffers_fit, buffers_show}

@@ -1,25 +1,13 @@
 -- What a tree's words show of a key, where a word of a node has changed that isn't its right link.
-use Rattle.std.proofs.Common.{◌≡◌, ◌≢◌, ℕ, zero, suc, ◌+◌, ◌-◌, ◌*◌, ◌/◌, ◌%◌, ◌^◌, ◌<◌, ◌≤◌, Bool}
-use Rattle.std.proofs.Common.{true, false, cond, ◌||◌, List, [], ◌∷◌, length, map, get_or, set}
-use Rattle.std.proofs.Common.{replicate, refl, ap, ◌∙◌, sym, subst, arith, get_or-set_other}
-use Rattle.std.proofs.Common.{get_or-set_same}
-use Rattle.std.specs.Prelude.{◌==◌, slice_index}
-use Rattle.vyrd_base.specs.declared.header.Header.{Header}
-use Rattle.vyrd_base.specs.declared.subject.Subject.TheVariants.{Tree}
-use Rattle.vyrd_base.specs.Amounts.{amount_of, given, part_given}
-use Rattle.vyrd_base.specs.Places.{numbers_below}
-use Rattle.vyrd_base.specs.Tree.{chain_parts, node_word}
-use Rattle.vyrd_base.specs.Views.{view_of_words}
-use Rattle.vyrd_base.proofs.PlaceLaws.{map_alike, element_below, length_below}
-use Rattle.vyrd_base.proofs.SumLaws.{amount_of-collected, nothing_given, other_part}
-use Rattle.vyrd_base.proofs.TestLaws.{same_of, apart_of, isnt_same, neither_true}
-use Rattle.vyrd_view.specs.Chains.{tree_pair, entry_pair, end_pair, is_on_chain}
-use Rattle.vyrd_view.specs.Comparing.{AgreeElsewhere}
-use Rattle.vyrd_view.specs.Laws.Sums.{given_map_push, each_bounds}
-use Rattle.vyrd_view.proofs.CurrentLaws.{node_untouched, chain_untouched, end_untouched}
-use Rattle.vyrd_view.proofs.ShowingTree.{places_give}
-use Rattle.vyrd_view.proofs.TreePairLaws.{tree_pair_end}
-use Rattle.vyrd_follow.specs.Nodes.{node_given}
+use Rattle.vyrd_follow.proofs.Prelude
+use Prelude.{◌≡◌, ◌≢◌, ℕ, zero, suc, ◌+◌, ◌-◌, ◌*◌, ◌/◌, ◌%◌, ◌^◌, ◌<◌, ◌≤◌, Bool, true, false}
+use Prelude.{cond, ◌||◌, List, [], ◌∷◌, length, map, get_or, set, replicate, refl, ap, ◌∙◌, sym}
+use Prelude.{subst, arith, get_or-set_other, get_or-set_same, ◌==◌, slice_index, Header, Tree}
+use Prelude.{amount_of, given, part_given, numbers_below, chain_parts, node_word, view_of_words}
+use Prelude.{map_alike, element_below, length_below, amount_of-collected, nothing_given, other_part}
+use Prelude.{same_of, apart_of, isnt_same, neither_true, tree_pair, entry_pair, end_pair}
+use Prelude.{is_on_chain, AgreeElsewhere, given_map_push, each_bounds, node_untouched}
+use Prelude.{chain_untouched, end_untouched, places_give, tree_pair_end, node_given}
 
 -- ---- places of which those of one node may differ
 

@@ -1,24 +1,13 @@
 -- Keys whose amounts turn to others, one after the other.
-use Rattle.std.proofs.Common.{◌≡◌, ℕ, ◌<◌, Bool, true, false, cond, not, ◌+◌, List, [], ◌∷◌, ◌++◌}
-use Rattle.std.proofs.Common.{map, length, drop, get_or, set, Option, Some, set-set}
-use Rattle.std.proofs.lemmas.List.{get_or_default, set-get_or}
-use Rattle.std.proofs.Common.{refl, ap, ◌∙◌, sym, arith, append_assoc, append-nil}
-use Rattle.std.specs.Prelude.{◌==◌, ◌≢◌, filter, slice_index, IfSome}
-use Rattle.std.proofs.lemmas.Option.{slice_get-get_or}
-use Rattle.vyrd_base.specs.declared.header.Header.{Header}
-use Rattle.vyrd_base.specs.Rules.{Rules}
-use Rattle.vyrd_base.specs.Views.{parts_of, view_of_words}
-use Rattle.vyrd_base.proofs.SumLaws.{IsAmounts-collected}
-use Rattle.vyrd_base.specs.Amounts.{Amounts, IsAmounts, amount_of, with_amount}
-use Rattle.vyrd_base.proofs.AmountLaws.{amount_of-with_amount, IsAmounts-with_amount}
-use Rattle.vyrd_base.proofs.DifferenceLaws.{is_in}
-use Rattle.vyrd_base.proofs.TestLaws.{same_of, is_same, apart_of, neither_true}
+use Rattle.vyrd_follow.proofs.Prelude
+use Prelude.{◌≡◌, ℕ, ◌<◌, Bool, true, false, cond, not, ◌+◌, List, [], ◌∷◌, ◌++◌, map, length, drop}
+use Prelude.{get_or, set, Option, Some, set-set, get_or_default, set-get_or, refl, ap, ◌∙◌, sym}
+use Prelude.{arith, append_assoc, append-nil, ◌==◌, ◌≢◌, filter, slice_index, IfSome}
+use Prelude.{slice_get-get_or, Header, Rules, parts_of, view_of_words, IsAmounts-collected, Amounts}
+use Prelude.{IsAmounts, amount_of, with_amount, amount_of-with_amount, IsAmounts-with_amount, is_in}
+use Prelude.{same_of, is_same, apart_of, neither_true, Item, Changed, Wrote, differ_at, differences}
+use Prelude.{or_item, write_items, turned_to, turns, turn_item, turn_items}
 use Rattle.vyrd_witness.specs.declared.effect.Effect.{Effect}
-use Rattle.vyrd_witness.specs.declared.item.Item.{Item}
-use Rattle.vyrd_witness.specs.declared.item.Item.TheVariants.{Changed, Wrote}
-use Rattle.vyrd_follow.specs.Doings.{differ_at}
-use Rattle.vyrd_follow.specs.Following.{differences, or_item, write_items}
-use Rattle.vyrd_follow.specs.Turns.{turned_to, turns, turn_item, turn_items}
 use Rattle.vyrd_follow.proofs.DifferenceLaws.{differences_left, no_differences, true_false}
 use Rattle.vyrd_follow.proofs.DifferenceLaws.{differences_of, no_differences_from_itself}
 use Rattle.vyrd_follow.proofs.DifferenceLaws.{among_differences, first_among}

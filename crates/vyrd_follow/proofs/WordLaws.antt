@@ -1,8 +1,5 @@
 -- What the part of a word gives, as it was decoded from the words of all parts.
-use Rattle.std.proofs.Common.{◌≡◌, ℕ, ◌/◌, List, take}
-use Rattle.vyrd_base.specs.Amounts.{given}
-use Rattle.vyrd_own_states.specs.PartPairs.{pairs_in, part_pairs}
-use Rattle.vyrd_view.specs.Decoded.{Gives}
+use Rattle.vyrd_follow.proofs.Prelude.{◌≡◌, ℕ, ◌/◌, List, take, given, pairs_in, part_pairs, Gives}
 
 module _ (width places : ℕ) (gives : Gives) (q w whole : ℕ) (all : List ℕ) where
   pub given_there : (n m k : ℕ) (pairs found : List (ℕ × ℕ)) (there : List ℕ) → pairs ≡ found

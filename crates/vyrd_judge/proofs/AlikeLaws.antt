@@ -1,21 +1,13 @@
 -- The words at the commits that wait, by the writes that act as the effects there.
-use Rattle.std.proofs.Common.{◌≡◌, ℕ, suc, ◌<◌, Bool, true, false, cond, List, [], ◌∷◌, ◌++◌}
-use Rattle.std.proofs.Common.{length, map, Option, refl, ap, subst, ◌∙◌, sym, arith, append_assoc}
-use Rattle.std.specs.Prelude.{◌==◌}
-use Rattle.std.specs.Option.{option_or}
-use Rattle.vyrd_base.specs.declared.header.Header.{Header}
-use Rattle.vyrd_base.specs.declared.log.Entry.{Entry}
-use Rattle.vyrd_base.specs.declared.log.StartWord.{StartWord}
-use Rattle.vyrd_base.specs.Places.{first_answer, newest_first_onto}
-use Rattle.vyrd_base.specs.Words.{effects_at, given_to, words_with}
-use Rattle.vyrd_base.specs.Commits.{is_commit}
-use Rattle.vyrd_base.proofs.PlaceLaws.{first_answer-append}
-use Rattle.vyrd_shadow.specs.Blocks.{with_writes}
+use Rattle.vyrd_judge.proofs.Prelude
+use Prelude.{◌≡◌, ℕ, suc, ◌<◌, Bool, true, false, cond, List, [], ◌∷◌, ◌++◌, length, map, Option}
+use Prelude.{refl, ap, subst, ◌∙◌, sym, arith, append_assoc, ◌==◌, option_or, Header, Entry}
+use Prelude.{StartWord, first_answer, newest_first_onto, effects_at, words_with, is_commit}
+use Prelude.{first_answer-append, with_writes, or_none, with_part, first_with, effect_parts}
+use Prelude.{with_effects, cut_if, ActAlike, AllActAlike, HasParts}
+use Rattle.vyrd_base.specs.Words.{given_to}
 use Rattle.vyrd_base.proofs.EffectWords.{one_write}
-use Rattle.vyrd_base.proofs.ListLaws.{or_none}
-use Rattle.vyrd_words.specs.Cuts.{with_part, first_with}
-use Rattle.vyrd_words.specs.Effects.{effect_parts, with_effects, cut_if, given_last, ActAlike}
-use Rattle.vyrd_words.specs.Effects.{AllActAlike, HasParts}
+use Rattle.vyrd_words.specs.Effects.{given_last}
 use Rattle.vyrd_words.proofs.CutLaws.{with_part_none}
 
 writes_onto : (h : Header) (starting : List StartWord) (effects writes : List (ℕ × ℕ))

@@ -1,30 +1,15 @@
 -- How many answers open observers have, from entry to entry.
-use Rattle.std.proofs.Common.{◌≡◌, ℕ, zero, suc, ◌+◌, ◌-◌, ◌<◌, ◌≤◌, Bool, true, false}
-use Rattle.std.proofs.Common.{List, [], ◌∷◌, ◌++◌, Some, None, slice_get, length}
-use Rattle.std.proofs.Common.{refl, ap, subst, ◌∙◌, sym, arith}
-use Rattle.std.specs.Prelude.{◌==◌, is_none, is_some, if◌then◌else◌, replicate}
-use Rattle.std.proofs.lemmas.Option.{same_Some, none-some, slice_get_within}
-use Rattle.vyrd_base.specs.declared.header.Header.{Header}
-use Rattle.vyrd_base.specs.declared.subject.Method.{Method}
-use Rattle.vyrd_base.specs.declared.subject.Args.{Args}
-use Rattle.vyrd_base.specs.declared.log.Kind.{Kind}
-use Rattle.vyrd_base.specs.declared.log.Kind.TheVariants.{Call, Return}
-use Rattle.vyrd_base.specs.declared.log.Entry.{Entry}
-use Rattle.vyrd_base.specs.Callers.{open_call, has_committed, entries_before_call}
-use Rattle.vyrd_base.specs.Commits.{is_commit, commit_count}
-use Rattle.vyrd_base.specs.Entries.{place_of}
-use Rattle.vyrd_base.specs.Shape.{broken_rule}
-use Rattle.vyrd_base.specs.Subjects.{must_commit}
-use Rattle.vyrd_base.proofs.BlockLaws.{entry, by_same}
-use Rattle.vyrd_base.proofs.Growing.{next_reply_stays}
-use Rattle.vyrd_base.proofs.Settled.{IsReturned}
-use Rattle.vyrd_base.proofs.ShadowLaws.{all_kept}
+use Rattle.vyrd_judge.proofs.Prelude
+use Prelude.{◌≡◌, ℕ, zero, suc, ◌+◌, ◌-◌, ◌<◌, ◌≤◌, Bool, true, false, List, [], ◌∷◌, ◌++◌, Some}
+use Prelude.{None, slice_get, length, refl, ap, subst, ◌∙◌, sym, arith, ◌==◌, is_none, is_some}
+use Prelude.{if◌then◌else◌, replicate, same_Some, none-some, slice_get_within, Header, Method, Args}
+use Prelude.{Kind, Call, Return, Entry, open_call, has_committed, is_commit, commit_count, place_of}
+use Prelude.{broken_rule, must_commit, entry, by_same, next_reply_stays, IsReturned, all_kept, Seen}
+use Prelude.{AllSee, unwatched, answers_of, AllReturned, AreSeenFew, is_left_open, waiting_at}
+use Rattle.vyrd_base.specs.Callers.{entries_before_call}
 use Rattle.vyrd_base.proofs.StateLaws.{count-quiet, count-commit, commits_before_call}
-use Rattle.vyrd_observers.specs.Watching.{Seen, AllSee, one_more, unwatched}
-use Rattle.vyrd_judge.specs.Answers.{is_observing, answers_of}
-use Rattle.vyrd_judge.specs.Judged.{AllReturned, AreSeenFew}
-use Rattle.vyrd_judge.specs.Keeping.{is_left_open}
-use Rattle.vyrd_judge.specs.Waiting.{waiting_at}
+use Rattle.vyrd_observers.specs.Watching.{one_more}
+use Rattle.vyrd_judge.specs.Answers.{is_observing}
 use Rattle.vyrd_judge.proofs.Reaching.{OthersStay}
 
 -- so many answers, by whether there is an observer and by the commits

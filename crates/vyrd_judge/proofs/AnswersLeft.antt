@@ -1,23 +1,11 @@
 -- How many answers are kept of open observers, by what is left open in the log.
-use Rattle.std.proofs.Common.{◌≡◌, ℕ, suc, ◌+◌, ◌≤◌, true, false, List, [], ◌∷◌, length}
-use Rattle.std.proofs.Common.{Option, Some, None, slice_get, refl, ap, subst, ◌∙◌, arith}
-use Rattle.std.specs.List.{cons_option, sum_by}
-use Rattle.std.proofs.lemmas.List.Sums.{sum_by-cons}
-use Rattle.vyrd_base.specs.declared.header.Header.{Header}
-use Rattle.vyrd_base.specs.declared.log.Entry.{Entry}
-use Rattle.vyrd_base.specs.Commits.{is_commit}
-use Rattle.vyrd_base.specs.Entries.{place_of}
-use Rattle.vyrd_base.specs.Places.{newest_first_onto, newest_first, numbers_from}
-use Rattle.vyrd_base.specs.Shape.{broken_rule}
-use Rattle.vyrd_base.proofs.Fronts.{break_after}
-use Rattle.vyrd_base.proofs.ListLaws.{both_none}
-use Rattle.vyrd_observers.specs.Watching.{Seen, answer_count}
-use Rattle.vyrd_judge.specs.declared.waiting.Waiting.{Waiting}
-use Rattle.vyrd_judge.specs.Answers.{answers_of, before_open_commit, answers_left}
-use Rattle.vyrd_judge.specs.Judged.{AllReturned, AreSeenFew}
-use Rattle.vyrd_judge.specs.Keeping.{is_left_open}
-use Rattle.vyrd_judge.specs.Queued.{AwaitsReturn}
-use Rattle.vyrd_judge.specs.Waiting.{waiting_at, waiting_after}
+use Rattle.vyrd_judge.proofs.Prelude
+use Prelude.{◌≡◌, ℕ, suc, ◌+◌, ◌≤◌, true, false, List, [], ◌∷◌, length, Option, Some, None}
+use Prelude.{slice_get, refl, ap, subst, ◌∙◌, arith, cons_option, sum_by, sum_by-cons, Header}
+use Prelude.{Entry, is_commit, place_of, newest_first_onto, newest_first, numbers_from, broken_rule}
+use Prelude.{break_after, both_none, Seen, answer_count, Waiting, answers_of, answers_left}
+use Prelude.{AllReturned, AreSeenFew, is_left_open, AwaitsReturn, waiting_at, waiting_after}
+use Rattle.vyrd_judge.specs.Answers.{before_open_commit}
 use Rattle.vyrd_judge.proofs.AnswerLaws.{quiet_answers}
 use Rattle.vyrd_judge.proofs.KeepingLaws.{left_open, log_parts}
 use Rattle.vyrd_judge.proofs.WaitingLaws.{uncommitted}

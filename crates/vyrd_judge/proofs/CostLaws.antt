@@ -1,38 +1,22 @@
 -- What each part of following an entry costs is paid by what was owed before, and a constant.
-use Rattle.std.proofs.Common.{◌≡◌, ℕ, ◌+◌, ◌*◌, ◌<◌, ◌≤◌, ◌^◌, List, [], ◌∷◌, ◌++◌, map, length}
-use Rattle.std.proofs.Common.{Option, Some, None, ap, refl, subst, ◌∙◌, sym, arith, append-nil}
-use Rattle.std.proofs.Common.{append_assoc}
-use Rattle.std.specs.Prelude.{Result, OnOk}
-use Rattle.std.specs.List.{sum_by, cons_option}
-use Rattle.std.proofs.lemmas.List.Sums.{sum_by-cons, sum_by-append}
-use Rattle.vyrd_base.specs.declared.header.Header.{Header}
-use Rattle.vyrd_base.specs.declared.log.Entry.{Entry}
-use Rattle.vyrd_base.specs.declared.log.StartWord.{StartWord}
-use Rattle.vyrd_base.specs.Entries.{place_of}
-use Rattle.vyrd_base.specs.Commits.{commit_count}
-use Rattle.vyrd_base.specs.Places.{newest_first}
-use Rattle.vyrd_base.specs.Rules.{Charter, rules_by}
-use Rattle.vyrd_base.specs.Shape.{broken_rule}
-use Rattle.vyrd_base.proofs.PlaceLaws.{length-newest_first_onto, newest_first-push}
+use Rattle.vyrd_judge.proofs.Prelude
+use Prelude.{◌≡◌, ℕ, ◌+◌, ◌*◌, ◌<◌, ◌≤◌, ◌^◌, List, [], ◌∷◌, ◌++◌, map, length, Option, Some, None}
+use Prelude.{ap, refl, subst, ◌∙◌, sym, arith, append-nil, append_assoc, Result, OnOk, sum_by}
+use Prelude.{cons_option, Header, Entry, StartWord, place_of, commit_count, newest_first, Charter}
+use Prelude.{rules_by, broken_rule, length-newest_first_onto, newest_first-push, HasWords, Keeps}
+use Prelude.{answer_count, Waiting, replied, waiting_at, HasQueued, HasTakenUp, Verdict}
+use Prelude.{FollowerKept, JudgeView, HasTakenIn, IsFaultless, IsCatchingUp, with_first, callers_of}
+use Prelude.{debt, entry_cost, log_cost, debt_after, judge_debt}
+use Rattle.std.proofs.lemmas.List.Sums.{sum_by-append, sum_by-cons}
 use Rattle.vyrd_shape.specs.Following.{HasFollowed as ShapeFollows}
 use Rattle.vyrd_shape.specs.Costs.{owed as shape_owed}
 use Rattle.vyrd_shadow.specs.Costs.{owed as shadow_owed}
 use Rattle.vyrd_view.specs.Known.{Shows}
-use Rattle.vyrd_words.specs.HasWords.{HasWords, Keeps}
-use Rattle.vyrd_words.specs.Costs.{each_entry as words_entry, entry_price, price_kept}
+use Rattle.vyrd_words.specs.Costs.{entry_price, price_kept, each_entry as words_entry}
 use Rattle.vyrd_words.specs.Costs.{owed as words_owed}
 use Rattle.vyrd_words.proofs.PriceLaws.{owed_none, price_none}
-use Rattle.vyrd_observers.specs.Watching.{answer_count}
-use Rattle.vyrd_judge.specs.declared.waiting.Waiting.{Waiting}
-use Rattle.vyrd_judge.specs.Waiting.{replied, waiting_at}
-use Rattle.vyrd_judge.specs.Queued.{HasQueued, HasTakenUp}
-use Rattle.vyrd_base.specs.declared.verdict.Verdict.{Verdict}
-use Rattle.vyrd_judge.specs.Following.{FollowerKept, JudgeView, HasTakenIn, IsFaultless}
-use Rattle.vyrd_judge.specs.Following.{IsCatchingUp}
-use Rattle.vyrd_judge.specs.Following.{with_first}
-use Rattle.vyrd_judge.specs.Costs.{judging_cost, waiting_price, waiting_cost, callers_of, debt}
-use Rattle.vyrd_judge.specs.Costs.{each_entry, entry_cost, log_cost, start_cost}
-use Rattle.vyrd_judge.specs.Costs.{debt_after, judge_debt}
+use Rattle.vyrd_judge.specs.Costs.{judging_cost, waiting_price, waiting_cost, each_entry}
+use Rattle.vyrd_judge.specs.Costs.{start_cost}
 use Rattle.vyrd_judge.proofs.FollowerLaws.{commits_same}
 
 pub at_most_then : {a b c : ℕ} → a ≤ b → b ≤ c → a ≤ c

@@ -1,19 +1,9 @@
 -- What is wrong if `end` stands after entries with which nothing is wrong.
-use Rattle.std.proofs.Common.{◌≡◌, Bool, true, false, List, length, Option, Some, None, Result, Ok}
-use Rattle.std.proofs.Common.{Err, IfOk, refl, ◌∙◌}
-use Rattle.std.specs.Prelude.{unwrap_or, is_none}
-use Rattle.std.specs.Option.{option_or}
-use Rattle.std.specs.Bool.{then_some}
-use Rattle.vyrd_base.specs.Rules.{Rules}
-use Rattle.vyrd_base.specs.declared.log.Entry.{Entry}
-use Rattle.vyrd_base.specs.declared.log.StartWord.{StartWord}
-use Rattle.vyrd_base.specs.declared.verdict.Rule.TheVariants.{StartState, CallOpen}
-use Rattle.vyrd_base.specs.declared.verdict.Verdict.{Verdict}
-use Rattle.vyrd_base.specs.declared.verdict.Verdict.TheVariants.{Accepted, Violation, Malformed}
-use Rattle.vyrd_base.specs.Places.{newest_first}
-use Rattle.vyrd_base.specs.Starts.{state_at_start}
-use Rattle.vyrd_base.specs.Verdicts.{line_of, verdict_so_far, is_call_open, end_verdict, accepted}
-use Rattle.vyrd_base.specs.Verdicts.{verdict}
+use Rattle.vyrd_judge.proofs.Prelude
+use Prelude.{◌≡◌, Bool, true, false, List, length, Option, Some, None, Result, Ok, Err, IfOk, refl}
+use Prelude.{◌∙◌, unwrap_or, is_none, option_or, then_some, Rules, Entry, StartWord, StartState}
+use Prelude.{CallOpen, Verdict, Accepted, Violation, Malformed, newest_first, state_at_start}
+use Prelude.{line_of, verdict_so_far, is_call_open, end_verdict, accepted, verdict}
 
 -- a verdict that isn't acceptance
 abbrev pub unless_accepted : Verdict → Option Verdict

@@ -1,23 +1,10 @@
 -- Blocks with a lone commit in them, which have ended where that commit is judged.
-use Rattle.std.proofs.Common.{◌≡◌, ℕ, Bool, true, false, cond, ◌&&◌, ◌||◌, List, [], ◌∷◌, ◌++◌}
-use Rattle.std.proofs.Common.{Some, None, refl, ap, subst, ◌∙◌, sym}
-use Rattle.std.specs.Prelude.{◌==◌}
-use Rattle.std.specs.Option.{option_or}
-use Rattle.std.proofs.lemmas.List.Folds.{list_any-append}
-use Rattle.std.proofs.Math.Bool.{or-true}
-use Rattle.vyrd_base.specs.declared.header.Header.{Header}
-use Rattle.vyrd_base.specs.declared.log.Kind.{Kind}
-use Rattle.vyrd_base.specs.declared.log.Kind.TheVariants.{Call, Return, Write, Commit, BlockOpen}
-use Rattle.vyrd_base.specs.declared.log.Kind.TheVariants.{BlockClose, BlockCommit}
-use Rattle.vyrd_base.specs.declared.log.Entry.{Entry}
-use Rattle.vyrd_base.specs.Callers.{has_inner_commit}
-use Rattle.vyrd_base.specs.Shape.{checks_at, broken_rule}
-use Rattle.vyrd_base.specs.Commits.{returned, next_reply}
-use Rattle.vyrd_base.proofs.BlockLaws.{entry, by_same}
-use Rattle.vyrd_base.proofs.EffectLaws.{never, has_block_of, own_inner, other_inner}
-use Rattle.vyrd_base.proofs.Settled.{IsReturned}
-use Rattle.vyrd_base.proofs.ShadowLaws.{all_kept}
-use Rattle.vyrd_words.specs.Effects.{ends_block, is_ended}
+use Rattle.vyrd_judge.proofs.Prelude
+use Prelude.{◌≡◌, ℕ, Bool, true, false, cond, ◌&&◌, ◌||◌, List, [], ◌∷◌, ◌++◌, Some, None, refl, ap}
+use Prelude.{subst, ◌∙◌, sym, ◌==◌, option_or, list_any-append, or-true, Header, Kind, Call, Return}
+use Prelude.{Write, Commit, BlockOpen, BlockClose, BlockCommit, Entry, has_inner_commit, checks_at}
+use Prelude.{broken_rule, returned, next_reply, entry, by_same, never, has_block_of, own_inner}
+use Prelude.{other_inner, IsReturned, all_kept, ends_block, is_ended}
 
 -- a caller that has returned has ended its block
 returned_ended : (c : ℕ) (later : List Entry) (r : ℕ) → next_reply c later ≡ Some r

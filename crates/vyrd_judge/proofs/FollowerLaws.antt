@@ -1,63 +1,35 @@
 -- How all that is kept goes on with one more entry, and with one more that is judged.
-use Rattle.std.proofs.Common.{◌≡◌, ℕ, zero, suc, ◌+◌, ◌*◌, ◌<◌, ◌≤◌, ◌^◌, Bool, true, false, cond}
-use Rattle.std.proofs.Common.{◌&&◌, List, [], ◌∷◌, ◌++◌, map, length, Option, Some, None, refl, ap}
-use Rattle.std.proofs.Common.{subst, ◌∙◌, sym, arith}
-use Rattle.std.specs.Prelude.{count_by, not, replicate, Result}
+use Rattle.vyrd_judge.proofs.Prelude
+use Prelude.{◌≡◌, ℕ, zero, suc, ◌+◌, ◌*◌, ◌<◌, ◌≤◌, ◌^◌, Bool, true, false, cond, ◌&&◌, List, []}
+use Prelude.{◌∷◌, ◌++◌, map, length, Option, Some, None, refl, ap, subst, ◌∙◌, sym, arith, not}
+use Prelude.{replicate, Result, cons_option, none-some, sum_by-cons, ∥∥₁_elim, ∥∥₁_map, Bool-set}
+use Prelude.{Header, Method, Args, Kind, Entry, StartWord, Verdict, Malformed, Accepted, CallOpen}
+use Prelude.{Place, places_after, newest_first_onto, newest_first, Called, has_committed}
+use Prelude.{broken_rule, Rules, rules_by, State, words_at_start, state_at_start, is_commit}
+use Prelude.{commit_count, is_return, first_fault, verdict_so_far, verdict_at, verdict, accepted}
+use Prelude.{is_call_open, length-newest_first_onto, newest_first-push, commit_count-cons}
+use Prelude.{caller_kept, below_of, is_below, Waiting, HasWords, Keeps, place_of, Seen}
+use Prelude.{answer_count, unwatched, first_with, parts_behind, effect_parts, with_effects, cut_if}
+use Prelude.{AreFew, ended_effects_at, replied, waiting_at, AreCurrent, HasQueued, HasTakenUp}
+use Prelude.{MayQueue, AwaitsReturn, Judged, MayJudge, AreSeenFew, FollowerKept, HasTakenIn}
+use Prelude.{IsFaultless, IsSomewhere, with_first, IsCatchingUp, MayCatchUp, so_far_kept, ShowsFew}
+use Rattle.std.specs.Prelude.{count_by}
 use Rattle.std.specs.Result.{MatchResult, is_err}
-use Rattle.std.specs.List.{cons_option}
 use Rattle.std.proofs.lemmas.List.{length_push, length-replicate}
-use Rattle.std.proofs.lemmas.Option.{none-some}
-use Rattle.std.proofs.lemmas.List.Sums.{sum_by-cons}
-use Rattle.std.proofs.Math.Logic.{∥∥₁_elim, ∥∥₁_map}
-use Rattle.std.proofs.Math.Bool.{Bool-set}
-use Rattle.vyrd_base.specs.declared.header.Header.{Header}
-use Rattle.vyrd_base.specs.declared.subject.Method.{Method}
-use Rattle.vyrd_base.specs.declared.subject.Args.{Args}
-use Rattle.vyrd_base.specs.declared.log.Kind.{Kind}
-use Rattle.vyrd_base.specs.declared.log.Entry.{Entry}
-use Rattle.vyrd_base.specs.declared.log.StartWord.{StartWord}
 use Rattle.vyrd_base.specs.declared.verdict.Rule.{Rule}
-use Rattle.vyrd_base.specs.declared.verdict.Verdict.{Verdict}
-use Rattle.vyrd_base.specs.declared.verdict.Verdict.TheVariants.{Malformed, Accepted}
-use Rattle.vyrd_base.specs.declared.verdict.Rule.TheVariants.{CallOpen}
-use Rattle.vyrd_base.specs.Places.{Place, places_after, places, newest_first_onto, newest_first}
-use Rattle.vyrd_base.specs.Callers.{Called, has_committed}
-use Rattle.vyrd_base.specs.Shape.{broken_rule}
-use Rattle.vyrd_base.specs.Rules.{Rules, rules_by}
-use Rattle.vyrd_base.specs.States.{State}
-use Rattle.vyrd_base.specs.Starts.{words_at_start, state_at_start}
-use Rattle.vyrd_base.specs.Commits.{commits, is_commit, commit_count, states_of}
-use Rattle.vyrd_base.specs.Verdicts.{is_return, observer_returns, first_fault}
-use Rattle.vyrd_base.specs.Verdicts.{verdict_so_far, verdict_at, verdict, accepted, is_call_open}
-use Rattle.vyrd_base.proofs.PlaceLaws.{length-newest_first_onto, newest_first-push}
-use Rattle.vyrd_base.proofs.Lasting.{commit_count-cons}
-use Rattle.vyrd_base.proofs.ShadowLaws.{caller_kept, well_formed-first_break}
-use Rattle.vyrd_base.proofs.TestLaws.{below_of, is_below}
+use Rattle.vyrd_base.specs.Places.{places}
+use Rattle.vyrd_base.specs.Commits.{commits, states_of}
+use Rattle.vyrd_base.specs.Verdicts.{observer_returns}
+use Rattle.vyrd_base.proofs.ShadowLaws.{well_formed-first_break}
 use Rattle.vyrd_shape.specs.Following.{ShapeKept, HasFollowed as ShapeFollows}
-use Rattle.vyrd_judge.specs.declared.waiting.Waiting.{Waiting}
-use Rattle.vyrd_words.specs.HasWords.{HasWords, HasTaken, Keeps, MayFollow}
-use Rattle.vyrd_base.specs.Entries.{place_of}
-use Rattle.vyrd_observers.specs.Watching.{Seen, answer_count, unwatched}
-use Rattle.vyrd_words.specs.Cuts.{first_with}
-use Rattle.vyrd_words.specs.Effects.{parts_behind, effect_parts, with_effects, cut_if}
-use Rattle.vyrd_words.specs.Effects.{AreFew}
+use Rattle.vyrd_words.specs.HasWords.{HasTaken, MayFollow}
 use Rattle.vyrd_words.proofs.FewLaws.{few_more}
-use Rattle.vyrd_base.specs.BlockEnds.{ended_effects_at}
 use Rattle.vyrd_judge.proofs.PartLaws.{parts_more}
-use Rattle.vyrd_judge.specs.Waiting.{replied, waiting_at}
-use Rattle.vyrd_observers.specs.Watching.{AreCurrent}
-use Rattle.vyrd_judge.specs.Queued.{HasQueued, HasTakenUp, MayQueue, AwaitsReturn}
-use Rattle.vyrd_judge.specs.Judged.{Judged, MayJudge, AreSeenFew}
-use Rattle.vyrd_judge.specs.Following.{FollowerKept, HasTakenIn, IsFaultless, IsSomewhere}
-use Rattle.vyrd_judge.specs.Following.{with_first}
-use Rattle.vyrd_judge.specs.Following.{IsCatchingUp, MayCatchUp}
 use Rattle.vyrd_base.proofs.FrontLaws.{kept-push, front_at_break, break_at_break, nothing_broken}
-use Rattle.vyrd_base.proofs.VerdictParts.{sound_start, so_far_kept, so_far_break, at_end_open}
-use Rattle.vyrd_base.proofs.VerdictParts.{at_end_accepted}
+use Rattle.vyrd_base.proofs.VerdictParts.{sound_start, so_far_break, at_end_open, at_end_accepted}
 use Rattle.vyrd_judge.proofs.JudgedLaws.{judged_more, judged_head, judged_all}
 use Rattle.vyrd_judge.proofs.AnswerLaws.{seen_nothing}
 use Rattle.vyrd_judge.proofs.JudgingLaws.{judged_waits}
-use Rattle.vyrd_judge.specs.Shown.{ShowsFew}
 use Rattle.vyrd_judge.proofs.ShownLaws.{start_shows}
 
 -- before the first entry

@@ -1,60 +1,26 @@
 -- What the entry that waits first leads to, by its event.
-use Rattle.std.proofs.Common.{◌≡◌, ℕ, ◌+◌, ◌<◌, ◌≤◌, true, false, cond, List, [], ◌∷◌, ◌++◌}
-use Rattle.std.proofs.Common.{length, Option, Some, None, slice_get, refl, ap, subst, ◌∙◌, sym}
-use Rattle.std.proofs.Common.{arith, append-nil}
-use Rattle.std.specs.Prelude.{option_map}
-use Rattle.std.specs.Option.{option_or}
-use Rattle.std.proofs.lemmas.Option.{same_Some}
-use Rattle.vyrd_base.proofs.PlaceLaws.{length-newest_first_onto}
-use Rattle.vyrd_base.specs.declared.header.Header.{Header}
-use Rattle.vyrd_base.specs.declared.subject.Method.{Method}
-use Rattle.vyrd_base.specs.declared.subject.Args.{Args}
-use Rattle.vyrd_base.specs.declared.log.Kind.{Kind}
-use Rattle.vyrd_base.specs.declared.log.Kind.TheVariants.{Call, Return}
-use Rattle.vyrd_base.specs.declared.log.Entry.{Entry}
-use Rattle.vyrd_base.specs.declared.log.StartWord.{StartWord}
-use Rattle.vyrd_base.specs.declared.verdict.Why.{Why}
-use Rattle.vyrd_base.specs.declared.verdict.Why.TheVariants.{Observer}
-use Rattle.vyrd_base.specs.declared.verdict.Verdict.TheVariants.{Violation}
-use Rattle.vyrd_base.specs.Places.{places_after, first_answer}
-use Rattle.vyrd_base.specs.Callers.{Called, open_call}
-use Rattle.vyrd_base.specs.Subjects.{is_observer, must_commit}
-use Rattle.vyrd_base.specs.Shape.{broken_rule}
-use Rattle.vyrd_base.specs.Words.{words_at, words_with, effects}
-use Rattle.vyrd_base.specs.Amounts.{first_difference}
-use Rattle.vyrd_base.specs.States.{State}
-use Rattle.vyrd_base.specs.Commits.{is_commit, commit_count}
-use Rattle.vyrd_base.specs.Faults.{step_fault, fault_at}
-use Rattle.vyrd_base.specs.Verdicts.{line_of, violation_at, first_fault, states_along}
-use Rattle.vyrd_base.proofs.BlockLaws.{entry}
-use Rattle.vyrd_base.proofs.Growing.{next_reply_stays}
-use Rattle.vyrd_base.proofs.Lasting.{no_fault_beyond}
-use Rattle.vyrd_base.proofs.Settled.{IsReturned, words_at_stay}
-use Rattle.vyrd_base.proofs.ShadowLaws.{caller_kept}
-use Rattle.vyrd_shadow.specs.Blocks.{with_writes}
-use Rattle.vyrd_judge.specs.declared.waiting.Waiting.{Waiting}
-use Rattle.vyrd_words.specs.Effects.{effect_parts, AllActAlike}
-use Rattle.vyrd_base.specs.Entries.{has_method, place_of}
-use Rattle.vyrd_observers.specs.Watching.{Seen, has_answer, unwatched}
-use Rattle.vyrd_judge.specs.Reached.{IsWatched}
-use Rattle.vyrd_judge.specs.Reached.{Reached}
-use Rattle.vyrd_observers.specs.Watching.{AreCurrent, AllSee}
-use Rattle.vyrd_judge.specs.Answers.{answers_of}
-use Rattle.vyrd_judge.specs.Judged.{Judged, AreSeenFew}
+use Rattle.vyrd_judge.proofs.Prelude
+use Prelude.{◌≡◌, ℕ, ◌+◌, ◌<◌, ◌≤◌, true, false, cond, List, [], ◌∷◌, ◌++◌, length, Option, Some}
+use Prelude.{None, slice_get, refl, ap, subst, ◌∙◌, sym, arith, append-nil, option_map, option_or}
+use Prelude.{same_Some, length-newest_first_onto, Header, Method, Args, Kind, Call, Return, Entry}
+use Prelude.{StartWord, Why, Observer, Violation, places_after, first_answer, Called, open_call}
+use Prelude.{is_observer, must_commit, broken_rule, words_at, words_with, effects, first_difference}
+use Prelude.{State, is_commit, commit_count, step_fault, fault_at, line_of, violation_at}
+use Prelude.{first_fault, states_along, entry, next_reply_stays, no_fault_beyond, IsReturned}
+use Prelude.{words_at_stay, caller_kept, with_writes, Waiting, effect_parts, AllActAlike}
+use Prelude.{has_method, place_of, Seen, has_answer, unwatched, IsWatched, Reached, AreCurrent}
+use Prelude.{AllSee, answers_of, Judged, AreSeenFew, call_kept, commit_kept, block_commit_runs}
+use Prelude.{return_kept, return_free, AreFormed, Rules}
 use Rattle.vyrd_judge.proofs.AnswerLaws.{begun_answers, seen_changed, seen_closed, seen_commit}
 use Rattle.vyrd_judge.proofs.AlikeLaws.{Split, has_parts_next}
-use Rattle.vyrd_base.proofs.KeptLaws.{call_kept, commit_kept, block_commit_runs, return_kept}
-use Rattle.vyrd_base.proofs.CommittedLaws.{return_free}
-use Rattle.vyrd_base.proofs.CommitLaws.{Commits as Committing, alone, with_block, commits_is}
+use Rattle.vyrd_base.proofs.CommitLaws.{alone, with_block, commits_is, Commits as Committing}
 use Rattle.vyrd_judge.proofs.Reaching.{OthersStay, reached_begins, reached_return}
 use Rattle.vyrd_judge.proofs.ReachedFaults.{commit_fault_at, commit_right, commit_waits}
 use Rattle.vyrd_judge.proofs.ReachedFaults.{observer_at}
 use Rattle.vyrd_judge.proofs.WaitingLaws.{IsBegin, IsCommit, IsReturn}
 use Rattle.vyrd_judge.proofs.JudgedLaws.{AtHead, Onward, parts_on, parts_at, judged_next}
 use Rattle.vyrd_judge.proofs.JudgedLaws.{judged_fault}
-use Rattle.vyrd_spec.proofs.ShownLaws.{AreFormed}
 use Rattle.vyrd_judge.proofs.ShownLaws.{commit_shows}
-use Rattle.vyrd_base.specs.Rules.{Rules}
 
 -- what a place leads to, by another name of its entry
 onward_as : {r : Rules} {starting : List StartWord} {log : List Entry} {d e : Entry}

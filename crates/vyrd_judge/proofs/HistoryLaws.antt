@@ -1,14 +1,10 @@
 -- The log of a history with one more event.
-use Rattle.std.proofs.Common.{◌≡◌, ℕ, ◌<◌, ◌+◌, ◌++◌, List, [], length, take, drop, refl, ap, ◌∙◌}
-use Rattle.std.proofs.Common.{sym}
-use Rattle.std.specs.Prelude.{get_or}
-use Rattle.std.specs.List.{cons_option}
-use Rattle.std.proofs.lemmas.List.{take-append-drop}
+use Rattle.vyrd_judge.proofs.Prelude.{◌≡◌, ℕ, ◌<◌, ◌+◌, ◌++◌, List, [], length, take, drop, refl}
+use Rattle.vyrd_judge.proofs.Prelude.{ap, ◌∙◌, sym, get_or, cons_option, take-append-drop, logged}
+use Rattle.vyrd_judge.proofs.Prelude.{log_of, filter_map_more}
 use Rattle.std.proofs.lemmas.List.Elements.{filter_map-append}
 use Rattle.vyrd_base.specs.declared.history.Stamped.{Stamped}
 use Rattle.vyrd_base.specs.declared.history.Did.TheVariants.{Read}
-use Rattle.vyrd_base.specs.Histories.{logged, log_of}
-use Rattle.vyrd_base.proofs.ListLaws.{filter_map_more}
 
 -- what stands for the event past the end
 abbrev pub past : Stamped

@@ -1,59 +1,26 @@
 -- How what is judged of a log goes on: with one more entry of the log, and with one more entry that
 -- is judged.
-use Rattle.std.proofs.Common.{◌≡◌, ℕ, ◌+◌, ◌≤◌, Bool, true, false, List, [], ◌∷◌, ◌++◌, map}
-use Rattle.std.proofs.Common.{length, Option, Some, None, refl, ap, subst, ◌∙◌, sym, arith}
-use Rattle.std.proofs.Common.{append_assoc, append-nil}
-use Rattle.std.specs.Prelude.{option_map}
-use Rattle.std.specs.Option.{option_or}
-use Rattle.std.proofs.lemmas.Bool.{not-false}
-use Rattle.std.specs.List.{cons_option}
-use Rattle.vyrd_base.proofs.TestLaws.{then_some_false}
-use Rattle.vyrd_base.proofs.ListLaws.{both_none}
-use Rattle.vyrd_base.specs.declared.header.Header.{Header}
-use Rattle.vyrd_base.specs.declared.log.Kind.{Kind}
-use Rattle.vyrd_base.specs.declared.log.Kind.TheVariants.{Call, Return, Write, Commit, BlockOpen}
-use Rattle.vyrd_base.specs.declared.log.Kind.TheVariants.{BlockClose, BlockCommit}
-use Rattle.vyrd_base.specs.declared.log.Entry.{Entry}
-use Rattle.vyrd_base.specs.declared.log.StartWord.{StartWord}
-use Rattle.vyrd_base.specs.declared.verdict.Why.{Why}
-use Rattle.vyrd_base.specs.declared.verdict.Verdict.TheVariants.{Violation}
-use Rattle.vyrd_base.specs.Places.{Place, places_after, newest_first_onto, newest_first}
-use Rattle.vyrd_base.specs.Places.{first_answer}
-use Rattle.vyrd_base.specs.Callers.{Called, open_call, has_committed}
-use Rattle.vyrd_base.specs.Subjects.{is_observer, must_commit}
-use Rattle.vyrd_base.specs.Shape.{broken_rule}
-use Rattle.vyrd_base.specs.Words.{effects, words_with}
-use Rattle.vyrd_base.specs.BlockEnds.{ended_effects_at}
-use Rattle.vyrd_base.specs.States.{State}
-use Rattle.vyrd_base.specs.Commits.{is_commit}
-use Rattle.vyrd_base.specs.Faults.{fault_at}
-use Rattle.vyrd_base.specs.Verdicts.{line_of, violation_at, first_fault, states_along}
-use Rattle.vyrd_base.specs.Front.{WellFormed}
-use Rattle.vyrd_base.proofs.BlockLaws.{entry}
-use Rattle.vyrd_base.proofs.Fronts.{break_after, break_after-append}
-use Rattle.vyrd_base.proofs.PlaceLaws.{newest_first_onto-append, newest_first-push}
-use Rattle.vyrd_base.proofs.Settled.{IsReturned, Settled, settled_next}
-use Rattle.vyrd_judge.specs.declared.waiting.Event.{Event}
-use Rattle.vyrd_judge.specs.declared.waiting.Waiting.{Waiting}
-use Rattle.vyrd_words.specs.Cuts.{first_with, with_part}
-use Rattle.vyrd_words.specs.Effects.{effect_parts, with_effects, cut_if, parts_behind, ActAlike}
-use Rattle.vyrd_words.specs.Effects.{AllActAlike, HasParts}
-use Rattle.vyrd_base.specs.Entries.{place_of}
-use Rattle.vyrd_observers.specs.Watching.{Seen}
-use Rattle.vyrd_judge.specs.Waiting.{waiting_of, waiting_at, waiting_after, replied, commit_of}
-use Rattle.vyrd_judge.specs.Reached.{Reached}
-use Rattle.vyrd_judge.specs.Shown.{ShowsFew}
-use Rattle.vyrd_observers.specs.Watching.{AreCurrent}
-use Rattle.vyrd_judge.specs.Judged.{Judged, AllReturned, AreSeenFew}
+use Rattle.vyrd_judge.proofs.Prelude
+use Prelude.{◌≡◌, ℕ, ◌+◌, ◌≤◌, Bool, true, false, List, [], ◌∷◌, ◌++◌, map, length, Option, Some}
+use Prelude.{None, refl, ap, subst, ◌∙◌, sym, arith, append_assoc, append-nil, option_map}
+use Prelude.{option_or, not-false, cons_option, then_some_false, both_none, Header, Kind, Call}
+use Prelude.{Return, Write, Commit, BlockOpen, BlockClose, BlockCommit, Entry, StartWord, Why}
+use Prelude.{Violation, Place, places_after, newest_first_onto, newest_first, first_answer, Called}
+use Prelude.{open_call, has_committed, is_observer, must_commit, broken_rule, effects, words_with}
+use Prelude.{ended_effects_at, State, is_commit, fault_at, line_of, violation_at, first_fault}
+use Prelude.{states_along, WellFormed, entry, break_after, break_after-append}
+use Prelude.{newest_first_onto-append, newest_first-push, IsReturned, Settled, settled_next, Event}
+use Prelude.{Waiting, first_with, with_part, effect_parts, with_effects, cut_if, parts_behind}
+use Prelude.{ActAlike, AllActAlike, HasParts, place_of, Seen, waiting_of, waiting_at, waiting_after}
+use Prelude.{replied, commit_of, Reached, ShowsFew, AreCurrent, Judged, AllReturned, AreSeenFew}
+use Prelude.{call_kept, commit_kept, block_commit_runs, return_kept, Rules}
 use Rattle.vyrd_judge.proofs.AlikeLaws.{has_parts_more}
 use Rattle.vyrd_judge.proofs.EndingLaws.{AllEnd, end_next, end_more}
-use Rattle.vyrd_base.proofs.KeptLaws.{call_kept, commit_kept, block_commit_runs, return_kept}
 use Rattle.vyrd_judge.proofs.PartLaws.{parts_more}
 use Rattle.vyrd_judge.proofs.Reaching.{reached_inside, reached_owes, reached_return}
 use Rattle.vyrd_judge.proofs.ReachedFaults.{return_committed_at}
 use Rattle.vyrd_judge.proofs.AnswerLaws.{seen_on, closed_here, returned_more}
 use Rattle.vyrd_judge.proofs.WaitingLaws.{listed, waiting_more, uncommitted}
-use Rattle.vyrd_base.specs.Rules.{Rules}
 
 -- one more entry that keeps the rules: it may be the reply of a commit that waits, and may wait
 -- itself

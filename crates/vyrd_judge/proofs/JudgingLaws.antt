@@ -1,38 +1,21 @@
 -- The entry that waits first is judged by its event.
-use Rattle.std.proofs.Common.{◌≡◌, ℕ, ◌<◌, ◌^◌, true, false, List, [], ◌∷◌, length, set, get_or}
-use Rattle.std.proofs.Common.{Option, Some, None, slice_get, ap, arith}
-use Rattle.std.specs.Prelude.{◌||◌, Result, Ok, Err, IfOk}
-use Rattle.std.proofs.Math.Logic.{∥∥₁_elim}
-use Rattle.std.proofs.Math.Bool.{Bool-set}
-use Rattle.std.proofs.lemmas.Option.{slice_get_within, slice_get-get_or}
-use Rattle.vyrd_base.specs.declared.subject.Method.{Method}
-use Rattle.vyrd_base.specs.declared.subject.Args.{Args}
-use Rattle.vyrd_base.specs.declared.log.Entry.{Entry}
-use Rattle.vyrd_base.specs.declared.log.StartWord.{StartWord}
-use Rattle.vyrd_base.specs.declared.verdict.Why.TheVariants.{Observer}
-use Rattle.vyrd_base.specs.declared.verdict.Verdict.TheVariants.{Violation}
-use Rattle.vyrd_base.specs.Subjects.{is_observer, must_commit}
-use Rattle.vyrd_base.specs.States.{State}
-use Rattle.vyrd_base.specs.Verdicts.{line_of, first_fault}
-use Rattle.vyrd_base.proofs.BlockLaws.{by_same}
-use Rattle.vyrd_base.proofs.TestLaws.{below_of, is_below, same_number, apart_of}
+use Rattle.vyrd_judge.proofs.Prelude
+use Prelude.{◌≡◌, ℕ, ◌<◌, ◌^◌, true, false, List, [], ◌∷◌, length, set, get_or, Option, Some, None}
+use Prelude.{slice_get, ap, arith, ◌||◌, Result, Ok, Err, IfOk, ∥∥₁_elim, Bool-set, Method, Args}
+use Prelude.{Entry, StartWord, Observer, Violation, is_observer, must_commit, State, line_of}
+use Prelude.{first_fault, by_same, below_of, is_below, same_number, apart_of, Begins, Commits}
+use Prelude.{Returns, Waiting, has_method, Seen, unwatched, has_answer, AreCurrent, Judged}
+use Prelude.{HeadGives, MayJudge, slice_get-set_same, slice_get-set_other, AreFormed, Rules}
+use Rattle.std.proofs.lemmas.Option.{slice_get-get_or, slice_get_within}
 use Rattle.vyrd_judge.specs.declared.outcome.Outcome.{Outcome}
 use Rattle.vyrd_judge.specs.declared.outcome.Outcome.TheVariants.{Goes, Faults}
-use Rattle.vyrd_judge.specs.declared.waiting.Event.TheVariants.{Begins, Commits, Returns}
-use Rattle.vyrd_judge.specs.declared.waiting.Waiting.{Waiting}
-use Rattle.vyrd_base.specs.Entries.{has_method}
-use Rattle.vyrd_observers.specs.Watching.{Seen, unwatched, has_answer}
-use Rattle.vyrd_observers.specs.Watching.{AreCurrent}
-use Rattle.vyrd_judge.specs.Judged.{Judged, HeadGives, MayJudge, CommitLeads}
-use Rattle.vyrd_base.proofs.ListLaws.{slice_get-set_same, slice_get-set_other}
+use Rattle.vyrd_judge.specs.Judged.{CommitLeads}
 use Rattle.vyrd_judge.proofs.Reaching.{OthersStay}
 use Rattle.vyrd_judge.proofs.WaitingLaws.{Waits, begins, waits, IsBegin, IsCommit, IsReturn}
 use Rattle.vyrd_judge.proofs.JudgedLaws.{AtHead, judged_head}
 use Rattle.vyrd_judge.proofs.HeadLaws.{head_begins, begin_fits, head_caller, head_answered}
 use Rattle.vyrd_judge.proofs.HeadLaws.{head_unanswered, commit_fits, split_here, head_faults}
 use Rattle.vyrd_judge.proofs.HeadLaws.{head_right, head_waits, head_few}
-use Rattle.vyrd_spec.proofs.ShownLaws.{AreFormed}
-use Rattle.vyrd_base.specs.Rules.{Rules}
 
 -- the entry that waits first, by its event
 pub begins_at : {r : Rules} {starting : List StartWord} {log : List Entry} {state : State}

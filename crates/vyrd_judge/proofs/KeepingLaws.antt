@@ -1,21 +1,9 @@
 -- What waits to be judged stands behind the commit of an execution that hasn't returned.
-use Rattle.std.proofs.Common.{◌≡◌, ℕ, suc, ◌≤◌, true, false, List, [], ◌∷◌, ◌++◌, length, Option}
-use Rattle.std.proofs.Common.{Some, None, refl, arith}
-use Rattle.std.specs.Prelude.{is_none, if◌then◌else◌}
-use Rattle.std.specs.List.{cons_option}
-use Rattle.std.proofs.lemmas.List.{append-nil}
-use Rattle.vyrd_base.specs.declared.subject.Method.{Method}
-use Rattle.vyrd_base.specs.declared.subject.Args.{Args}
-use Rattle.vyrd_base.specs.declared.log.Entry.{Entry}
-use Rattle.vyrd_base.specs.declared.log.StartWord.{StartWord}
-use Rattle.vyrd_base.specs.Entries.{place_of}
-use Rattle.vyrd_base.specs.Places.{newest_first_onto, newest_first}
-use Rattle.vyrd_judge.specs.declared.waiting.Event.TheVariants.{Commits}
-use Rattle.vyrd_judge.specs.declared.waiting.Waiting.{Waiting}
-use Rattle.vyrd_judge.specs.Following.{JudgeView, HasFollowed}
-use Rattle.vyrd_judge.specs.Keeping.{is_left_open, from_open_commit}
-use Rattle.vyrd_judge.specs.Queued.{AwaitsReturn}
-use Rattle.vyrd_judge.specs.Waiting.{waiting_at, waiting_after}
+use Rattle.vyrd_judge.proofs.Prelude
+use Prelude.{◌≡◌, ℕ, suc, ◌≤◌, true, false, List, [], ◌∷◌, ◌++◌, length, Option, Some, None, refl}
+use Prelude.{arith, is_none, if◌then◌else◌, cons_option, append-nil, Method, Args, Entry, StartWord}
+use Prelude.{place_of, newest_first_onto, newest_first, Commits, Waiting, JudgeView, HasFollowed}
+use Prelude.{is_left_open, from_open_commit, AwaitsReturn, waiting_at, waiting_after}
 use Rattle.vyrd_judge.proofs.WaitingLaws.{begins, waits}
 
 -- no more entries than there are

@@ -1,42 +1,22 @@
 -- The writes that are kept for the commits that wait are at most the effects behind the last commit
 -- that is judged.
-use Rattle.std.proofs.Common.{◌≡◌, ℕ, zero, suc, ◌+◌, ◌*◌, ◌<◌, ◌≤◌, Bool, true, false, cond, List}
-use Rattle.std.proofs.Common.{[], ◌∷◌, ◌++◌, length, Option, None, refl, ap, subst, ◌∙◌, sym, arith}
-use Rattle.std.proofs.Common.{length-append}
-use Rattle.std.specs.Prelude.{is_some}
-use Rattle.std.specs.List.{sum_by, cons_option}
-use Rattle.std.proofs.lemmas.List.Sums.{sum_by-cons}
-use Rattle.vyrd_base.specs.declared.header.Header.{Header}
-use Rattle.vyrd_base.specs.declared.log.Entry.{Entry}
-use Rattle.vyrd_base.specs.declared.log.StartWord.{StartWord}
-use Rattle.vyrd_base.specs.Commits.{is_commit, commit_count}
-use Rattle.vyrd_base.specs.Entries.{place_of}
-use Rattle.vyrd_base.specs.Places.{newest_first, newest_first_onto, numbers_from}
-use Rattle.vyrd_base.specs.Rules.{rules_by}
-use Rattle.vyrd_base.specs.Shape.{broken_rule}
-use Rattle.vyrd_base.specs.Layout.{plain_words}
-use Rattle.vyrd_base.specs.Words.{effects, effects_at, words_after}
-use Rattle.vyrd_base.proofs.Fronts.{break_after}
-use Rattle.vyrd_base.proofs.Lasting.{commit_count-cons}
-use Rattle.vyrd_base.proofs.ListLaws.{both_none}
-use Rattle.vyrd_base.proofs.PlaceLaws.{length-mapped}
-use Rattle.vyrd_judge.specs.Answers.{answers_left}
-use Rattle.vyrd_judge.specs.Costs.{callers_of}
+use Rattle.vyrd_judge.proofs.Prelude
+use Prelude.{◌≡◌, ℕ, zero, suc, ◌+◌, ◌*◌, ◌<◌, ◌≤◌, Bool, true, false, cond, List, [], ◌∷◌, ◌++◌}
+use Prelude.{length, Option, None, refl, ap, subst, ◌∙◌, sym, arith, length-append, is_some, sum_by}
+use Prelude.{cons_option, sum_by-cons, Header, Entry, StartWord, is_commit, commit_count, place_of}
+use Prelude.{newest_first, newest_first_onto, numbers_from, rules_by, broken_rule, plain_words}
+use Prelude.{effects, effects_at, break_after, commit_count-cons, both_none, length-mapped}
+use Prelude.{answers_left, callers_of, effect_parts, AreFew, HasParts, HasWords, Waiting, JudgeView}
+use Prelude.{HasFollowed, IsFaultless, Judged, AwaitsReturn, most_shown, waiting_at, waiting_after}
+use Rattle.vyrd_base.specs.Words.{words_after}
 use Rattle.vyrd_shadow.specs.Following.{ShadowKept, kept_writes}
 use Rattle.vyrd_words.specs.Costs.{kept_back, all_kept_back}
-use Rattle.vyrd_words.specs.Effects.{effect_parts, AllFew, AreFew, HasParts}
-use Rattle.vyrd_words.specs.HasWords.{HasWords}
+use Rattle.vyrd_words.specs.Effects.{AllFew}
 use Rattle.vyrd_words.proofs.CutLaws.{cons_first}
 use Rattle.vyrd_words.proofs.FewLaws.{few_count, first_few, length-words_of}
-use Rattle.vyrd_judge.specs.declared.waiting.Waiting.{Waiting}
-use Rattle.vyrd_judge.specs.Following.{JudgeView, HasFollowed, IsFaultless}
-use Rattle.vyrd_judge.specs.Judged.{Judged}
-use Rattle.vyrd_judge.specs.Keeping.{effects_in, next_has_returned, effects_left}
-use Rattle.vyrd_judge.specs.Keeping.{count_all, writes_kept, blocks_keep}
+use Rattle.vyrd_judge.specs.Keeping.{effects_in, next_has_returned, effects_left, count_all}
+use Rattle.vyrd_judge.specs.Keeping.{writes_kept, blocks_keep}
 use Rattle.vyrd_judge.specs.LittleKept.{KeepsLittle}
-use Rattle.vyrd_judge.specs.Queued.{AwaitsReturn}
-use Rattle.vyrd_spec.specs.Shown.{most_shown}
-use Rattle.vyrd_judge.specs.Waiting.{waiting_at, waiting_after}
 use Rattle.vyrd_judge.proofs.AlikeLaws.{alike_count}
 use Rattle.vyrd_judge.proofs.WaitingLaws.{uncommitted}
 use Rattle.vyrd_judge.proofs.AnswersLeft.{seen_few_all}

@@ -1,3 +1,4 @@
+mod Prelude
 pub mod AlikeLaws
 pub mod AnswerLaws
 pub mod AnswersLeft

@@ -1,16 +1,9 @@
 -- What the online judge answers, by what it keeps.
-use Rattle.std.proofs.Common.{◌≡◌, List, [], ◌++◌, Some, None, Result, subst, arith, append_assoc}
-use Rattle.std.specs.Prelude.{OnErr}
-use Rattle.vyrd_base.specs.Rules.{rules_by}
-use Rattle.vyrd_base.specs.declared.log.Entry.{Entry}
-use Rattle.vyrd_base.specs.declared.log.StartWord.{StartWord}
-use Rattle.vyrd_base.specs.declared.verdict.Verdict.{Verdict}
-use Rattle.vyrd_base.specs.declared.verdict.Stop.TheVariants.{End}
-use Rattle.vyrd_base.specs.Verdicts.{verdict_so_far, verdict_at, verdict}
-use Rattle.vyrd_base.proofs.VerdictLaws.{verdict_lasts}
-use Rattle.vyrd_judge.specs.Following.{FollowerKept, JudgeView, FollowsBy, HasFollowed, IsFaultless}
-use Rattle.vyrd_judge.specs.Following.{HasTakenIn}
-use Rattle.vyrd_base.proofs.VerdictParts.{no_first_fault, so_far_kept, verdict_standing}
+use Rattle.vyrd_judge.proofs.Prelude.{◌≡◌, List, [], ◌++◌, Some, None, Result, subst, arith}
+use Rattle.vyrd_judge.proofs.Prelude.{append_assoc, OnErr, rules_by, Entry, StartWord, Verdict, End}
+use Rattle.vyrd_judge.proofs.Prelude.{verdict_so_far, verdict_at, verdict, verdict_lasts}
+use Rattle.vyrd_judge.proofs.Prelude.{FollowerKept, JudgeView, FollowsBy, HasFollowed, IsFaultless}
+use Rattle.vyrd_judge.proofs.Prelude.{HasTakenIn, no_first_fault, so_far_kept, verdict_standing}
 
 pub standing : {j : JudgeView} {starting : List StartWord} {log : List Entry} {v : Verdict}
     → j.so_far ≡ Some v → HasFollowed j starting log

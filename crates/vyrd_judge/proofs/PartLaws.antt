@@ -1,31 +1,18 @@
 -- The effects of a log in parts, as it grows by one entry.
-use Rattle.std.proofs.Common.{◌≡◌, ℕ, suc, ◌+◌, ◌-◌, ◌<◌, ◌≤◌, Bool, true, false, cond}
-use Rattle.std.proofs.Common.{List, [], ◌∷◌, ◌++◌, length, None, refl, ap, ◌∙◌, sym, arith}
-use Rattle.std.proofs.Common.{append-nil}
-use Rattle.std.specs.Prelude.{◌==◌, unwrap_or}
-use Rattle.std.specs.Option.{option_or}
-use Rattle.vyrd_base.specs.declared.header.Header.{Header}
-use Rattle.vyrd_base.specs.declared.log.Kind.{Kind}
-use Rattle.vyrd_base.specs.declared.log.Kind.TheVariants.{BlockClose}
-use Rattle.vyrd_base.specs.declared.log.Entry.{Entry}
-use Rattle.vyrd_base.specs.Places.{newest_first_onto, first_answer}
-use Rattle.vyrd_base.specs.Callers.{by_caller, commit_or_open, has_inner_commit}
-use Rattle.vyrd_base.specs.Shape.{broken_rule}
-use Rattle.vyrd_base.specs.Words.{block_writes, effects_at, is_lone_commit}
-use Rattle.vyrd_base.specs.BlockEnds.{ended_effects_at}
-use Rattle.vyrd_base.specs.Commits.{is_commit, commit_count}
-use Rattle.vyrd_base.specs.Front.{WellFormed}
-use Rattle.vyrd_base.proofs.BlockLaws.{entry}
-use Rattle.vyrd_base.proofs.ShadowLaws.{all_kept}
+use Rattle.vyrd_judge.proofs.Prelude
+use Prelude.{◌≡◌, ℕ, suc, ◌+◌, ◌-◌, ◌<◌, ◌≤◌, Bool, true, false, cond, List, [], ◌∷◌, ◌++◌, length}
+use Prelude.{None, refl, ap, ◌∙◌, sym, arith, append-nil, ◌==◌, unwrap_or, option_or, Header, Kind}
+use Prelude.{BlockClose, Entry, newest_first_onto, first_answer, by_caller, has_inner_commit}
+use Prelude.{broken_rule, effects_at, ended_effects_at, is_commit, commit_count, WellFormed, entry}
+use Prelude.{all_kept, never, own_inner, commit_count-cons, is_same, isnt_same, effect_parts}
+use Prelude.{with_effects, cut_if, parts_behind, ends_block, is_ended}
+use Rattle.vyrd_base.specs.Callers.{commit_or_open}
+use Rattle.vyrd_base.specs.Words.{block_writes, is_lone_commit}
 use Rattle.vyrd_base.proofs.EffectLaws.{SameEffects, same_after, ends_committed_block, MoreAt}
-use Rattle.vyrd_base.proofs.EffectLaws.{at_commit, own, other, MoreAtCommit, more_after, never}
-use Rattle.vyrd_base.proofs.EffectLaws.{committed_since_open, own_inner}
-use Rattle.vyrd_base.proofs.EffectLaws.{inner_is_committed}
-use Rattle.vyrd_base.proofs.Lasting.{commit_count-cons}
-use Rattle.vyrd_base.proofs.TestLaws.{is_same, isnt_same, lower_isnt, flipped, first_true}
-use Rattle.vyrd_base.proofs.TestLaws.{second_true}
-use Rattle.vyrd_words.specs.Effects.{effect_parts, with_effects, cut_if, number_at, inner_number}
-use Rattle.vyrd_words.specs.Effects.{parts_behind, ends_block, is_ended}
+use Rattle.vyrd_base.proofs.EffectLaws.{at_commit, own, other, MoreAtCommit, more_after}
+use Rattle.vyrd_base.proofs.EffectLaws.{committed_since_open, inner_is_committed}
+use Rattle.vyrd_base.proofs.TestLaws.{lower_isnt, flipped, first_true, second_true}
+use Rattle.vyrd_words.specs.Effects.{number_at, inner_number}
 
 -- The effects at the entries from a place on, in parts as `effect_parts` has them, where these
 -- entries stand after them all.

@@ -1,45 +1,20 @@
 -- How the queue goes on with one more entry, and how entries leave it.
-use Rattle.std.proofs.Common.{◌≡◌, ℕ, zero, suc, ◌+◌, ◌-◌, ◌<◌, ◌≤◌, Bool, true, false}
-use Rattle.std.proofs.Common.{List, [], ◌∷◌, ◌++◌, map, length, set, Option, Some}
-use Rattle.std.proofs.Common.{None, slice_get, refl, ap, ◌∙◌, sym, arith}
-use Rattle.std.proofs.Common.{length-append, length-set}
-use Rattle.std.specs.Prelude.{◌==◌, ◌≢◌, not, option_map}
-use Rattle.std.specs.Option.{option_or}
-use Rattle.std.specs.Bool.{then_some}
-use Rattle.std.specs.List.{cons_option}
-use Rattle.std.proofs.lemmas.Option.{slice_get_within, none-some}
-use Rattle.std.proofs.lemmas.Option.{same_Some}
-use Rattle.std.proofs.lemmas.List.{append-nil}
-use Rattle.vyrd_base.specs.declared.header.Header.{Header}
-use Rattle.vyrd_base.specs.declared.subject.Method.{Method}
-use Rattle.vyrd_base.specs.declared.subject.Args.{Args}
-use Rattle.vyrd_base.specs.declared.log.Kind.{Kind}
-use Rattle.vyrd_base.specs.declared.log.Kind.TheVariants.{Call, Return, Write, BlockOpen}
-use Rattle.vyrd_base.specs.declared.log.Kind.TheVariants.{BlockClose}
-use Rattle.vyrd_base.specs.declared.log.Entry.{Entry}
-use Rattle.vyrd_base.specs.Callers.{Called, by_caller, open_call, call_or_return, has_committed}
-use Rattle.vyrd_base.specs.Callers.{commit_or_call}
-use Rattle.vyrd_base.specs.Subjects.{is_observer, must_commit}
-use Rattle.vyrd_base.specs.Commits.{returned}
-use Rattle.vyrd_base.proofs.BlockLaws.{entry, by_same, own_answer, open_call-quiet}
-use Rattle.vyrd_base.proofs.ShadowLaws.{all_kept, caller_kept}
-use Rattle.vyrd_base.proofs.TestLaws.{same_of, is_same, apart_of}
-use Rattle.vyrd_judge.specs.declared.caller.Caller.{Caller}
-use Rattle.vyrd_judge.specs.declared.waiting.Event.{Event}
-use Rattle.vyrd_judge.specs.declared.waiting.Event.TheVariants.{Begins, Commits, Returns}
-use Rattle.vyrd_judge.specs.declared.waiting.Waiting.{Waiting}
-use Rattle.vyrd_words.specs.HasWords.{Keeps}
+use Rattle.vyrd_judge.proofs.Prelude
+use Prelude.{◌≡◌, ℕ, zero, suc, ◌+◌, ◌-◌, ◌<◌, ◌≤◌, Bool, true, false, List, [], ◌∷◌, ◌++◌, map}
+use Prelude.{length, set, Option, Some, None, slice_get, refl, ap, ◌∙◌, sym, arith, length-append}
+use Prelude.{length-set, ◌==◌, ◌≢◌, not, option_map, option_or, then_some, cons_option}
+use Prelude.{slice_get_within, none-some, same_Some, append-nil, Header, Method, Args, Kind, Call}
+use Prelude.{Return, Write, BlockOpen, BlockClose, Entry, Called, by_caller, open_call}
+use Prelude.{call_or_return, has_committed, commit_or_call, is_observer, must_commit, returned}
+use Prelude.{entry, by_same, own_answer, open_call-quiet, all_kept, caller_kept, same_of, is_same}
+use Prelude.{apart_of, Caller, Event, Begins, Commits, Returns, Waiting, Keeps, place_of, IsCaller}
+use Prelude.{IsPending, IsUnreturned, HasQueued, HasTakenUp, CanLeave, waiting_of, waiting_at}
+use Prelude.{replied, commit_kept, block_commit_runs, committed-other, committed-quiet}
+use Prelude.{committed-own, slice_get-set_same, slice_get-set_other, slice_get-last}
 use Rattle.vyrd_judge.proofs.AnswerLaws.{call_is_free}
-use Rattle.vyrd_base.specs.Entries.{place_of}
-use Rattle.vyrd_judge.specs.Queued.{IsCaller, IsPending, IsUnreturned, HasQueued, HasTakenUp}
-use Rattle.vyrd_judge.specs.Queued.{CanLeave}
-use Rattle.vyrd_judge.specs.Waiting.{waiting_of, waiting_at, replied}
 use Rattle.vyrd_base.proofs.StateLaws.{open_call-other}
-use Rattle.vyrd_base.proofs.CommitLaws.{Commits as Committing, alone, with_block, commits_called}
-use Rattle.vyrd_base.proofs.CommitLaws.{commits_inside, commits_unreturned}
-use Rattle.vyrd_base.proofs.KeptLaws.{commit_kept, block_commit_runs}
-use Rattle.vyrd_base.proofs.CommittedLaws.{committed-other, committed-quiet, committed-own}
-use Rattle.vyrd_base.proofs.ListLaws.{slice_get-set_same, slice_get-set_other, slice_get-last}
+use Rattle.vyrd_base.proofs.CommitLaws.{alone, with_block, commits_called, commits_inside}
+use Rattle.vyrd_base.proofs.CommitLaws.{commits_unreturned, Commits as Committing}
 
 pub apart : false ≡ true → ⊥
 apart e = cc

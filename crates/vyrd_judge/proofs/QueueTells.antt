@@ -1,33 +1,15 @@
 -- What the entries that wait tell of the one that comes: its caller, how many wait, and where a
 -- reply goes.
-use Rattle.std.proofs.Common.{◌≡◌, ℕ, ◌+◌, ◌-◌, ◌<◌, ◌^◌, Bool, true, false, List, [], ◌∷◌, ◌++◌}
-use Rattle.std.proofs.Common.{length, set, get_or, ◌&&◌, Option, Some, Result, slice_get, refl, ap}
-use Rattle.std.proofs.Common.{◌∙◌, sym, arith}
-use Rattle.std.specs.Prelude.{◌==◌, ◌≢◌, not, OnOk, IfOk}
-use Rattle.std.specs.List.{cons_option}
-use Rattle.std.proofs.lemmas.Option.{slice_get_within, get_or_from_slice_get}
-use Rattle.std.proofs.Math.Logic.{∥∥₁_elim}
-use Rattle.std.proofs.Math.Bool.{Bool-set}
-use Rattle.vyrd_base.specs.declared.header.Header.{Header}
-use Rattle.vyrd_base.specs.declared.log.Kind.{Kind}
-use Rattle.vyrd_base.specs.declared.log.Kind.TheVariants.{Return}
-use Rattle.vyrd_base.specs.declared.log.Entry.{Entry}
-use Rattle.vyrd_base.specs.Callers.{Called, open_call, has_committed}
-use Rattle.vyrd_base.specs.Subjects.{is_observer}
-use Rattle.vyrd_base.specs.Verdicts.{is_return}
-use Rattle.vyrd_base.proofs.BlockLaws.{entry}
-use Rattle.vyrd_base.proofs.ShadowLaws.{caller_kept}
-use Rattle.vyrd_base.proofs.TestLaws.{below_of, is_below, is_same, isnt_same}
-use Rattle.vyrd_words.proofs.WordsLaws.{keeps_as}
-use Rattle.vyrd_judge.specs.declared.caller.Caller.{Caller}
-use Rattle.vyrd_judge.specs.declared.waiting.Event.TheVariants.{Commits, Returns}
-use Rattle.vyrd_judge.specs.declared.waiting.Waiting.{Waiting}
-use Rattle.vyrd_words.specs.HasWords.{Keeps}
-use Rattle.vyrd_judge.specs.Queued.{IsCaller, IsPending, HasQueued, HasTakenUp}
-use Rattle.vyrd_judge.specs.Queued.{MayQueue, AwaitsReturn}
+use Rattle.vyrd_judge.proofs.Prelude
+use Prelude.{◌≡◌, ℕ, ◌+◌, ◌-◌, ◌<◌, ◌^◌, Bool, true, false, List, [], ◌∷◌, ◌++◌, length, set}
+use Prelude.{get_or, ◌&&◌, Option, Some, Result, slice_get, refl, ap, ◌∙◌, sym, arith, ◌==◌, ◌≢◌}
+use Prelude.{not, OnOk, IfOk, cons_option, ∥∥₁_elim, Bool-set, Header, Kind, Return, Entry, Called}
+use Prelude.{open_call, has_committed, is_observer, is_return, entry, caller_kept, below_of}
+use Prelude.{is_below, is_same, isnt_same, keeps_as, Caller, Commits, Returns, Waiting, Keeps}
+use Prelude.{IsCaller, IsPending, HasQueued, HasTakenUp, MayQueue, AwaitsReturn, return_kept}
+use Rattle.std.proofs.lemmas.Option.{get_or_from_slice_get, slice_get_within}
 use Rattle.vyrd_judge.specs.WaitingView.{is_unreturned}
 use Rattle.vyrd_base.proofs.CommitLaws.{Commits as Committing}
-use Rattle.vyrd_base.proofs.KeptLaws.{return_kept}
 use Rattle.vyrd_judge.proofs.QueueLaws.{apart, commit_opened, uncommitted_up, found_commit}
 use Rattle.vyrd_judge.proofs.QueueLaws.{committed_up}
 

@@ -1,32 +1,15 @@
 -- The fault at a place that is reached, and what is reached after it.
-use Rattle.std.proofs.Common.{◌≡◌, ℕ, ◌≤◌, true, false, cond, ◌||◌, List, ◌∷◌, length, Option, Some}
-use Rattle.std.proofs.Common.{None, ap, ◌∙◌, sym}
-use Rattle.std.specs.Prelude.{◌==◌, option_map, option_and_then}
-use Rattle.std.specs.List.{list_any}
-use Rattle.vyrd_base.specs.declared.log.Kind.{Kind}
-use Rattle.vyrd_base.specs.declared.log.Kind.TheVariants.{Return}
-use Rattle.vyrd_base.specs.declared.log.Entry.{Entry}
-use Rattle.vyrd_base.specs.declared.log.StartWord.{StartWord}
-use Rattle.vyrd_base.specs.declared.verdict.Why.{Why}
-use Rattle.vyrd_base.specs.declared.verdict.Why.TheVariants.{Reply, View, Observer}
-use Rattle.vyrd_base.specs.Callers.{Called, open_call, has_committed}
-use Rattle.vyrd_base.specs.Amounts.{Amounts, first_difference}
-use Rattle.vyrd_base.specs.States.{State}
-use Rattle.vyrd_base.specs.Words.{words_at}
-use Rattle.vyrd_base.specs.Commits.{next_reply, committed_at, commits_after, commit_count}
-use Rattle.vyrd_base.specs.Commits.{state_after}
-use Rattle.vyrd_base.specs.Faults.{step_fault, states_since_call, observer_fault, fault_at}
-use Rattle.vyrd_base.proofs.BlockLaws.{entry}
-use Rattle.vyrd_base.specs.Entries.{place_of}
-use Rattle.vyrd_observers.specs.Watching.{Seen, has_answer}
-use Rattle.vyrd_judge.specs.Reached.{IsWatched}
-use Rattle.vyrd_judge.specs.Reached.{Reached}
-use Rattle.vyrd_observers.specs.Watching.{AllSee}
+use Rattle.vyrd_judge.proofs.Prelude
+use Prelude.{◌≡◌, ℕ, ◌≤◌, true, false, cond, ◌||◌, List, ◌∷◌, length, Option, Some, None, ap, ◌∙◌}
+use Prelude.{sym, ◌==◌, option_map, option_and_then, list_any, Kind, Return, Entry, StartWord, Why}
+use Prelude.{Reply, View, Observer, Called, open_call, has_committed, Amounts, first_difference}
+use Prelude.{State, words_at, next_reply, committed_at, commits_after, commit_count, state_after}
+use Prelude.{step_fault, states_since_call, observer_fault, fault_at, entry, place_of, Seen}
+use Prelude.{has_answer, IsWatched, Reached, AllSee, Rules}
 use Rattle.vyrd_base.proofs.CommitLaws.{Commits, commits_is, commits_called, commits_inside}
 use Rattle.vyrd_base.proofs.CommitLaws.{commits_uncalled, fault_of_commit_kind}
 use Rattle.vyrd_base.proofs.StateLaws.{state_here, ending-commit}
 use Rattle.vyrd_judge.proofs.Reaching.{OthersStay, reached_commit}
-use Rattle.vyrd_base.specs.Rules.{Rules}
 
 -- what the words show at a commit
 abbrev pub shown_there : Rules → List StartWord → ℕ → Kind → List Entry → List Entry → Amounts

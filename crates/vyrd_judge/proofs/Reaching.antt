@@ -1,34 +1,15 @@
 -- What is reached at a place is reached at the next one, entry by entry.
-use Rattle.std.proofs.Common.{◌≡◌, ℕ, ◌+◌, Bool, true, false, List, [], ◌∷◌, ◌++◌, drop, Option}
-use Rattle.std.proofs.Common.{Some, None, slice_get, refl, ap, subst, ◌∙◌, sym}
-use Rattle.std.specs.Prelude.{◌==◌}
-use Rattle.std.specs.List.{list_any}
-use Rattle.std.proofs.lemmas.List.Folds.{list_any-append}
-use Rattle.std.proofs.lemmas.Option.{same_Some}
-use Rattle.std.proofs.Math.Bool.{or-false}
-use Rattle.vyrd_base.specs.declared.subject.Method.{Method}
-use Rattle.vyrd_base.specs.declared.subject.Args.{Args}
-use Rattle.vyrd_base.specs.declared.log.Kind.{Kind}
-use Rattle.vyrd_base.specs.declared.log.Kind.TheVariants.{Call, Return}
-use Rattle.vyrd_base.specs.declared.log.Entry.{Entry}
-use Rattle.vyrd_base.specs.Callers.{Called, open_call, call_or_return, commit_or_call, is_call}
-use Rattle.vyrd_base.specs.Subjects.{must_commit}
-use Rattle.vyrd_base.specs.States.{State}
-use Rattle.vyrd_base.specs.Commits.{is_commit, Committed, committed_at, commits_after, state_after}
-use Rattle.vyrd_base.specs.Commits.{states_from, commit_count}
-use Rattle.vyrd_base.specs.Faults.{states_since_call}
-use Rattle.vyrd_base.proofs.BlockLaws.{entry, by_same, own_answer, open_call-quiet}
-use Rattle.vyrd_base.proofs.TestLaws.{same_number}
-use Rattle.vyrd_base.specs.Entries.{has_method}
-use Rattle.vyrd_observers.specs.Watching.{Seen, SeesAnswer}
-use Rattle.vyrd_judge.specs.Reached.{IsWatched}
-use Rattle.vyrd_judge.specs.Reached.{Reached}
-use Rattle.vyrd_observers.specs.Watching.{AllSee}
+use Rattle.vyrd_judge.proofs.Prelude
+use Prelude.{◌≡◌, ℕ, ◌+◌, Bool, true, false, List, [], ◌∷◌, ◌++◌, drop, Option, Some, None}
+use Prelude.{slice_get, refl, ap, subst, ◌∙◌, sym, ◌==◌, list_any, list_any-append, same_Some}
+use Prelude.{or-false, Method, Args, Kind, Call, Return, Entry, Called, open_call, call_or_return}
+use Prelude.{commit_or_call, is_call, must_commit, State, is_commit, Committed, committed_at}
+use Prelude.{commits_after, state_after, states_from, commit_count, states_since_call, entry}
+use Prelude.{by_same, own_answer, open_call-quiet, same_number, has_method, Seen, SeesAnswer}
+use Prelude.{IsWatched, Reached, AllSee, committed-other, committed-quiet, committed-own, Rules}
 use Rattle.vyrd_base.proofs.StateLaws.{open_call-other, before_call-other, before_call-quiet}
 use Rattle.vyrd_base.proofs.StateLaws.{count-commit, window-quiet, window-commit, window-call}
 use Rattle.vyrd_base.proofs.StateLaws.{state_here, going-quiet, going-commit}
-use Rattle.vyrd_base.proofs.CommittedLaws.{committed-other, committed-quiet, committed-own}
-use Rattle.vyrd_base.specs.Rules.{Rules}
 
 -- an open execution is watched on where the entry leaves its window
 watched_on : (r : Rules) {states : List State} {c : ℕ} {e : Entry} {earlier : List Entry}

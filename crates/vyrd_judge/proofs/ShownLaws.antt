@@ -1,20 +1,10 @@
 -- A state shows no more keys than the words did at the commit before, and these no more than the
 -- charter says.
-use Rattle.std.proofs.Common.{◌≡◌, ℕ, ◌≤◌, List, [], length, Some, None, ap, sym, arith}
-use Rattle.vyrd_base.specs.declared.log.StartWord.{StartWord}
-use Rattle.vyrd_base.specs.declared.subject.Method.{Method}
-use Rattle.vyrd_base.specs.declared.subject.Args.{Args}
-use Rattle.vyrd_base.specs.Amounts.{IsAmounts, first_difference}
-use Rattle.vyrd_base.specs.Rules.{Rules, Charter, rules_by}
-use Rattle.vyrd_base.specs.Starts.{words_at_start, state_at_start}
-use Rattle.vyrd_base.specs.States.{State}
-use Rattle.vyrd_base.specs.Words.{words_with}
-use Rattle.vyrd_base.proofs.AmountLaws.{same_amounts}
-use Rattle.vyrd_base.proofs.DifferenceLaws.{first_difference_none}
-use Rattle.vyrd_base.proofs.PlaceLaws.{length-mapped}
-use Rattle.vyrd_spec.specs.Shown.{most_shown}
-use Rattle.vyrd_spec.proofs.ShownLaws.{AreFormed, StartsFew, starts_few, few_view}
-use Rattle.vyrd_judge.specs.Shown.{ShowsFew}
+use Rattle.vyrd_judge.proofs.Prelude
+use Prelude.{◌≡◌, ℕ, ◌≤◌, List, [], length, Some, None, ap, sym, arith, StartWord, Method, Args}
+use Prelude.{IsAmounts, first_difference, Rules, Charter, rules_by, words_at_start, state_at_start}
+use Prelude.{State, words_with, same_amounts, first_difference_none, length-mapped, most_shown}
+use Prelude.{AreFormed, StartsFew, starts_few, few_view, ShowsFew}
 
 -- the state at the start shows no more than the words that the log begins with
 pub start_shows : (c : Charter) (starting : List StartWord) (state : State)

@@ -1,33 +1,15 @@
 -- What waits as the log grows by one entry, and what an entry that waits is.
-use Rattle.std.proofs.Common.{◌≡◌, ℕ, Bool, true, false, List, [], ◌∷◌, ◌++◌, map, length, Option}
-use Rattle.std.proofs.Common.{Some, None, refl, ap, subst, ◌∙◌, sym}
-use Rattle.std.specs.Prelude.{not, option_map, filter_map}
-use Rattle.std.specs.Option.{option_or}
-use Rattle.std.specs.Bool.{then_some}
-use Rattle.std.specs.List.{cons_option}
-use Rattle.vyrd_base.specs.declared.subject.Method.{Method}
-use Rattle.vyrd_base.specs.declared.subject.Args.{Args}
-use Rattle.vyrd_base.specs.declared.log.Kind.{Kind}
-use Rattle.vyrd_base.specs.declared.log.Kind.TheVariants.{Call, Return, Write, Commit, BlockOpen}
-use Rattle.vyrd_base.specs.declared.log.Kind.TheVariants.{BlockClose, BlockCommit}
-use Rattle.vyrd_base.specs.declared.log.Entry.{Entry}
-use Rattle.vyrd_base.specs.Places.{Place, places_after, newest_first_onto}
-use Rattle.vyrd_base.specs.Callers.{Called, open_call, has_committed, by_caller}
-use Rattle.vyrd_base.specs.declared.header.Header.{Header}
-use Rattle.vyrd_base.specs.Shape.{broken_rule}
-use Rattle.vyrd_base.specs.Subjects.{is_observer, must_commit}
-use Rattle.vyrd_base.specs.Commits.{is_commit, returned, next_reply}
-use Rattle.vyrd_base.proofs.BlockLaws.{entry}
-use Rattle.vyrd_base.proofs.KeptLaws.{commit_kept, block_commit_runs}
+use Rattle.vyrd_judge.proofs.Prelude
+use Prelude.{◌≡◌, ℕ, Bool, true, false, List, [], ◌∷◌, ◌++◌, map, length, Option, Some, None, refl}
+use Prelude.{ap, subst, ◌∙◌, sym, not, option_map, filter_map, option_or, then_some, cons_option}
+use Prelude.{Method, Args, Kind, Call, Return, Write, Commit, BlockOpen, BlockClose, BlockCommit}
+use Prelude.{Entry, Place, places_after, newest_first_onto, Called, open_call, has_committed}
+use Prelude.{by_caller, Header, broken_rule, is_observer, must_commit, is_commit, returned}
+use Prelude.{next_reply, entry, commit_kept, block_commit_runs, or_none, Event, Begins, Commits}
+use Prelude.{Returns, Waiting, place_of, commit_of, waiting_of, waiting_at, waiting_after, replied}
 use Rattle.vyrd_base.proofs.PlaceLaws.{with_later, places_after-append, first_answer-append}
-use Rattle.vyrd_base.proofs.ListLaws.{or_none}
-use Rattle.vyrd_judge.specs.declared.waiting.Event.{Event}
-use Rattle.vyrd_judge.specs.declared.waiting.Event.TheVariants.{Begins, Commits, Returns}
-use Rattle.vyrd_judge.specs.declared.waiting.Waiting.{Waiting}
-use Rattle.vyrd_base.specs.Entries.{place_of}
-use Rattle.vyrd_judge.specs.Waiting.{commit_of, event_of, waiting_of, waiting_at, waiting_after}
-use Rattle.vyrd_judge.specs.Waiting.{replied}
-use Rattle.vyrd_base.proofs.CommitLaws.{Commits as Committing, alone, with_block}
+use Rattle.vyrd_judge.specs.Waiting.{event_of}
+use Rattle.vyrd_base.proofs.CommitLaws.{alone, with_block, Commits as Committing}
 
 -- a list and what comes after it
 filter_map-append : {A B : Type 0} (f : A → Option B) (xs ys : List A) → filter_map f (xs ++ ys)

@@ -1,17 +1,10 @@
 -- How the workers of a live run ended, and what it says of the run.
-use Rattle.std.proofs.Common.{◌≡◌, ◌≢◌, ◌⊎◌, ℕ, ◌+◌, ◌<◌, ◌≤◌, List, [], Option, Some, arith}
-use Rattle.std.specs.Prelude.{slice_index_or}
+use Rattle.vyrd_live.proofs.Prelude.{slice_index_or, Header, Did, Stamped, Script, stop}
+use Rattle.vyrd_live.proofs.Prelude.{PlaysToTheEnd, script_of, Ending, Finished, Spent, HadRoom}
+use Rattle.vyrd_live.proofs.Prelude.{StopsForRoom, HasEnded, IsFirstSpent, done_by, HavePlayed}
+use Rattle.std.proofs.Common.{◌⊎◌, ◌≡◌, ◌≢◌, ℕ, ◌+◌, ◌<◌, ◌≤◌, List, [], Option, Some, arith}
 use Rattle.std.specs.Option.{option_or}
-use Rattle.vyrd_base.specs.declared.header.Header.{Header}
-use Rattle.vyrd_base.specs.declared.history.Did.{Did}
-use Rattle.vyrd_base.specs.declared.history.Stamped.{Stamped}
-use Rattle.vyrd_memory.specs.Scripts.{Script, stop, PlaysToTheEnd}
-use Rattle.vyrd_memory.specs.Turns.{script_of}
-use Rattle.vyrd_live.specs.declared.worker.Ending.{Ending}
-use Rattle.vyrd_live.specs.declared.worker.Ending.TheVariants.{Finished, Spent, Memory}
-use Rattle.vyrd_live.specs.Rooms.{HadRoom, StopsForRoom}
-use Rattle.vyrd_live.specs.Endings.{HasEnded, IsFirstSpent}
-use Rattle.vyrd_live.specs.LiveRuns.{done_by, HavePlayed}
+use Rattle.vyrd_live.specs.declared.worker.Ending.TheVariants.{Memory}
 
 -- what holds of each number below n, and of n
 one_more : (P : ℕ → Type 0) (n : ℕ) → ((i : ℕ) → i < n → P i) → P n → (i : ℕ) → i < n + 1 → P i

@@ -1,37 +1,18 @@
 -- A script that is played on a hand: what comes next may be done, and it stays so.
-use Rattle.std.proofs.Common.{◌≡◌, ◌≢◌, ℕ, ◌+◌, ◌≤◌, ◌^◌, Bool, true, false, not, ◌&&◌, ◌||◌, List}
-use Rattle.std.proofs.Common.{[], ◌∷◌, Some, None, refl, ap, ◌∙◌, sym, subst, arith, ne_eqb}
-use Rattle.std.specs.Prelude.{nat_lt, nat_le, ◌==◌, is_some, is_none, filter}
-use Rattle.std.specs.List.{list_any}
-use Rattle.std.proofs.Math.Logic.{∥∥₁_elim, ∥∥₁_map}
-use Rattle.std.proofs.Math.Bool.{Bool-set}
+use Rattle.vyrd_live.proofs.Prelude
+use Prelude.{◌≡◌, ◌≢◌, ℕ, ◌+◌, ◌≤◌, ◌^◌, Bool, true, false, not, ◌&&◌, ◌||◌, List, [], ◌∷◌, Some}
+use Prelude.{None, refl, ap, ◌∙◌, sym, subst, arith, ne_eqb, nat_lt, nat_le, ◌==◌, is_some, is_none}
+use Prelude.{filter, list_any, ∥∥₁_elim, ∥∥₁_map, Bool-set, Header, Call, Return, Write, Commit}
+use Prelude.{BlockOpen, BlockClose, BlockCommit, Did, Read, Wrote, Took, Gave, Marked, plain_words}
+use Prelude.{lock_words, cells_of, is_plain, is_lock, is_write, made_of, both_true, first_true}
+use Prelude.{second_true, below_of, same_of, at_most_of, Act, Load, Store, Take, Give, Mark, Done}
+use Prelude.{Script, stop, step, next_act, after_answer, event_of, is_stop, is_between, Situation}
+use Prelude.{IsSound, IsSoundSomewhere, at_rest, holds, is_nil, may_act, after_act, stop_of, Plan}
+use Prelude.{Look, last_value, HandView, Holds, with_spare, with_one_more, holds-taken, holds-still}
+use Prelude.{holds-beside, with_forgotten, MayAct, HasActed, IsMemoryOf, FitsHand}
 use mathlib.Core.Logic.{dite}
 use native.Mathlib.Decide.{ℕ_discrete}
-use Rattle.vyrd_base.specs.declared.header.Header.{Header}
 use Rattle.vyrd_base.specs.declared.log.Kind.{Kind}
-use Rattle.vyrd_base.specs.declared.log.Kind.TheVariants.{Call, Return, Write, Commit, BlockOpen}
-use Rattle.vyrd_base.specs.declared.log.Kind.TheVariants.{BlockClose, BlockCommit}
-use Rattle.vyrd_base.specs.declared.history.Did.{Did}
-use Rattle.vyrd_base.specs.declared.history.Did.TheVariants.{Read, Wrote, Took, Gave, Marked}
-use Rattle.vyrd_base.specs.Layout.{plain_words, lock_words}
-use Rattle.vyrd_base.specs.Histories.{cells_of, is_plain, is_lock, is_write, made_of}
-use Rattle.vyrd_base.proofs.TestLaws.{both_true, first_true, second_true, below_of, same_of}
-use Rattle.vyrd_base.proofs.TestLaws.{at_most_of}
-use Rattle.vyrd_memory.specs.declared.act.Act.{Act}
-use Rattle.vyrd_memory.specs.declared.act.Act.TheVariants.{Load, Store, Take, Give, Mark, Done}
-use Rattle.vyrd_memory.specs.Scripts.{Script, stop, step, next_act, after_answer, event_of, is_stop}
-use Rattle.vyrd_memory.specs.Scripts.{is_between}
-use Rattle.vyrd_memory.specs.Soundness.{Situation, IsSound, IsSoundSomewhere, at_rest, holds}
-use Rattle.vyrd_memory.specs.Soundness.{is_nil, may_act, after_act}
-use Rattle.vyrd_memory.specs.Laws.Underway.{stop_of}
-use Rattle.vyrd_trace.specs.declared.plan.Plan.{Plan}
-use Rattle.vyrd_trace.specs.declared.look.Look.{Look}
-use Rattle.vyrd_trace.specs.Lanes.{last_value}
-use Rattle.vyrd_trace.specs.Hands.{HandView, Holds, with_spare, with_one_more}
-use Rattle.vyrd_trace.proofs.Holding.{holds-taken, holds-still, holds-beside}
-use Rattle.vyrd_trace.specs.Hands.{with_forgotten}
-use Rattle.vyrd_live.specs.Acts.{MayAct, HasActed}
-use Rattle.vyrd_live.specs.Working.{IsMemoryOf, FitsHand}
 
 -- the same as `MayAct`, as a test
 may_test : Plan → HandView → Act → Bool

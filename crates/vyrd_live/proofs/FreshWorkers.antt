@@ -1,27 +1,12 @@
 -- Workers that haven't begun: those of a workload's callers.
-use Rattle.std.proofs.Common.{◌≡◌, ℕ, suc, ◌+◌, ◌<◌, ◌≤◌, List, [], ◌∷◌, map, length, refl, ap, ◌∙◌}
-use Rattle.std.proofs.Common.{sym, arith}
-use Rattle.std.specs.Prelude.{slice_index, slice_index_or, Option, None, Result, IfOk, IfSome}
-use Rattle.std.specs.List.{All}
-use Rattle.std.proofs.lemmas.List.{get_or-map, length-map}
-use Rattle.std.proofs.lemmas.List.Elements.{All-map}
-use Rattle.vyrd_base.specs.declared.header.Header.{Header}
-use Rattle.vyrd_base.specs.declared.history.Stamped.{Stamped}
-use Rattle.vyrd_base.specs.Places.{numbers_from, numbers_below}
-use Rattle.vyrd_memory.specs.Scripts.{Script, is_between}
-use Rattle.vyrd_memory.specs.Bounds.{bounds_of}
-use Rattle.vyrd_memory.proofs.NumberLists.{element_below}
+use Rattle.vyrd_live.proofs.Prelude
+use Prelude.{◌≡◌, ℕ, suc, ◌+◌, ◌<◌, ◌≤◌, List, [], ◌∷◌, map, length, refl, ap, ◌∙◌, sym, arith}
+use Prelude.{slice_index, slice_index_or, Option, None, Result, IfOk, IfSome, All, get_or-map}
+use Prelude.{length-map, All-map, Header, Stamped, numbers_from, numbers_below, Script, is_between}
+use Prelude.{bounds_of, element_below, TracedView, HandView, AreNew, AreAll, Workload, KeepsLimits}
+use Prelude.{ops_of, work_script, work_scripts, IsCorrectWithFewEvents, most_few_events, few_events}
+use Prelude.{Worker, HavePlayed, IsFresh, IsWorkerOf, AreMadeFor, work_bounds, IsMemoryOf}
 use Rattle.vyrd_memory.specs.Laws.Player.{operations-between}
-use Rattle.vyrd_trace.specs.Hands.{TracedView, HandView, AreNew, AreAll}
-use Rattle.vyrd_work.specs.Workloads.{Workload}
-use Rattle.vyrd_work.specs.WorkLimits.{KeepsLimits}
-use Rattle.vyrd_work.specs.WorkScripts.{ops_of, work_script, work_scripts}
-use Rattle.vyrd_every.specs.Schedules.{IsCorrectWithFewEvents, most_few_events}
-use Rattle.vyrd_every.proofs.Workloads.{few_events}
-use Rattle.vyrd_live.specs.declared.worker.Worker.{Worker}
-use Rattle.vyrd_live.specs.LiveRuns.{HavePlayed}
-use Rattle.vyrd_live.specs.Workers.{IsFresh, IsWorkerOf, AreMadeFor, work_bounds}
-use Rattle.vyrd_live.specs.Working.{IsMemoryOf}
 use Rattle.vyrd_live.proofs.WorkerLists.{first_hands}
 
 -- each worker has the machine of its hand's caller

@@ -1,15 +1,10 @@
 -- A sink that was shown in order what came of a history has taken the history.
-use Rattle.std.proofs.Common.{◌≡◌, ◌≢◌, ℕ, zero, suc, ◌<◌, ◌≤◌, List, [], ◌∷◌, ◌++◌, length, take}
-use Rattle.std.proofs.Common.{Bool, true, false, cond, Option, Some, None, refl, sym, ap, ◌∙◌}
-use Rattle.std.proofs.Common.{subst, arith}
-use Rattle.std.specs.Prelude.{◌==◌, is_some, slice_get}
+use Rattle.vyrd_live.proofs.Prelude.{◌≡◌, ◌≢◌, ℕ, zero, suc, ◌<◌, ◌≤◌, List, [], ◌∷◌, ◌++◌, length}
+use Rattle.vyrd_live.proofs.Prelude.{take, Bool, true, false, cond, Option, Some, None, refl, sym}
+use Rattle.vyrd_live.proofs.Prelude.{ap, ◌∙◌, subst, arith, ◌==◌, is_some, slice_get, All, take_all}
+use Rattle.vyrd_live.proofs.Prelude.{Stamped, Cells, is_legal, part}
 use Rattle.std.specs.Option.{option_to_list}
-use Rattle.std.specs.List.{All}
-use Rattle.std.proofs.lemmas.List.{take_all}
 use Rattle.std.proofs.lemmas.Option.{slice_get_within, get_or_from_slice_get}
-use Rattle.vyrd_base.specs.declared.history.Stamped.{Stamped}
-use Rattle.vyrd_base.specs.Histories.{Cells, is_legal}
-use Rattle.vyrd_base.specs.Parts.{part}
 use Rattle.vyrd_trace.proofs.HistoryGrows.{numbered as number_at}
 use Rattle.vyrd_trace.proofs.Parts.{part_in, in_part}
 use Rattle.vyrd_verifier.specs.Taken.{numbered, in_order_below}

@@ -1,3 +1,4 @@
+mod Prelude
 pub mod Lanes
 pub mod RoomLaws
 pub mod FitLaws

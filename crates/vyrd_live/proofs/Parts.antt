@@ -1,16 +1,9 @@
 -- What each caller did in a history that was put together from lanes.
-use Rattle.std.proofs.Common.{◌≡◌, ◌≢◌, ℕ, suc, ◌≤◌, Bool, true, false, cond, List, [], ◌∷◌, map}
-use Rattle.std.proofs.Common.{Some, None, refl, ap, ◌∙◌, arith, ne_eqb}
-use Rattle.std.specs.Prelude.{◌==◌, slice_get}
-use Rattle.std.specs.List.{cons_option}
-use Rattle.vyrd_base.specs.declared.history.Stamped.{Stamped}
-use Rattle.vyrd_base.specs.Places.{newest_first, newest_first_onto}
-use Rattle.vyrd_base.specs.Histories.{Cells, is_legal}
-use Rattle.vyrd_memory.specs.Turns.{part_of}
-use Rattle.vyrd_base.specs.Parts.{part}
+use Rattle.vyrd_live.proofs.Prelude.{◌≡◌, ◌≢◌, ℕ, suc, ◌≤◌, Bool, true, false, cond, List, [], ◌∷◌}
+use Rattle.vyrd_live.proofs.Prelude.{map, Some, None, refl, ap, ◌∙◌, arith, ne_eqb, ◌==◌, slice_get}
+use Rattle.vyrd_live.proofs.Prelude.{cons_option, Stamped, newest_first, newest_first_onto, Cells}
+use Rattle.vyrd_live.proofs.Prelude.{is_legal, part_of, part, dids_of, done_by}
 use Rattle.vyrd_trace.proofs.HistoryGrows.{numbered}
-use Rattle.vyrd_live.specs.Working.{dids_of}
-use Rattle.vyrd_live.specs.LiveRuns.{done_by}
 
 -- the events of one caller, in any order
 of_part : (c : ℕ) (es : List Stamped) → part_of c es ≡ map (λ (e : Stamped). e.did) (part c es)

@@ -1,19 +1,10 @@
 -- All workers with their senders, and what came of each.
-use Rattle.std.proofs.Common.{◌≡◌, ℕ, ◌+◌, ◌<◌, List, ◌∷◌, length, map, sym, ap, ◌∙◌, subst, arith}
-use Rattle.std.specs.Prelude.{slice_index_or}
-use Rattle.std.specs.List.{All}
-use Rattle.std.proofs.lemmas.List.{ext_get_or, get_or-map, length-map}
-use Rattle.vyrd_base.specs.declared.header.Header.{Header}
-use Rattle.vyrd_base.specs.declared.history.Stamped.{Stamped}
-use Rattle.vyrd_memory.specs.Scripts.{Script}
-use Rattle.vyrd_base.specs.Parts.{part}
-use Rattle.vyrd_trace.specs.Hands.{TracedView, HandView, AreAll}
-use Rattle.vyrd_relay.specs.Ends.{RelayView, SenderView, AreNew, HasAll}
-use Rattle.vyrd_live.specs.declared.worker.Worker.{Worker}
-use Rattle.vyrd_live.specs.declared.worker.Stopped.{Stopped}
-use Rattle.vyrd_live.specs.declared.outbox.Outbox.{Outbox}
-use Rattle.vyrd_live.specs.Workers.{HasWorked}
-use Rattle.vyrd_live.specs.Beside.{lanes_made}
+use Rattle.vyrd_live.proofs.Prelude
+use Prelude.{◌≡◌, ℕ, ◌+◌, ◌<◌, List, ◌∷◌, length, map, sym, ap, ◌∙◌, subst, arith, slice_index_or}
+use Prelude.{All, get_or-map, length-map, Header, Stamped, Script, part, TracedView, HandView}
+use Prelude.{AreAll, RelayView, SenderView, HasAll, Worker, Stopped, Outbox, HasWorked, lanes_made}
+use Rattle.std.proofs.lemmas.List.{ext_get_or}
+use Rattle.vyrd_relay.specs.Ends.{AreNew}
 use Rattle.vyrd_live.proofs.WorkerLists.{HaveWorked, element_of, hands}
 
 abbrev pub Done : Type 0

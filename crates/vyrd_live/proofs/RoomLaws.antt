@@ -1,25 +1,16 @@
 -- What it says that there is room for an operation.
-use Rattle.std.proofs.Common.{◌≡◌, ℕ, ◌+◌, ◌-◌, ◌<◌, ◌≤◌, max, length, true, false, Some, refl, sym}
-use Rattle.std.proofs.Common.{subst, arith}
-use Rattle.std.specs.Prelude.{◌≢◌, nat_le}
+use Rattle.vyrd_live.proofs.Prelude
+use Prelude.{◌≡◌, ℕ, ◌+◌, ◌-◌, ◌<◌, ◌≤◌, max, length, true, false, Some, refl, sym, subst, arith}
+use Prelude.{◌≢◌, nat_le, ∥∥₁_elim, ∥∥₁_map, Bool-set, Header, Call, Did, Act, Mark, Done, Script}
+use Prelude.{stop, step, next_act, after_answer, event_of, is_between, IsAnswer, is_return}
+use Prelude.{EndsWithin, HandView, with_spare, BeginsWithRoom, HasRoomAhead}
 use Rattle.std.proofs.lemmas.Bool.Decides.{nat_tests}
-use Rattle.std.proofs.Math.Logic.{∥∥₁_elim, ∥∥₁_map}
-use Rattle.std.proofs.Math.Bool.{Bool-set}
 use mathlib.Core.Logic.{dite}
 use native.Mathlib.Decide.{dec_lt}
-use Rattle.vyrd_base.specs.declared.header.Header.{Header}
-use Rattle.vyrd_base.specs.declared.log.Kind.TheVariants.{Call}
 use Rattle.vyrd_base.specs.declared.subject.Method.{Method}
 use Rattle.vyrd_base.specs.declared.subject.Args.{Args}
-use Rattle.vyrd_base.specs.declared.history.Did.{Did}
-use Rattle.vyrd_memory.specs.declared.act.Act.{Act}
-use Rattle.vyrd_memory.specs.declared.act.Act.TheVariants.{Mark, Done}
-use Rattle.vyrd_memory.specs.Scripts.{Script, stop, step, next_act, after_answer, event_of}
-use Rattle.vyrd_memory.specs.Scripts.{is_between, IsAnswer}
-use Rattle.vyrd_memory.specs.Bounds.{bound_of, is_return, EndsWithin}
-use Rattle.vyrd_trace.specs.Hands.{HandView, with_spare}
-use Rattle.vyrd_live.specs.Rooms.{BeginsWithRoom}
-use Rattle.vyrd_live.specs.Working.{HasRoom, HasRoomAhead}
+use Rattle.vyrd_memory.specs.Bounds.{bound_of}
+use Rattle.vyrd_live.specs.Working.{HasRoom}
 
 -- the number is the bound of the operation that the act begins
 abbrev pub IsNextBound : Header → Act → ℕ → Type 0

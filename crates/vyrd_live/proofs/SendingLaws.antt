@@ -1,17 +1,9 @@
 -- What was sent of a lane that grows.
-use Rattle.std.proofs.Common.{◌≡◌, ℕ, zero, suc, ◌+◌, length, take, drop, List, [], ◌∷◌, ◌++◌, refl}
-use Rattle.std.proofs.Common.{ap, ◌∙◌, sym, subst, arith, length-append}
-use Rattle.std.specs.List.{All}
-use Rattle.std.proofs.Math.Seq.{take-add}
-use Rattle.std.proofs.lemmas.List.{take-append-le, take_all, drop-drop, length-take, length-drop}
-use Rattle.std.proofs.lemmas.List.Elements.{All-push, All-take, All-drop}
-use Rattle.vyrd_base.specs.declared.history.Stamped.{Stamped}
-use Rattle.vyrd_memory.specs.declared.act.Act.{Act}
-use Rattle.vyrd_trace.specs.Lanes.{stamp}
-use Rattle.vyrd_trace.specs.Hands.{HandView}
-use Rattle.vyrd_relay.specs.Ends.{RelayView, SenderView, lane_sent, with_pushed}
-use Rattle.vyrd_live.specs.Acts.{HasActed}
-use Rattle.vyrd_live.specs.Sending.{HasSent}
+use Rattle.vyrd_live.proofs.Prelude
+use Prelude.{◌≡◌, ℕ, zero, suc, ◌+◌, length, take, drop, List, [], ◌∷◌, ◌++◌, refl, ap, ◌∙◌, sym}
+use Prelude.{subst, arith, length-append, All, take-add, take-append-le, take_all, drop-drop}
+use Prelude.{length-take, length-drop, All-push, All-take, All-drop, Stamped, Act, stamp, HandView}
+use Prelude.{RelayView, SenderView, lane_sent, with_pushed, HasActed, HasSent}
 
 -- the lane is as it was
 pub sent_same : (relay : RelayView) (sender : SenderView) (place : ℕ) (hand after : HandView)

@@ -1,22 +1,8 @@
 -- What is recorded of a run by turns is its run, and that of a correct structure is accepted.
-use Rattle.std.proofs.Common.{◌≡◌, ℕ, List, [], sym, subst, ◌∙◌}
-use Rattle.vyrd_base.specs.declared.history.Stamped.{Stamped}
-use Rattle.vyrd_base.specs.Histories.{log_of}
-use Rattle.vyrd_base.specs.Rules.{built_in, rules_by}
-use Rattle.vyrd_base.specs.Verdicts.{accepted, verdict}
-use Rattle.vyrd_memory.specs.Showing.{HasRun}
-use Rattle.vyrd_memory.specs.Turns.{RunsTo}
-use Rattle.vyrd_memory.proofs.LegalRuns.{run_is_legal, run_plays}
-use Rattle.vyrd_work.specs.Workloads.{Workload}
-use Rattle.vyrd_work.specs.WorkLimits.{KeepsLimits}
-use Rattle.vyrd_work.specs.WorkScripts.{work_scripts}
-use Rattle.vyrd_work.proofs.SoundScripts.{scripts_sound}
-use Rattle.vyrd_every.specs.Schedules.{IsCorrect}
-use Rattle.vyrd_every.proofs.Workloads.{schedule_accepted}
-use Rattle.vyrd_live.specs.declared.recording.Recording.{Recording}
-use Rattle.vyrd_live.specs.declared.run.Run.{Run}
-use Rattle.vyrd_live.specs.Recorded.{HasRecorded}
-use Rattle.vyrd_live.specs.TurnRuns.{IsRunByTurns}
+use Rattle.vyrd_live.proofs.Prelude
+use Prelude.{◌≡◌, ℕ, List, [], sym, subst, ◌∙◌, Stamped, log_of, built_in, rules_by, accepted}
+use Prelude.{verdict, HasRun, RunsTo, run_is_legal, run_plays, Workload, KeepsLimits, work_scripts}
+use Prelude.{scripts_sound, IsCorrect, schedule_accepted, Recording, Run, HasRecorded, IsRunByTurns}
 
 -- a recording that was shown the run by turns has what its run is made of
 pub run_recorded : (w : Workload) (r : Recording) (words : List ℕ) (run : Run)

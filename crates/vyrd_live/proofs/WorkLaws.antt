@@ -1,24 +1,14 @@
 -- A machine that is played on a hand, event by event.
-use Rattle.std.proofs.Common.{◌≡◌, ℕ, ◌+◌, ◌-◌, length, true, false, List, [], ◌∷◌, Some, refl, ap}
-use Rattle.std.proofs.Common.{◌∙◌, sym, subst, length-append}
-use Rattle.vyrd_base.specs.declared.header.Header.{Header}
-use Rattle.vyrd_base.specs.declared.history.Did.{Did}
-use Rattle.vyrd_base.specs.declared.history.Did.TheVariants.{Read, Took, Gave, Marked}
-use Rattle.vyrd_base.specs.declared.history.Stamped.{Stamped}
-use Rattle.vyrd_memory.specs.declared.act.Act.{Act}
-use Rattle.vyrd_memory.specs.declared.act.Act.TheVariants.{Load, Store, Take, Give, Mark, Done}
-use Rattle.vyrd_memory.specs.Scripts.{Script, next_act, after_answer, event_of, answer_of}
-use Rattle.vyrd_memory.specs.Scripts.{left_after, is_between, IsAnswer, Plays, PlaysToTheEnd}
-use Rattle.vyrd_memory.specs.Soundness.{IsSoundSomewhere}
-use Rattle.vyrd_memory.specs.Bounds.{is_return, EndsWithin}
-use Rattle.vyrd_trace.specs.Lanes.{stamp}
-use Rattle.vyrd_trace.specs.Hands.{HandView, with_spare}
-use Rattle.vyrd_live.specs.Rooms.{HadRoom, BeginsWithRoom, HasNoRoom, StopsForRoom}
-use Rattle.vyrd_live.specs.Working.{dids_of, IsWorking, HasRoomAhead}
-use Rattle.vyrd_live.specs.Acts.{HasActed}
+use Rattle.vyrd_live.proofs.Prelude
+use Prelude.{◌≡◌, ℕ, ◌+◌, ◌-◌, length, true, false, List, [], ◌∷◌, Some, refl, ap, ◌∙◌, sym, subst}
+use Prelude.{length-append, Header, Did, Read, Took, Gave, Marked, Stamped, Act, Load, Store, Take}
+use Prelude.{Give, Mark, Done, Script, next_act, after_answer, event_of, is_between, IsAnswer}
+use Prelude.{PlaysToTheEnd, IsSoundSomewhere, is_return, EndsWithin, stamp, HandView, with_spare}
+use Prelude.{HadRoom, BeginsWithRoom, HasNoRoom, StopsForRoom, dids_of, IsWorking, HasRoomAhead}
+use Prelude.{HasActed, with_forgotten}
+use Rattle.vyrd_memory.specs.Scripts.{answer_of, left_after, Plays}
 use Rattle.vyrd_live.proofs.Lanes.{dids_of-snoc, length-dids}
 use Rattle.vyrd_live.proofs.RoomLaws.{began_with_room, still_in_time}
-use Rattle.vyrd_trace.specs.Hands.{with_forgotten}
 use Rattle.vyrd_live.proofs.FitLaws.{fits_on, fits_with_room, fits_kept, fits_fresh, nothing_left}
 
 -- the answer that an act got is the one that its event gave

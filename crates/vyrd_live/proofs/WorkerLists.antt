@@ -1,26 +1,10 @@
 -- What all workers together leave.
-use Rattle.std.proofs.Common.{◌≡◌, ℕ, ◌<◌, List, [], ◌∷◌, map, length, true, Option, Some, None, ap}
-use Rattle.std.proofs.Common.{◌∙◌, sym, subst, arith}
-use Rattle.std.specs.Prelude.{slice_index, slice_index_or, IfSome}
-use Rattle.std.specs.List.{All}
-use Rattle.std.proofs.lemmas.List.{get_or-map, length-map, get_or_past}
-use Rattle.vyrd_base.specs.declared.header.Header.{Header}
-use Rattle.vyrd_base.specs.declared.history.Did.{Did}
-use Rattle.vyrd_base.specs.declared.history.Stamped.{Stamped}
-use Rattle.vyrd_base.specs.Histories.{is_legal}
-use Rattle.vyrd_memory.specs.Scripts.{Script, stop}
-use Rattle.vyrd_memory.specs.Turns.{script_of}
-use Rattle.vyrd_base.specs.Parts.{part}
-use Rattle.vyrd_trace.specs.Lanes.{cells_in}
-use Rattle.vyrd_trace.specs.Hands.{TracedView, HandView, IsOf, AreAll}
-use Rattle.vyrd_live.specs.declared.worker.Ending.{Ending}
-use Rattle.vyrd_live.specs.declared.worker.Ending.TheVariants.{Finished}
-use Rattle.vyrd_live.specs.declared.worker.Worker.{Worker}
-use Rattle.vyrd_live.specs.declared.worker.Stopped.{Stopped}
-use Rattle.vyrd_live.specs.Endings.{HasEnded, IsFirstSpent}
-use Rattle.vyrd_live.specs.Working.{dids_of}
-use Rattle.vyrd_live.specs.Workers.{HasWorked, AreMadeFor}
-use Rattle.vyrd_live.specs.LiveRuns.{done_by, HavePlayed}
+use Rattle.vyrd_live.proofs.Prelude
+use Prelude.{◌≡◌, ℕ, ◌<◌, List, [], ◌∷◌, map, length, true, Option, Some, None, ap, ◌∙◌, sym, subst}
+use Prelude.{arith, slice_index, slice_index_or, IfSome, All, get_or-map, length-map, get_or_past}
+use Prelude.{Header, Did, Stamped, is_legal, Script, stop, script_of, part, cells_in, TracedView}
+use Prelude.{HandView, IsOf, AreAll, Ending, Finished, Worker, Stopped, HasEnded, IsFirstSpent}
+use Prelude.{dids_of, HasWorked, AreMadeFor, done_by, HavePlayed}
 use Rattle.vyrd_live.proofs.Parts.{done_by-part, nothing_done}
 use Rattle.vyrd_live.proofs.EndingLaws.{played}
 

@@ -1,18 +1,15 @@
 -- Bytes that begin as a log with a specification in front does, and bytes that don't.
-use Rattle.std.proofs.Common.{◌≡◌, ℕ, ◌+◌, ◌-◌, ◌<◌, ◌≤◌, min, Bool, true, false, List, [], ◌++◌}
-use Rattle.std.proofs.Common.{length, take, drop, Option, Some, None, refl, ap, ◌∙◌, sym, arith}
-use Rattle.std.proofs.Common.{append_assoc, append-nil, take-append-drop}
-use Rattle.std.specs.Prelude.{◌≢◌, ◌==◌, nat_le}
+use Rattle.vyrd_log_check.proofs.Prelude
+use Prelude.{◌≡◌, ℕ, ◌+◌, ◌-◌, ◌<◌, ◌≤◌, Bool, true, false, List, [], ◌++◌, length, take, drop}
+use Prelude.{Option, Some, None, refl, ap, ◌∙◌, sym, arith, ◌==◌, nat_le, then_some, bytes_eq}
+use Prelude.{nat_tests, own_beginning, is_own_text, Matches, matched_with}
+use Rattle.std.proofs.Common.{min, append_assoc, append-nil, take-append-drop}
+use Rattle.std.specs.Prelude.{◌≢◌}
 use Rattle.std.specs.Option.{option_eq}
-use Rattle.std.specs.Bool.{then_some}
-use Rattle.std.specs.Str.{bytes_eq}
-use Rattle.std.proofs.lemmas.Bool.Decides.{nat_tests}
 use Rattle.std.proofs.lemmas.Slice.Eq.{bytes_eq-Decides}
 use Rattle.std.proofs.lemmas.List.{length-take, length-take-le, take_all, take-take, take_at}
 use Rattle.std.proofs.lemmas.List.{take-append-le, drop_at, drop-take}
 use Rattle.std.proofs.Math.Seq.{take-add}
-use Rattle.vyrd_base.specs.LogVerdicts.{own_beginning, is_own_text}
-use Rattle.vyrd_log_check.specs.Beginnings.{Matches, matched_with}
 
 isnt : (b : Bool) → (b ≡ true → ⊥) → b ≡ false
 isnt b never = grind (arith, never)

@@ -1,18 +1,12 @@
 -- What a checker answers, and what it has followed, by what it keeps.
-use Rattle.std.proofs.Common.{◌≡◌, ℕ, ◌-◌, true, List, ◌++◌, drop, Option, Some, None, Result, refl}
-use Rattle.std.proofs.Common.{ap, subst, ◌∙◌, sym}
-use Rattle.std.specs.Prelude.{IfOk, OnOk, IfSome}
-use Rattle.std.proofs.lemmas.Result.{IfOk-weaker, on_ok_weaker}
-use Rattle.vyrd_base.specs.declared.verdict.Verdict.{Verdict}
-use Rattle.vyrd_base.specs.TextVerdicts.{text_verdict, text_verdict_so_far}
-use Rattle.vyrd_base.specs.Own.LogVerdicts.{own_text_verdict, own_text_verdict_so_far}
-use Rattle.vyrd_base.specs.LogVerdicts.{own_beginning, is_own_text, log_verdict, log_verdict_so_far}
+use Rattle.vyrd_log_check.proofs.Prelude
+use Prelude.{◌≡◌, ℕ, ◌-◌, true, List, ◌++◌, drop, Option, Some, None, Result, refl, ap, subst, ◌∙◌}
+use Prelude.{sym, IfOk, OnOk, IfSome, IfOk-weaker, on_ok_weaker, Verdict, text_verdict}
+use Prelude.{text_verdict_so_far, own_text_verdict, own_text_verdict_so_far, own_beginning}
+use Prelude.{is_own_text, log_verdict, log_verdict_so_far, OwnChecker, checker_in, Matches}
+use Prelude.{matched_with, LogCheckerState, FollowsBy, HasChecked, IsSound}
 use Rattle.vyrd_check.specs.Checking as first_checking
-use Rattle.vyrd_own_check.specs.declared.checker.OwnChecker.{OwnChecker}
 use Rattle.vyrd_own_check.specs.Checking as own_checking
-use Rattle.vyrd_own_check.specs.CheckerView.{checker_in}
-use Rattle.vyrd_log_check.specs.Beginnings.{Matches, matched_with}
-use Rattle.vyrd_log_check.specs.Checking.{LogCheckerState, FollowsBy, HasChecked, IsSound}
 use Rattle.vyrd_log_check.proofs.BeginningLaws.{begins_longer, whole_comes, matches_isnt}
 use Rattle.vyrd_log_check.proofs.LogLasts.{own_so_far, first_so_far, own_whole, first_whole}
 

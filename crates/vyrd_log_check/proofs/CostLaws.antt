@@ -1,23 +1,16 @@
 -- What a piece costs is paid by what was owed before it, and by what its bytes cost.
-use Rattle.std.proofs.Common.{◌≡◌, ℕ, ◌+◌, ◌-◌, ◌≤◌, true, false, List, [], ◌++◌, take, drop}
-use Rattle.std.proofs.Common.{Option, Some, None, Result, refl, ap, ◌∙◌, arith}
-use Rattle.std.specs.Prelude.{OnOk}
-use Rattle.vyrd_base.specs.Reading.{reading}
-use Rattle.vyrd_base.specs.LogVerdicts.{own_beginning, is_own_text}
-use Rattle.vyrd_base.proofs.SplitLaws.{lacks, split_whole}
+use Rattle.vyrd_log_check.proofs.Prelude
+use Prelude.{◌≡◌, ℕ, ◌+◌, ◌-◌, ◌≤◌, true, false, List, [], ◌++◌, take, drop, Option, Some, None}
+use Prelude.{Result, refl, ap, ◌∙◌, arith, OnOk, reading, own_beginning, is_own_text, lacks}
+use Prelude.{split_whole, OwnChecker, checker_in, Matches, matched_with, LogCheckerState}
+use Prelude.{HasChecked, IsSound, bytes_cost, finish_cost, checker_debt, debt_by}
 use Rattle.vyrd_check.specs.Checking as first_checking
 use Rattle.vyrd_check.specs.Costs as first_costs
 use Rattle.vyrd_check.specs.Owed as first_owed
 use Rattle.vyrd_check.proofs.CostLaws.{unread}
-use Rattle.vyrd_own_check.specs.declared.checker.OwnChecker.{OwnChecker}
 use Rattle.vyrd_own_check.specs.Checking as own_checking
-use Rattle.vyrd_own_check.specs.CheckerView.{checker_in}
 use Rattle.vyrd_own_check.specs.Costs as own_costs
 use Rattle.vyrd_own_check.specs.Owed as own_owed
-use Rattle.vyrd_log_check.specs.Beginnings.{Matches, matched_with}
-use Rattle.vyrd_log_check.specs.Checking.{LogCheckerState, HasChecked, IsSound}
-use Rattle.vyrd_log_check.specs.Costs.{bytes_cost, finish_cost}
-use Rattle.vyrd_log_check.specs.Owed.{checker_debt, debt_by}
 use Rattle.vyrd_log_check.proofs.BeginningLaws.{begins_longer, matches_isnt}
 use Rattle.vyrd_log_check.proofs.CheckedLaws.{by_own, by_first, limit, matched_is, begins_all}
 use Rattle.vyrd_log_check.proofs.LogLasts.{lacks_take}

@@ -1,15 +1,13 @@
 -- How much the judge of a checker keeps.
-use Rattle.std.proofs.Common.{◌≡◌, ℕ, List, Some, None, subst}
+use Rattle.vyrd_log_check.proofs.Prelude.{◌≡◌, ℕ, List, Some, None, subst, OwnChecker, checker_in}
+use Rattle.vyrd_log_check.proofs.Prelude.{LogCheckerState, HasChecked, FollowsBy}
 use Rattle.vyrd_judge.specs.Following.{JudgeView}
 use Rattle.vyrd_judge.specs.LittleKept.{KeepsLittle}
 use Rattle.vyrd_judge.proofs.LeftLaws.{keeps_little}
 use Rattle.vyrd_check.specs.Checking as first_checking
 use Rattle.vyrd_check.specs.LogReadings as first_readings
-use Rattle.vyrd_own_check.specs.declared.checker.OwnChecker.{OwnChecker}
-use Rattle.vyrd_own_check.specs.CheckerView.{checker_in}
 use Rattle.vyrd_own_check.specs.Checking as own_checking
 use Rattle.vyrd_own_check.specs.LogReadings as own_readings
-use Rattle.vyrd_log_check.specs.Checking.{LogCheckerState, HasChecked, FollowsBy}
 
 pub first_keeps : (c : LogCheckerState) (bytes : List ℕ) (j : JudgeView) → HasChecked c bytes
     → c.own ≡ None → c.first.so_far ≡ None → c.first.kept.judge ≡ Some j

@@ -1,26 +1,16 @@
 -- Bytes of a log of versions 1 and 2 without a fault of text are at most 65 for each line that
 -- there may be.
-use Rattle.std.proofs.Common.{◌≡◌, ℕ, ◌+◌, ◌*◌, ◌<◌, ◌≤◌, Bool, true, false, cond, List, [], ◌∷◌}
-use Rattle.std.proofs.Common.{length, Option, Some, None, Result, Ok, Err, refl, arith}
-use Rattle.std.specs.Prelude.{◌==◌, nat_lt}
-use Rattle.std.specs.List.{slice_split}
-use Rattle.std.specs.Str.{bytes_eq}
-use Rattle.vyrd_base.specs.declared.header.Header.{Header}
+use Rattle.vyrd_log_check.proofs.Prelude
+use Prelude.{◌≡◌, ℕ, ◌+◌, ◌*◌, ◌<◌, ◌≤◌, Bool, true, false, cond, List, [], ◌∷◌, length, Option}
+use Prelude.{Some, None, Result, refl, arith, ◌==◌, nat_lt, slice_split, bytes_eq, Header, Entry}
+use Prelude.{StartWord, Rule, TooManyLines, BadHeader, BadEntry, end_line, start_rule, start_in}
+use Prelude.{Reading, after_end_rule, reading, so_far, some_parts, not_below_of, no_fault}
+use Rattle.std.proofs.Common.{Ok, Err}
 use Rattle.vyrd_base.specs.declared.subject.Subject.{Subject}
-use Rattle.vyrd_base.specs.declared.log.Entry.{Entry}
-use Rattle.vyrd_base.specs.declared.log.StartWord.{StartWord}
-use Rattle.vyrd_base.specs.declared.verdict.Rule.{Rule}
-use Rattle.vyrd_base.specs.declared.verdict.Rule.TheVariants.{TooManyLines, BadHeader, BadEntry}
-use Rattle.vyrd_base.specs.Spelling.{end_line}
-use Rattle.vyrd_base.specs.Starts.{start_rule}
-use Rattle.vyrd_base.specs.Lines.{start_in, entry_in, header_in}
-use Rattle.vyrd_base.specs.Reading.{Reading, stopped, ended, after_end_rule, entry_before}
-use Rattle.vyrd_base.specs.Reading.{lines_read, start_before, starts_read, body_read, header_before}
-use Rattle.vyrd_base.specs.Reading.{text_read, reading}
-use Rattle.vyrd_base.proofs.ReadingGrows.{so_far, some_parts}
+use Rattle.vyrd_base.specs.Lines.{entry_in, header_in}
+use Rattle.vyrd_base.specs.Reading.{stopped, ended, entry_before, lines_read, start_before}
+use Rattle.vyrd_base.specs.Reading.{starts_read, body_read, header_before, text_read}
 use Rattle.vyrd_base.proofs.LongLines.{long_entry, long_start, long_isnt_end, long_header}
-use Rattle.vyrd_base.proofs.TestLaws.{not_below_of}
-use Rattle.vyrd_text.proofs.ReadLaws.{no_fault}
 use Rattle.vyrd_check.specs.LogReadings.{read_so_far}
 use Rattle.vyrd_log_check.proofs.LineSizes.{no_longer, nothing_after, AreShort, one_line, one_more}
 use Rattle.vyrd_log_check.proofs.LineSizes.{last_short, all_short}

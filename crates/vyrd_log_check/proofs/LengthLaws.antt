@@ -1,10 +1,8 @@
 -- Bytes without a verdict are at most 201 for each line that there may be.
-use Rattle.std.proofs.Common.{◌≡◌, ℕ, ◌*◌, ◌≤◌, Bool, true, false, List, length, None, refl, ◌∙◌}
-use Rattle.std.proofs.Common.{sym, arith}
-use Rattle.vyrd_base.specs.Own.LogVerdicts.{own_text_verdict_so_far}
-use Rattle.vyrd_base.specs.LogVerdicts.{is_own_text, log_verdict_so_far}
+use Rattle.vyrd_log_check.proofs.Prelude.{◌≡◌, ℕ, ◌*◌, ◌≤◌, Bool, true, false, List, length, None}
+use Rattle.vyrd_log_check.proofs.Prelude.{refl, ◌∙◌, sym, arith, own_text_verdict_so_far}
+use Rattle.vyrd_log_check.proofs.Prelude.{is_own_text, log_verdict_so_far, read_so_far}
 use Rattle.vyrd_check.proofs.ReadingFacts.{second_none, text_right}
-use Rattle.vyrd_own_check.specs.LogReadings.{read_so_far}
 use Rattle.vyrd_log_check.proofs.LengthFacts.{bytes_short}
 use Rattle.vyrd_log_check.proofs.LogLasts.{own_so_far, first_so_far}
 use Rattle.vyrd_log_check.proofs.OwnLengths.{own_bytes_short}

@@ -1,3 +1,4 @@
+mod Prelude
 pub mod BeginningLaws
 pub mod SoFarLaws
 pub mod LogLasts

@@ -1,16 +1,9 @@
 -- How many bytes lines have, each with its line feed, if none has more than so many.
-use Rattle.std.proofs.Common.{◌≡◌, ℕ, suc, ◌+◌, ◌-◌, ◌*◌, ◌<◌, ◌≤◌, Bool, true, false, cond, ◌&&◌}
-use Rattle.std.proofs.Common.{List, [], ◌∷◌, length, None, ap, ◌∙◌, arith}
-use Rattle.std.specs.Prelude.{◌==◌, nat_lt}
-use Rattle.std.specs.List.{slice_split, onto_first}
-use Rattle.std.proofs.Math.Nat.{mul-suc}
-use Rattle.vyrd_base.specs.declared.verdict.Rule.{Rule}
-use Rattle.vyrd_base.specs.declared.verdict.Rule.TheVariants.{TooManyLines, NoLineFeed}
-use Rattle.vyrd_base.specs.declared.verdict.Rule.TheVariants.{NoEnd}
-use Rattle.vyrd_base.specs.Shape.{◌breaks◌, first_broken}
-use Rattle.vyrd_base.specs.Reading.{has_any, after_end_rule}
-use Rattle.vyrd_base.proofs.ReadingGrows.{so_far, some_parts}
-use Rattle.vyrd_base.proofs.TestLaws.{below_of, not_below_of}
+use Rattle.vyrd_log_check.proofs.Prelude
+use Prelude.{◌≡◌, ℕ, suc, ◌+◌, ◌-◌, ◌*◌, ◌<◌, ◌≤◌, Bool, true, false, cond, ◌&&◌, List, [], ◌∷◌}
+use Prelude.{length, None, ap, ◌∙◌, arith, ◌==◌, nat_lt, slice_split, onto_first, mul-suc, Rule}
+use Prelude.{TooManyLines, NoLineFeed, NoEnd, ◌breaks◌, first_broken, has_any, after_end_rule}
+use Prelude.{so_far, some_parts, below_of, not_below_of}
 
 -- the bytes of some parts, each with one byte after it
 abbrev pub size_of : List (List ℕ) → ℕ

@@ -1,17 +1,13 @@
 -- A verdict about the bytes of a log of any version that stands stands for all longer bytes.
-use Rattle.std.proofs.Common.{◌≡◌, ℕ, zero, suc, ◌<◌, ◌≤◌, Bool, true, false, cond, List, [], ◌∷◌}
-use Rattle.std.proofs.Common.{◌++◌, length, take, Some, None, refl, ap, ◌∙◌, sym, arith}
-use Rattle.std.specs.Prelude.{◌==◌, nat_lt, not}
-use Rattle.std.proofs.lemmas.Bool.Decides.{nat_tests}
+use Rattle.vyrd_log_check.proofs.Prelude
+use Prelude.{◌≡◌, ℕ, suc, ◌<◌, ◌≤◌, Bool, true, false, cond, List, [], ◌∷◌, ◌++◌, length, take}
+use Prelude.{Some, None, refl, ap, ◌∙◌, sym, arith, ◌==◌, nat_lt, not, nat_tests, Verdict, has_any}
+use Prelude.{reading, text_verdict, text_verdict_so_far, own_text_verdict, own_text_verdict_so_far}
+use Prelude.{own_beginning, is_own_text, log_verdict, log_verdict_so_far, lacks, split_whole}
+use Rattle.std.proofs.Common.{zero}
 use Rattle.std.proofs.lemmas.List.{length-take-le}
 use Rattle.std.proofs.Math.Bool.{and-false}
-use Rattle.vyrd_base.specs.declared.verdict.Verdict.{Verdict}
-use Rattle.vyrd_base.specs.Reading.{has_any, reading}
-use Rattle.vyrd_base.specs.TextVerdicts.{text_verdict, text_verdict_so_far}
-use Rattle.vyrd_base.specs.Own.LogVerdicts.{own_text_verdict, own_text_verdict_so_far}
-use Rattle.vyrd_base.specs.LogVerdicts.{own_beginning, is_own_text, log_verdict, log_verdict_so_far}
 use Rattle.vyrd_base.proofs.TestLaws.{both_true, first_true, second_true}
-use Rattle.vyrd_base.proofs.SplitLaws.{lacks, split_whole}
 use Rattle.vyrd_base.proofs.TextLasts.{text_verdict_lasts, text_verdict_stands}
 use Rattle.vyrd_base.specs.Limits.{most_lines}
 use Rattle.vyrd_own_check.proofs.LastLaws.{own_verdict_lasts, own_verdict_stands}

@@ -1,10 +1,8 @@
 -- One name whose unfolding opens the definitions of a verdict about the bytes of any log, so that
 -- worked cases compute.
-use Rattle.std.specs.Prelude.{ℕ}
+use Rattle.vyrd_log_check.proofs.Prelude.{ℕ, own_entry_in, own_text_verdict}
+use Rattle.vyrd_log_check.proofs.Prelude.{own_text_verdict_so_far, log_verdict, log_verdict_so_far}
 use Rattle.vyrd_base.specs.Own.Log.{own_header_in, own_reading}
-use Rattle.vyrd_base.specs.Own.Entries.{own_entry_in}
-use Rattle.vyrd_base.specs.Own.LogVerdicts.{own_text_verdict, own_text_verdict_so_far}
-use Rattle.vyrd_base.specs.LogVerdicts.{log_verdict, log_verdict_so_far}
 use Rattle.vyrd_base.proofs.Opened.{opened_text}
 use Rattle.vyrd_base.proofs.OpenedOwn.{opened_reading}
 

@@ -1,36 +1,23 @@
 -- Bytes of a log of version 3 without a fault of text are at most 201 for each line that there may
 -- be.
-use Rattle.std.proofs.Common.{◌≡◌, ℕ, ◌+◌, ◌*◌, ◌<◌, ◌≤◌, Bool, true, false, cond, ◌&&◌, List, []}
-use Rattle.std.proofs.Common.{◌∷◌, length, Option, Some, None, refl, arith}
-use Rattle.std.specs.Prelude.{◌==◌, nat_le, nat_lt, not}
-use Rattle.std.specs.List.{slice_split}
-use Rattle.std.specs.Str.{bytes_eq}
-use Rattle.vyrd_base.specs.declared.header.Header.{Header}
-use Rattle.vyrd_base.specs.declared.log.Entry.{Entry}
-use Rattle.vyrd_base.specs.declared.log.StartWord.{StartWord}
+use Rattle.vyrd_log_check.proofs.Prelude
+use Prelude.{◌≡◌, ℕ, ◌+◌, ◌*◌, ◌<◌, ◌≤◌, Bool, true, false, cond, ◌&&◌, List, [], ◌∷◌, length}
+use Prelude.{Option, Some, None, refl, arith, ◌==◌, nat_le, nat_lt, not, slice_split, bytes_eq}
+use Prelude.{Header, Entry, StartWord, Rule, TooManyLines, BadHeader, BadEntry, end_line}
+use Prelude.{start_rule, start_in, after_end_rule, own_entry_in, so_far, some_parts, first_true}
+use Prelude.{second_true, not_below_of, no_fault, read_so_far}
 use Rattle.vyrd_base.specs.declared.own.line.SpecificationLine.{SpecificationLine}
 use Rattle.vyrd_base.specs.declared.own.line.SpecificationLine.TheVariants as said
-use Rattle.vyrd_base.specs.declared.verdict.Rule.{Rule}
-use Rattle.vyrd_base.specs.declared.verdict.Rule.TheVariants.{TooManyLines, BadHeader, BadEntry}
 use Rattle.vyrd_base.specs.declared.verdict.Rule.TheVariants.{Specification}
-use Rattle.vyrd_base.specs.Spelling.{end_line}
-use Rattle.vyrd_base.specs.Starts.{start_rule}
-use Rattle.vyrd_base.specs.Lines.{start_in}
-use Rattle.vyrd_base.specs.Reading.{after_end_rule}
 use Rattle.vyrd_base.specs.Own.Programs.{Written}
 use Rattle.vyrd_base.specs.Own.Reader.{SoFar, nothing_read, read_next}
-use Rattle.vyrd_base.specs.Own.Entries.{own_entry_in}
 use Rattle.vyrd_base.specs.Own.Log.{OwnReading, own_stopped, own_ended, is_note, own_entry_before}
 use Rattle.vyrd_base.specs.Own.Log.{entries_read, own_start_before, own_starts_read, line_before}
 use Rattle.vyrd_base.specs.Own.Log.{specification_read, own_header_in, own_text_read, own_reading}
-use Rattle.vyrd_base.proofs.ReadingGrows.{so_far, some_parts}
-use Rattle.vyrd_base.proofs.TestLaws.{first_true, second_true, not_below_of}
-use Rattle.vyrd_text.proofs.ReadLaws.{no_fault}
 use Rattle.vyrd_own_log.specs.Callable.{are_callable}
 use Rattle.vyrd_own_log.proofs.EntryLaws.{AllCallable}
 use Rattle.vyrd_own_log.proofs.CallableLaws.{next_callable}
 use Rattle.vyrd_own_log.proofs.LongLaws.{long_entry, long_header, long_next, long_note}
-use Rattle.vyrd_own_check.specs.LogReadings.{read_so_far}
 use Rattle.vyrd_log_check.proofs.LineSizes.{no_longer, nothing_after, AreShort, one_line, one_more}
 use Rattle.vyrd_log_check.proofs.LineSizes.{last_short, all_short}
 use Rattle.vyrd_log_check.proofs.LengthFacts.{start_short, end_short}

@@ -1,28 +1,22 @@
 -- A verdict that stands before the end is never acceptance.
-use Rattle.std.proofs.Common.{◌≡◌, ℕ, Bool, true, false, cond, List, [], ◌∷◌, Option, Some, None}
-use Rattle.std.proofs.Common.{subst}
+use Rattle.vyrd_log_check.proofs.Prelude.{◌≡◌, ℕ, Bool, true, false, cond, List, [], ◌∷◌, Option}
+use Rattle.vyrd_log_check.proofs.Prelude.{Some, None, subst, then_some, Header, Entry, StartWord}
+use Rattle.vyrd_log_check.proofs.Prelude.{Rule, Verdict, Reading, reading, text_verdict_so_far}
+use Rattle.vyrd_log_check.proofs.Prelude.{own_text_verdict_so_far, is_own_text, log_verdict_so_far}
 use Rattle.std.specs.Prelude.{is_none, option_map, option_and_then}
 use Rattle.std.specs.Option.{option_or}
-use Rattle.std.specs.Bool.{then_some}
-use Rattle.vyrd_base.specs.declared.header.Header.{Header}
-use Rattle.vyrd_base.specs.declared.log.Entry.{Entry}
-use Rattle.vyrd_base.specs.declared.log.StartWord.{StartWord}
-use Rattle.vyrd_base.specs.declared.verdict.Rule.{Rule}
 use Rattle.vyrd_base.specs.declared.verdict.Rule.TheVariants.{StartState, CallOpen}
 use Rattle.vyrd_base.specs.declared.verdict.Why.{Why}
-use Rattle.vyrd_base.specs.declared.verdict.Verdict.{Verdict}
 use Rattle.vyrd_base.specs.declared.verdict.Verdict.TheVariants.{Accepted, Violation, Malformed}
 use Rattle.vyrd_base.specs.Places.{places, first_answer}
 use Rattle.vyrd_base.specs.Rules.{Rules, own, rules_by}
 use Rattle.vyrd_base.specs.Starts.{state_at_start}
-use Rattle.vyrd_base.specs.Reading.{Reading, TextFault, reading}
+use Rattle.vyrd_base.specs.Reading.{TextFault}
 use Rattle.vyrd_base.specs.Verdicts.{violation_at, first_fault, shape_verdict, begun_verdict}
 use Rattle.vyrd_base.specs.Verdicts.{start_verdict, verdict_so_far, end_verdict}
-use Rattle.vyrd_base.specs.TextVerdicts.{entries_verdict, known_verdict, text_verdict_so_far}
+use Rattle.vyrd_base.specs.TextVerdicts.{entries_verdict, known_verdict}
 use Rattle.vyrd_base.specs.Own.Log.{OwnReading, own_reading}
 use Rattle.vyrd_base.specs.Own.LogVerdicts.{told_in_text, own_entries_verdict, known_own_verdict}
-use Rattle.vyrd_base.specs.Own.LogVerdicts.{own_text_verdict_so_far}
-use Rattle.vyrd_base.specs.LogVerdicts.{is_own_text, log_verdict_so_far}
 
 -- no acceptance
 abbrev pub IsBad : Option Verdict → Type 0

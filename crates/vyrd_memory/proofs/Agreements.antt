@@ -1,30 +1,13 @@
 -- A caller's situation is what the log says of it: its open call, whether it has committed, and
 -- whether it has an open block.
-use Rattle.std.proofs.Common.{◌≡◌, ℕ, Bool, true, false, cond, ◌&&◌, ◌||◌, List, [], ◌∷◌, Option}
-use Rattle.std.proofs.Common.{Some, None, option_map, refl, arith}
-use Rattle.std.specs.Prelude.{◌==◌, is_some, is_none, filter_map}
-use Rattle.std.specs.Option.{option_or, option_flatten}
-use Rattle.std.specs.List.{cons_option}
-use Rattle.vyrd_base.specs.declared.header.Header.{Header}
-use Rattle.vyrd_base.specs.declared.subject.Method.{Method}
-use Rattle.vyrd_base.specs.declared.subject.Args.{Args}
-use Rattle.vyrd_base.specs.declared.log.Kind.{Kind}
-use Rattle.vyrd_base.specs.declared.log.Kind.TheVariants.{Call, Return}
-use Rattle.vyrd_base.specs.declared.log.Entry.{Entry}
-use Rattle.vyrd_base.specs.declared.history.Did.{Did}
-use Rattle.vyrd_base.specs.declared.history.Stamped.{Stamped}
-use Rattle.vyrd_base.specs.Places.{first_answer}
-use Rattle.vyrd_base.specs.Subjects.{same_subject, subject_of, are_args}
-use Rattle.vyrd_base.specs.Callers.{Called, by_caller, call_or_return, open_call}
-use Rattle.vyrd_base.specs.Callers.{has_block, has_committed}
-use Rattle.vyrd_base.specs.Histories.{logged}
-use Rattle.vyrd_base.proofs.HistoryLaws.{log_entry}
-use Rattle.vyrd_base.proofs.BlockLaws.{entry, own_answer, other_answer, own_block}
-use Rattle.vyrd_base.proofs.TestLaws.{first_true, second_true}
-use Rattle.vyrd_base.proofs.EffectLaws.{own_committed}
-use Rattle.vyrd_memory.specs.Soundness.{Situation, holds_none, observes, is_at_rest, may_act}
-use Rattle.vyrd_memory.specs.Soundness.{may_mark, after_act, after_mark}
-use Rattle.vyrd_memory.specs.Turns.{part_of}
+use Rattle.vyrd_memory.proofs.Prelude
+use Prelude.{◌≡◌, ℕ, Bool, true, false, cond, ◌&&◌, ◌||◌, List, [], ◌∷◌, Option, Some, None}
+use Prelude.{option_map, refl, arith, ◌==◌, is_some, is_none, filter_map, option_or, option_flatten}
+use Prelude.{cons_option, Header, Method, Args, Kind, Call, Return, Entry, Did, Stamped}
+use Prelude.{first_answer, same_subject, subject_of, are_args, Called, by_caller, call_or_return}
+use Prelude.{open_call, has_block, has_committed, logged, log_entry, entry, own_answer}
+use Prelude.{other_answer, own_block, first_true, second_true, own_committed, Situation, holds_none}
+use Prelude.{observes, is_at_rest, may_act, may_mark, after_act, after_mark, part_of}
 use Rattle.vyrd_memory.proofs.Situations.{act_of_event, situation_after, KeepsTo}
 
 -- the method of the caller's open execution

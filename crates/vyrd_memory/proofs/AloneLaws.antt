@@ -1,16 +1,9 @@
 -- What is said of a script that is played alone: how it ends, and locks that are taken and given
 -- back.
-use Rattle.std.proofs.Common.{◌≡◌, ◌≢◌, ℕ, ◌+◌, Bool, true, false, not, Option, Some, None}
-use Rattle.std.proofs.Common.{refl, ap, ◌∙◌, sym, subst}
-use Rattle.std.specs.Prelude.{◌==◌, IsSome}
-use Rattle.vyrd_base.specs.declared.header.Header.{Header}
-use Rattle.vyrd_base.specs.Subjects.{is_observer}
-use Rattle.vyrd_base.specs.Amounts.{Amounts, amount_of}
-use Rattle.vyrd_base.specs.Amounts.{is_present}
-use Rattle.vyrd_base.proofs.TestLaws.{same_of, apart_of, isnt_same}
-use Rattle.vyrd_memory.specs.declared.act.Act.TheVariants.{Take}
-use Rattle.vyrd_memory.specs.declared.op.Op.{Op}
-use Rattle.vyrd_memory.specs.Scripts.{Script, perform}
+use Rattle.vyrd_memory.proofs.Prelude.{◌≡◌, ◌≢◌, ℕ, ◌+◌, Bool, true, false, not, Option, Some, None}
+use Rattle.vyrd_memory.proofs.Prelude.{refl, ap, ◌∙◌, sym, subst, ◌==◌, IsSome, Header, is_observer}
+use Rattle.vyrd_memory.proofs.Prelude.{Amounts, amount_of, is_present, same_of, apart_of, isnt_same}
+use Rattle.vyrd_memory.proofs.Prelude.{Take, Op, Script, perform}
 use Rattle.vyrd_memory.specs.Alone.{Memory, with_cell, Outcome, alone, state_after}
 use Rattle.vyrd_memory.specs.Alone.{MeetsSpecification, GivesUpWhere}
 use Rattle.vyrd_memory.proofs.Memories.{Represents, represented, changed_cell, other_cell}

@@ -1,9 +1,6 @@
 -- The sum of the bounds, one operation more.
-use Rattle.std.proofs.Common.{◌≡◌, ℕ, zero, suc, ◌+◌, ◌<◌, List, [], ◌∷◌, take, ap, arith}
-use Rattle.std.specs.Prelude.{get_or, length}
-use Rattle.vyrd_base.specs.declared.header.Header.{Header}
-use Rattle.vyrd_memory.specs.declared.op.Op.{Op}
-use Rattle.vyrd_memory.specs.Bounds.{bound_of, bounds_of}
+use Rattle.vyrd_memory.proofs.Prelude.{◌≡◌, ℕ, zero, suc, ◌+◌, ◌<◌, List, [], ◌∷◌, take, ap, arith}
+use Rattle.vyrd_memory.proofs.Prelude.{get_or, length, Header, Op, bound_of, bounds_of}
 
 pub bounds_of-more : (h : Header) (ops : List Op) (i : ℕ) (d : Op) → i < length ops
     → bounds_of h (take (i + 1) ops) ≡ bounds_of h (take i ops) + bound_of h (get_or ops i d).method

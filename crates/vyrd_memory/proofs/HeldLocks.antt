@@ -1,20 +1,11 @@
 -- A lock that is held has its holder's number plus 1. So a caller holds exactly the locks that have
 -- its own.
-use Rattle.std.proofs.Common.{◌≡◌, ℕ, ◌+◌, Bool, true, false, cond, not, ◌||◌, List, [], ◌∷◌, Some}
-use Rattle.std.proofs.Common.{None, refl, sym, arith}
-use Rattle.std.specs.Prelude.{◌==◌, is_some, filter}
-use Rattle.std.specs.List.{cons_option, list_any}
-use Rattle.std.proofs.lemmas.Bool.Decides.{nat_tests}
-use Rattle.vyrd_base.specs.declared.header.Header.{Header}
-use Rattle.vyrd_base.specs.declared.log.Kind.{Kind}
-use Rattle.vyrd_base.specs.declared.history.Did.{Did}
-use Rattle.vyrd_base.specs.declared.history.Stamped.{Stamped}
-use Rattle.vyrd_base.specs.Histories.{Cells, cells_of, is_lock, value_in, may_do}
-use Rattle.vyrd_base.proofs.TestLaws.{first_true, second_true, same_number, same_of}
-use Rattle.vyrd_base.proofs.CellLaws.{plain_isnt}
-use Rattle.vyrd_memory.specs.Soundness.{Situation, is_nil, holds, may_act, may_mark, after_act}
-use Rattle.vyrd_memory.specs.Soundness.{after_mark}
-use Rattle.vyrd_memory.specs.Turns.{part_of}
+use Rattle.vyrd_memory.proofs.Prelude
+use Prelude.{◌≡◌, ℕ, ◌+◌, Bool, true, false, cond, not, ◌||◌, List, [], ◌∷◌, Some, None, refl, sym}
+use Prelude.{arith, cons_option, list_any, nat_tests, Header, Kind, Did, Stamped, Cells, cells_of}
+use Prelude.{is_lock, value_in, may_do, first_true, second_true, same_number, same_of, plain_isnt}
+use Prelude.{Situation, is_nil, holds, may_act, may_mark, after_act, after_mark, part_of}
+use Rattle.std.specs.Prelude.{filter, ◌==◌, is_some}
 use Rattle.vyrd_memory.proofs.Situations.{act_of_event, situation_after, KeepsTo}
 use Rattle.vyrd_memory.proofs.LegalEvents.{AreLegal, does, value_with}
 use Rattle.vyrd_memory.proofs.Agreements.{three_true, may_call, may_return, keeps_before}

@@ -1,36 +1,25 @@
 -- What a caller may do in its situation breaks no rule of shape, except that its write may race for
 -- a word of a block.
-use Rattle.std.proofs.Common.{◌≡◌, ℕ, ◌<◌, ◌^◌, Bool, true, false, cond, not, ◌&&◌, ◌||◌, List}
-use Rattle.std.proofs.Common.{Option, Some, None, option_map, refl, ap, ◌∙◌, sym}
-use Rattle.std.specs.Prelude.{◌==◌, nat_lt, nat_le, is_some, is_none}
-use Rattle.std.specs.Option.{option_map_or}
+use Rattle.vyrd_memory.proofs.Prelude
+use Prelude.{◌≡◌, ℕ, ◌<◌, ◌^◌, Bool, true, false, cond, not, ◌&&◌, ◌||◌, List, Option, Some, None}
+use Prelude.{option_map, refl, ap, ◌∙◌, sym, ◌==◌, nat_lt, is_some, is_none, option_map_or, Header}
+use Prelude.{Method, Kind, Call, Return, Write, Commit, BlockOpen, BlockClose, BlockCommit, Entry}
+use Prelude.{Rule, plain_words, is_observer, same_subject, are_args, Called, open_call, has_block}
+use Prelude.{has_committed, broken_rule, cells_of, is_plain, entry, first_true, second_true, Store}
+use Prelude.{Situation, observes, may_act, may_mark}
+use Rattle.std.specs.Prelude.{nat_le}
 use Rattle.std.proofs.lemmas.Bool.{not-true}
-use Rattle.vyrd_base.specs.declared.header.Header.{Header}
-use Rattle.vyrd_base.specs.declared.subject.Method.{Method}
 use Rattle.vyrd_base.specs.declared.subject.Commits.{Commits}
 use Rattle.vyrd_base.specs.declared.subject.Commits.TheVariants.{Never, AtMostOnce, Once}
-use Rattle.vyrd_base.specs.declared.log.Kind.{Kind}
-use Rattle.vyrd_base.specs.declared.log.Kind.TheVariants.{Call, Return, Write, Commit, BlockOpen}
-use Rattle.vyrd_base.specs.declared.log.Kind.TheVariants.{BlockClose, BlockCommit}
-use Rattle.vyrd_base.specs.declared.log.Entry.{Entry}
-use Rattle.vyrd_base.specs.declared.verdict.Rule.{Rule}
 use Rattle.vyrd_base.specs.declared.verdict.Rule.TheVariants.{CallerRange, MethodOther}
 use Rattle.vyrd_base.specs.declared.verdict.Rule.TheVariants.{ArgumentRange, CallInCall, NoCall}
 use Rattle.vyrd_base.specs.declared.verdict.Rule.TheVariants.{ReturnInBlock, NoCommit, WordRange}
 use Rattle.vyrd_base.specs.declared.verdict.Rule.TheVariants.{ValueRange, BlockRaced}
 use Rattle.vyrd_base.specs.declared.verdict.Rule.TheVariants.{ObserverCommit, SecondCommit}
 use Rattle.vyrd_base.specs.declared.verdict.Rule.TheVariants.{CommitInBlock, BlockInBlock, NoBlock}
-use Rattle.vyrd_base.specs.Layout.{plain_words}
-use Rattle.vyrd_base.specs.Subjects.{is_observer, commits_of, never_commits, always_commits}
-use Rattle.vyrd_base.specs.Subjects.{same_subject, are_args}
-use Rattle.vyrd_base.specs.Callers.{Called, open_call, has_block, has_committed}
+use Rattle.vyrd_base.specs.Subjects.{commits_of, never_commits, always_commits}
 use Rattle.vyrd_base.specs.Shape.{first_broken, checks_of, is_observing, owes_commit, is_raced}
-use Rattle.vyrd_base.specs.Shape.{broken_rule}
-use Rattle.vyrd_base.specs.Histories.{cells_of, is_plain}
-use Rattle.vyrd_base.proofs.BlockLaws.{entry}
-use Rattle.vyrd_base.proofs.TestLaws.{first_true, second_true, isnt_at_most, above_then}
-use Rattle.vyrd_memory.specs.declared.act.Act.TheVariants.{Store}
-use Rattle.vyrd_memory.specs.Soundness.{Situation, observes, may_act, may_mark}
+use Rattle.vyrd_base.proofs.TestLaws.{isnt_at_most, above_then}
 use Rattle.vyrd_memory.proofs.Agreements.{Agrees, three_true, four_true, may_call, may_return}
 
 -- where a rule is broken, it is that of raced blocks

@@ -1,22 +1,11 @@
 -- The part of one caller that plays a sound script keeps the rules, whatever the others do.
-use Rattle.std.proofs.Common.{◌≡◌, ℕ, ◌<◌, Bool, true, false, cond, List, [], ◌∷◌, Some, None, refl}
-use Rattle.std.proofs.Common.{arith}
-use Rattle.std.specs.Prelude.{◌==◌, is_none, filter_map}
-use Rattle.std.specs.List.{cons_option}
-use Rattle.std.proofs.lemmas.Bool.Decides.{nat_tests}
-use Rattle.vyrd_base.specs.declared.header.Header.{Header}
-use Rattle.vyrd_base.specs.declared.log.Entry.{Entry}
-use Rattle.vyrd_base.specs.declared.history.Did.{Did}
-use Rattle.vyrd_base.specs.declared.history.Did.TheVariants.{Read, Wrote, Took, Gave, Marked}
-use Rattle.vyrd_base.specs.declared.history.Stamped.{Stamped}
-use Rattle.vyrd_base.specs.Places.{newest_first}
-use Rattle.vyrd_base.specs.Callers.{open_call}
-use Rattle.vyrd_base.specs.Histories.{logged, log_of}
-use Rattle.vyrd_base.proofs.HistoryLaws.{log_entry}
+use Rattle.vyrd_memory.proofs.Prelude
+use Prelude.{◌≡◌, ℕ, ◌<◌, Bool, true, false, cond, List, [], ◌∷◌, Some, None, refl, arith, ◌==◌}
+use Prelude.{is_none, filter_map, cons_option, nat_tests, Header, Entry, Did, Read, Wrote, Took}
+use Prelude.{Gave, Marked, Stamped, newest_first, open_call, logged, log_of, log_entry, Script}
+use Prelude.{Plays, Situation, at_rest, may_act, IsSound, part_of}
 use Rattle.vyrd_base.proofs.ListLaws.{isnt_some}
-use Rattle.vyrd_memory.specs.Scripts.{Script, Plays, PlaysToTheEnd}
-use Rattle.vyrd_memory.specs.Soundness.{Situation, at_rest, may_act, IsSound}
-use Rattle.vyrd_memory.specs.Turns.{part_of}
+use Rattle.vyrd_memory.specs.Scripts.{PlaysToTheEnd}
 use Rattle.vyrd_memory.specs.LaneRules.{AreSmallReads, KeepsTheRules}
 use Rattle.vyrd_memory.proofs.Situations.{act_of_event, situation_after, KeepsTo, AreAnswers}
 use Rattle.vyrd_memory.proofs.Situations.{sound_keeps, sound_left, rests_at_stop}

@@ -1,19 +1,10 @@
 -- Legal histories, the newest event first: each event may come after the events before it.
-use Rattle.std.proofs.Common.{◌≡◌, ℕ, ◌<◌, ◌^◌, Bool, true, cond, List, [], ◌∷◌, Some, None, refl}
-use Rattle.std.proofs.Common.{arith}
-use Rattle.std.specs.Prelude.{◌==◌, unwrap_or}
-use Rattle.std.specs.Option.{option_or}
-use Rattle.std.specs.List.{list_all, cons_option}
-use Rattle.std.proofs.lemmas.Bool.Decides.{nat_tests}
-use Rattle.vyrd_base.specs.declared.history.Did.{Did}
-use Rattle.vyrd_base.specs.declared.history.Stamped.{Stamped}
-use Rattle.vyrd_base.specs.Places.{places_after, first_answer, newest_first_onto, newest_first}
-use Rattle.vyrd_base.specs.Histories.{Cells, is_plain, made_of, value_in, may_do, is_legal_at}
-use Rattle.vyrd_base.specs.Histories.{is_legal}
-use Rattle.vyrd_base.proofs.TestLaws.{both_true, first_true, second_true}
-use Rattle.vyrd_base.proofs.CellLaws.{plain_isnt}
-use Rattle.vyrd_memory.specs.Scripts.{IsAnswer, answer_of}
-use Rattle.vyrd_memory.specs.Turns.{part_of}
+use Rattle.vyrd_memory.proofs.Prelude
+use Prelude.{◌≡◌, ℕ, ◌<◌, ◌^◌, Bool, true, cond, List, [], ◌∷◌, Some, None, refl, arith, ◌==◌}
+use Prelude.{unwrap_or, option_or, list_all, cons_option, nat_tests, Did, Stamped, places_after}
+use Prelude.{first_answer, newest_first_onto, newest_first, Cells, is_plain, made_of, value_in}
+use Prelude.{may_do, is_legal_at, is_legal, both_true, first_true, second_true, plain_isnt}
+use Prelude.{IsAnswer, answer_of, part_of}
 use Rattle.vyrd_memory.proofs.Situations.{act_of_event, AreAnswers}
 
 -- whether the event may come after these events

@@ -1,28 +1,14 @@
 -- The run by turns of sound scripts: each turn adds an event that may come, and each caller plays
 -- its script.
-use Rattle.std.proofs.Common.{◌≡◌, ℕ, zero, suc, ◌+◌, ◌<◌, ◌≤◌, Bool, true, cond, not}
-use Rattle.std.proofs.Common.{◌&&◌, List, [], ◌∷◌, Option, Some, None, refl, ap, ◌∙◌, sym, subst}
-use Rattle.std.proofs.Common.{arith}
-use Rattle.std.specs.Prelude.{◌==◌, nat_lt, is_some, length}
-use Rattle.std.specs.List.{cons_option}
-use Rattle.std.proofs.lemmas.Bool.Decides.{nat_tests}
-use Rattle.vyrd_base.specs.declared.header.Header.{Header}
-use Rattle.vyrd_base.specs.declared.log.Kind.{Kind}
-use Rattle.vyrd_base.specs.declared.history.Did.{Did}
-use Rattle.vyrd_base.specs.declared.history.Stamped.{Stamped}
-use Rattle.vyrd_base.specs.Places.{newest_first, numbers_below}
-use Rattle.vyrd_base.specs.Histories.{cells_of, is_lock, value_in, is_write, may_do}
-use Rattle.vyrd_base.specs.Histories.{is_legal}
-use Rattle.vyrd_base.proofs.TestLaws.{both_true, first_true, second_true, same_number, is_below}
-use Rattle.vyrd_memory.specs.declared.act.Act.{Act}
-use Rattle.vyrd_memory.specs.declared.act.Act.TheVariants.{Done}
-use Rattle.vyrd_memory.specs.declared.op.Turn.{Turn}
-use Rattle.vyrd_memory.specs.Scripts.{Script, stop, step, next_act, event_of, answer_of, left_after}
-use Rattle.vyrd_memory.specs.Scripts.{Plays}
-use Rattle.vyrd_memory.specs.Soundness.{Situation, IsSound, holds, may_act, may_mark}
-use Rattle.vyrd_memory.specs.Turns.{part_of, script_of, act_of, event_now, with_event, after_turn}
-use Rattle.vyrd_memory.specs.Turns.{after_turns, after_rounds, turns_of, is_done, RunsTo}
-use Rattle.vyrd_memory.specs.Runs.{AreSoundScripts, PlayToTheEnd}
+use Rattle.vyrd_memory.proofs.Prelude
+use Prelude.{◌≡◌, ℕ, zero, suc, ◌+◌, ◌<◌, ◌≤◌, Bool, true, cond, not, ◌&&◌, List, [], ◌∷◌, Option}
+use Prelude.{Some, None, refl, ap, ◌∙◌, sym, subst, arith, ◌==◌, nat_lt, is_some, length}
+use Prelude.{cons_option, nat_tests, Header, Kind, Did, Stamped, newest_first, numbers_below}
+use Prelude.{cells_of, is_lock, value_in, is_write, may_do, is_legal, both_true, first_true}
+use Prelude.{second_true, same_number, is_below, Act, Done, Turn, Script, stop, step, next_act}
+use Prelude.{event_of, answer_of, left_after, Plays, Situation, IsSound, holds, may_act, may_mark}
+use Prelude.{part_of, script_of, act_of, event_now, with_event, after_turn, after_turns}
+use Prelude.{after_rounds, turns_of, is_done, RunsTo, AreSoundScripts, PlayToTheEnd}
 use Rattle.vyrd_memory.proofs.NumberLists.{all_pass}
 use Rattle.vyrd_memory.proofs.Situations.{situation_after, KeepsTo, sound_left, sound_keeps}
 use Rattle.vyrd_memory.proofs.Situations.{done_is_stop, left_of_stop}

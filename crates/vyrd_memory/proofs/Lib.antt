@@ -1,3 +1,4 @@
+mod Prelude
 pub mod NumberLists
 pub mod PartSums
 pub mod Memories

@@ -1,24 +1,12 @@
 -- The calls in the log of a legal history of sound scripts are of the header's subject, and their
 -- arguments are in range.
-use Rattle.std.proofs.Common.{◌≡◌, ℕ, true, cond, List, [], ◌∷◌, Some, None, refl, subst, sym}
-use Rattle.std.specs.Prelude.{filter_map}
-use Rattle.std.specs.List.{cons_option, AllByRecursion}
-use Rattle.vyrd_base.specs.declared.header.Header.{Header}
-use Rattle.vyrd_base.specs.declared.log.Kind.{Kind}
-use Rattle.vyrd_base.specs.declared.log.Kind.TheVariants.{Call, Return, Write, Commit, BlockOpen}
-use Rattle.vyrd_base.specs.declared.log.Kind.TheVariants.{BlockClose, BlockCommit}
-use Rattle.vyrd_base.specs.declared.log.Entry.{Entry}
-use Rattle.vyrd_base.specs.declared.history.Did.{Did}
-use Rattle.vyrd_base.specs.declared.history.Did.TheVariants.{Read, Wrote, Took, Gave, Marked}
-use Rattle.vyrd_base.specs.declared.history.Stamped.{Stamped}
-use Rattle.vyrd_base.specs.Places.{newest_first_onto, newest_first}
-use Rattle.vyrd_base.specs.Histories.{cells_of, is_legal, logged, log_of}
-use Rattle.vyrd_base.proofs.HistoryLaws.{log_entry}
-use Rattle.vyrd_base.proofs.TestLaws.{first_true, same_number}
-use Rattle.vyrd_memory.specs.Scripts.{Script}
-use Rattle.vyrd_memory.specs.Soundness.{Situation, may_act, may_mark, is_at_rest}
-use Rattle.vyrd_memory.specs.Turns.{part_of}
-use Rattle.vyrd_memory.specs.Runs.{AreSoundScripts, PlayToTheEnd, is_call_of}
+use Rattle.vyrd_memory.proofs.Prelude
+use Prelude.{◌≡◌, ℕ, true, cond, List, [], ◌∷◌, Some, None, refl, subst, sym, filter_map}
+use Prelude.{cons_option, AllByRecursion, Header, Kind, Call, Return, Write, Commit, BlockOpen}
+use Prelude.{BlockClose, BlockCommit, Entry, Did, Read, Wrote, Took, Gave, Marked, Stamped}
+use Prelude.{newest_first_onto, newest_first, cells_of, is_legal, logged, log_of, log_entry}
+use Prelude.{first_true, same_number, Script, Situation, may_act, may_mark, is_at_rest, part_of}
+use Prelude.{AreSoundScripts, PlayToTheEnd, is_call_of}
 use Rattle.vyrd_memory.proofs.Situations.{act_of_event, situation_after, KeepsTo}
 use Rattle.vyrd_memory.proofs.LegalEvents.{AreLegal, legal_events, caller_low}
 use Rattle.vyrd_memory.proofs.Agreements.{keeps_before}

@@ -1,19 +1,13 @@
 -- What it says of a memory that it represents a state.
-use Rattle.std.proofs.Common.{◌≡◌, ℕ, ◌+◌, ◌<◌, ◌≤◌, Bool, true, length, map, Some, subst, arith}
-use Rattle.std.proofs.Common.{rules}
-use Rattle.std.specs.Prelude.{◌==◌, ◌≢◌, ◌&&◌, drop, slice_index}
-use Rattle.std.specs.List.{list_all}
-use Rattle.std.proofs.lemmas.Bool.Decides.{nat_tests}
+use Rattle.vyrd_memory.proofs.Prelude.{◌≡◌, ℕ, ◌+◌, ◌<◌, ◌≤◌, Bool, true, length, map, Some, subst}
+use Rattle.vyrd_memory.proofs.Prelude.{arith, rules, ◌==◌, ◌≢◌, ◌&&◌, drop, slice_index, list_all}
+use Rattle.vyrd_memory.proofs.Prelude.{nat_tests, Header, numbers_from, plain_words, lock_words}
+use Rattle.vyrd_memory.proofs.Prelude.{Amounts, IsAmounts, IsAmounts-collected}
 use Rattle.std.proofs.lemmas.List.Folds.{list_all-map}
-use Rattle.vyrd_base.specs.declared.header.Header.{Header}
-use Rattle.vyrd_base.specs.Places.{numbers_from}
-use Rattle.vyrd_base.specs.Layout.{plain_words, lock_words}
-use Rattle.vyrd_base.specs.Amounts.{Amounts, IsAmounts}
 use Rattle.vyrd_base.specs.Views.{view_of_words, parts_of}
 use Rattle.vyrd_base.specs.Represented.{is_sound, state_of_words}
 use Rattle.vyrd_base.proofs.PlaceLaws.{length-mapped, pass_all}
-use Rattle.vyrd_base.proofs.TestLaws.{both_true, first_true, second_true, then_some_true}
-use Rattle.vyrd_base.proofs.SumLaws.{IsAmounts-collected}
+use Rattle.vyrd_base.proofs.TestLaws.{then_some_true, both_true, first_true, second_true}
 use Rattle.vyrd_memory.specs.Alone.{Memory, words_in, state_in, with_cell}
 use Rattle.vyrd_memory.proofs.NumberLists.{element_below, drop-from, all_pass}
 

@@ -1,10 +1,8 @@
 -- Lists over numbers in a row: their elements, their ends, and what holds of each.
-use Rattle.std.proofs.Common.{◌≡◌, ℕ, zero, suc, ◌+◌, ◌<◌, ◌≤◌, Bool, true, List, ◌++◌, map}
-use Rattle.std.proofs.Common.{refl, ap, ◌∙◌, arith}
-use Rattle.std.specs.Prelude.{◌≢◌, ◌==◌, slice_index, drop, flat_map}
-use Rattle.std.specs.List.{list_all}
-use Rattle.vyrd_base.specs.Places.{numbers_from, numbers_below}
-use Rattle.vyrd_base.proofs.TestLaws.{first_true, second_true}
+use Rattle.vyrd_memory.proofs.Prelude.{◌≡◌, ℕ, zero, suc, ◌+◌, ◌<◌, ◌≤◌, Bool, true, List, ◌++◌}
+use Rattle.vyrd_memory.proofs.Prelude.{map, refl, ap, ◌∙◌, arith, ◌≢◌, ◌==◌, slice_index, drop}
+use Rattle.vyrd_memory.proofs.Prelude.{flat_map, list_all, numbers_from, numbers_below, first_true}
+use Rattle.vyrd_memory.proofs.Prelude.{second_true}
 
 -- the element at a place is what the function gives for that number
 pub element_from : (f : ℕ → ℕ) (k n i : ℕ) → i < n → slice_index (map f (numbers_from k n)) i

@@ -1,19 +1,10 @@
 -- A run by turns has one end: once no caller has an event, none has one in any later round.
-use Rattle.std.proofs.Common.{◌≡◌, ℕ, zero, suc, ◌+◌, ◌-◌, ◌≤◌, Bool, true, not, ◌||◌, List, []}
-use Rattle.std.proofs.Common.{◌∷◌, ◌++◌, None, refl, ap, ◌∙◌, sym, arith}
-use Rattle.std.specs.Prelude.{length}
-use Rattle.std.specs.List.{list_all}
-use Rattle.std.proofs.lemmas.Bool.Decides.{nat_tests}
-use Rattle.vyrd_base.specs.declared.history.Stamped.{Stamped}
-use Rattle.vyrd_base.specs.Places.{newest_first_onto, newest_first, numbers_below}
-use Rattle.vyrd_base.proofs.TestLaws.{both_true, first_true, second_true}
-use Rattle.vyrd_memory.specs.declared.act.Act.{Act}
-use Rattle.vyrd_memory.specs.declared.op.Turn.{Turn}
-use Rattle.vyrd_memory.specs.Scripts.{Script}
-use Rattle.vyrd_memory.specs.Turns.{act_of, event_now, after_turns, after_rounds}
-use Rattle.vyrd_memory.specs.Turns.{turns_of}
-use Rattle.vyrd_memory.specs.Turns.{run_for, is_done, are_done, is_held_up, are_stuck, RunsTo}
-use Rattle.vyrd_memory.specs.Turns.{GetsStuck}
+use Rattle.vyrd_memory.proofs.Prelude
+use Prelude.{◌≡◌, ℕ, zero, suc, ◌+◌, ◌-◌, ◌≤◌, Bool, true, not, ◌||◌, List, [], ◌∷◌, ◌++◌, None}
+use Prelude.{refl, ap, ◌∙◌, sym, arith, length, list_all, nat_tests, Stamped, newest_first_onto}
+use Prelude.{newest_first, numbers_below, both_true, first_true, second_true, Act, Turn, Script}
+use Prelude.{act_of, event_now, after_turns, after_rounds, turns_of, run_for, is_done, are_done}
+use Prelude.{is_held_up, are_stuck, RunsTo, GetsStuck}
 
 -- whether a caller has no event
 abbrev is_still : List Script → List Stamped → ℕ → Bool

@@ -1,11 +1,8 @@
 -- What parts give to a key where the part of one number changes.
-use Rattle.std.proofs.Common.{◌≡◌, ℕ, zero, suc, ◌+◌, ◌<◌, ◌≤◌, Bool, true, false, List, refl, ◌∙◌}
-use Rattle.std.proofs.Common.{arith}
-use Rattle.std.specs.Prelude.{◌≢◌, ◌==◌, flat_map}
-use Rattle.vyrd_base.specs.Places.{numbers_from}
-use Rattle.vyrd_base.specs.Amounts.{Amounts, IsAmounts, amount_of, collected, given}
-use Rattle.vyrd_base.proofs.AmountLaws.{same_amounts}
-use Rattle.vyrd_base.proofs.SumLaws.{given-append, amount_of-collected, IsAmounts-collected}
+use Rattle.vyrd_memory.proofs.Prelude.{◌≡◌, ℕ, zero, suc, ◌+◌, ◌<◌, ◌≤◌, Bool, true, false, List}
+use Rattle.vyrd_memory.proofs.Prelude.{refl, ◌∙◌, arith, ◌≢◌, ◌==◌, flat_map, numbers_from, Amounts}
+use Rattle.vyrd_memory.proofs.Prelude.{IsAmounts, amount_of, collected, given, same_amounts}
+use Rattle.vyrd_memory.proofs.Prelude.{given-append, amount_of-collected, IsAmounts-collected}
 use Rattle.vyrd_memory.proofs.NumberLists.{flat_map_alike}
 
 -- the part of number i changes from f i to g i, and no other

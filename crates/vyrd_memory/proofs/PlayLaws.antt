@@ -1,31 +1,16 @@
 -- One event of a run by turns, in the plain memory and in the history.
-use Rattle.std.proofs.Common.{◌≡◌, ℕ, zero, suc, ◌+◌, ◌<◌, ◌^◌, Bool, true, false, cond, ◌&&◌, List}
-use Rattle.std.proofs.Common.{[], ◌∷◌, ◌++◌, map, Option, Some, None, refl, ap, ◌∙◌, sym, subst}
-use Rattle.std.proofs.Common.{arith}
-use Rattle.std.specs.Prelude.{◌≢◌, ◌==◌, nat_lt, is_some, length, slice_get, slice_index, set}
-use Rattle.std.specs.Prelude.{unwrap_or}
-use Rattle.std.specs.Option.{option_or}
-use Rattle.std.proofs.lemmas.Bool.Decides.{nat_tests}
+use Rattle.vyrd_memory.proofs.Prelude
+use Prelude.{◌≡◌, ℕ, zero, suc, ◌+◌, ◌<◌, ◌^◌, Bool, true, false, cond, ◌&&◌, List, [], ◌∷◌, ◌++◌}
+use Prelude.{map, Option, Some, None, refl, ap, ◌∙◌, sym, subst, arith, ◌≢◌, ◌==◌, nat_lt, is_some}
+use Prelude.{length, slice_get, slice_index, set, unwrap_or, option_or, nat_tests, same_Some}
+use Prelude.{slice_get_within, ∥∥₁_elim, Bool-set, Header, Did, Read, Wrote, Took, Gave, Marked}
+use Prelude.{Stamped, newest_first, numbers_from, plain_words, lock_words, made_of}
+use Prelude.{newest_first-push, length-newest_first, map_alike_from, first_true, second_true}
+use Prelude.{same_number, Act, Load, Store, Take, Give, Mark, Done, Script, step, next_act}
+use Prelude.{after_answer, answer_of, left_after, Situation, IsSound, IsSoundSomewhere, may_act}
+use Prelude.{part_of, script_of, act_of, event_now, with_event, after_turn, event_in, words_with}
+use Prelude.{IsWithin, IsReady, IsPlaying, HasPlayed, scene, memory_after, total}
 use Rattle.std.proofs.lemmas.List.{length-set, get_or-set_same, get_or-set_other}
-use Rattle.std.proofs.lemmas.Option.{same_Some, slice_get_within}
-use Rattle.std.proofs.Math.Logic.{∥∥₁_elim}
-use Rattle.std.proofs.Math.Bool.{Bool-set}
-use Rattle.vyrd_base.specs.declared.header.Header.{Header}
-use Rattle.vyrd_base.specs.declared.history.Did.{Did}
-use Rattle.vyrd_base.specs.declared.history.Did.TheVariants.{Read, Wrote, Took, Gave, Marked}
-use Rattle.vyrd_base.specs.declared.history.Stamped.{Stamped}
-use Rattle.vyrd_base.specs.Places.{newest_first, numbers_from}
-use Rattle.vyrd_base.specs.Layout.{plain_words, lock_words}
-use Rattle.vyrd_base.specs.Histories.{made_of}
-use Rattle.vyrd_base.proofs.PlaceLaws.{newest_first-push, length-newest_first, map_alike_from}
-use Rattle.vyrd_base.proofs.TestLaws.{first_true, second_true, same_number}
-use Rattle.vyrd_memory.specs.declared.act.Act.{Act}
-use Rattle.vyrd_memory.specs.declared.act.Act.TheVariants.{Load, Store, Take, Give, Mark, Done}
-use Rattle.vyrd_memory.specs.Scripts.{Script, step, next_act, after_answer, answer_of, left_after}
-use Rattle.vyrd_memory.specs.Soundness.{Situation, IsSound, IsSoundSomewhere, may_act}
-use Rattle.vyrd_memory.specs.Turns.{part_of, script_of, act_of, event_now, with_event, after_turn}
-use Rattle.vyrd_memory.specs.Playing.{event_in, words_with, IsWithin, IsReady, IsPlaying, HasPlayed}
-use Rattle.vyrd_memory.specs.Playing.{scene, memory_after, total}
 use Rattle.vyrd_memory.proofs.NumberLists.{element_below}
 
 -- the same as `IsWithin`, as a test

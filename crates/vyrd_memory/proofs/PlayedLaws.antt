@@ -1,16 +1,9 @@
 -- Turns that have been played, one after the other.
-use Rattle.std.proofs.Common.{◌≡◌, ℕ, zero, suc, ◌+◌, ◌<◌, ◌≤◌, List, [], ◌∷◌, ◌++◌, replicate}
-use Rattle.std.proofs.Common.{take, Option, Some, None, refl, ap, ◌∙◌, sym, arith, append-nil}
-use Rattle.std.specs.Prelude.{length, get_or}
-use Rattle.vyrd_base.specs.declared.header.Header.{Header}
-use Rattle.vyrd_base.specs.declared.history.Stamped.{Stamped}
-use Rattle.vyrd_base.specs.Places.{newest_first, numbers_below}
-use Rattle.vyrd_base.specs.declared.history.Did.{Did}
-use Rattle.vyrd_base.proofs.PlaceLaws.{length-newest_first}
-use Rattle.vyrd_memory.specs.declared.op.Turn.{Turn}
-use Rattle.vyrd_memory.specs.Scripts.{Script}
-use Rattle.vyrd_memory.specs.Turns.{act_of, event_now, after_turn, after_turns, turns_of}
-use Rattle.vyrd_memory.specs.Playing.{HasPlayed, HaveComeToRest, Scene, rounds_over}
+use Rattle.vyrd_memory.proofs.Prelude
+use Prelude.{◌≡◌, ℕ, zero, suc, ◌+◌, ◌<◌, ◌≤◌, List, [], ◌∷◌, ◌++◌, replicate, take, Option, Some}
+use Prelude.{None, refl, ap, ◌∙◌, sym, arith, append-nil, length, get_or, Header, Stamped}
+use Prelude.{newest_first, numbers_below, Did, length-newest_first, Turn, Script, act_of, event_now}
+use Prelude.{after_turn, after_turns, turns_of, HasPlayed, HaveComeToRest, Scene, rounds_over}
 
 pub after_turns-append : (scripts : List Script) (xs ys : List ℕ) (earlier : List Stamped)
     → after_turns scripts (xs ++ ys) earlier ≡ after_turns scripts ys

@@ -1,38 +1,25 @@
 -- The log of a legal history of sound scripts breaks no rule, except that blocks may be raced.
-use Rattle.std.proofs.Common.{◌≡◌, ℕ, zero, suc, ◌+◌, ◌<◌, ◌≤◌, Bool, true, false, cond, ◌||◌}
-use Rattle.std.proofs.Common.{List, [], ◌∷◌, Option, Some, None, option_map, refl, ap, ◌∙◌, sym}
-use Rattle.std.proofs.Common.{subst, arith}
-use Rattle.std.specs.Prelude.{is_some, unwrap_or, filter_map, length}
-use Rattle.std.specs.Option.{option_or}
+use Rattle.vyrd_memory.proofs.Prelude
+use Prelude.{◌≡◌, ℕ, zero, suc, ◌+◌, ◌<◌, ◌≤◌, Bool, true, false, cond, ◌||◌, List, [], ◌∷◌, Option}
+use Prelude.{Some, None, option_map, refl, ap, ◌∙◌, sym, subst, arith, is_some, unwrap_or}
+use Prelude.{filter_map, length, option_or, cons_option, list_any, Header, Entry, Did, Stamped}
+use Prelude.{Rule, first_answer, newest_first_onto, newest_first, numbers_from, open_call}
+use Prelude.{broken_rule, cells_of, is_legal, logged, log_of, same_number, Script, left_after}
+use Prelude.{Situation, at_rest, may_act, part_of, script_of, AreSoundScripts, PlayToTheEnd}
 use Rattle.std.specs.Bool.{then_some}
-use Rattle.std.specs.List.{cons_option, list_any}
-use Rattle.vyrd_base.specs.declared.header.Header.{Header}
-use Rattle.vyrd_base.specs.declared.log.Entry.{Entry}
-use Rattle.vyrd_base.specs.declared.history.Did.{Did}
-use Rattle.vyrd_base.specs.declared.history.Stamped.{Stamped}
-use Rattle.vyrd_base.specs.declared.verdict.Rule.{Rule}
 use Rattle.vyrd_base.specs.declared.verdict.Rule.TheVariants.{BlockRaced, CallOpen}
 use Rattle.vyrd_base.specs.declared.verdict.Why.{Why}
 use Rattle.vyrd_base.specs.declared.verdict.Verdict.{Verdict}
 use Rattle.vyrd_base.specs.declared.verdict.Verdict.TheVariants.{Violation, Malformed}
-use Rattle.vyrd_base.specs.Places.{Place, position_of, first_answer, newest_first_onto}
-use Rattle.vyrd_base.specs.Places.{newest_first, numbers_from}
-use Rattle.vyrd_base.specs.Callers.{open_call}
-use Rattle.vyrd_base.specs.Shape.{broken_rule}
+use Rattle.vyrd_base.specs.Places.{Place, position_of}
 use Rattle.vyrd_base.specs.Front.{front, first_break}
 use Rattle.vyrd_base.specs.States.{State}
 use Rattle.vyrd_base.specs.Faults.{fault_at}
 use Rattle.vyrd_base.specs.Verdicts.{line_of, violation_at, first_fault, shape_verdict}
 use Rattle.vyrd_base.specs.Verdicts.{is_call_open, accepted, verdict}
 use Rattle.vyrd_base.proofs.NoStart.{verdict_so_far-none, end_verdict-none}
-use Rattle.vyrd_base.specs.Histories.{cells_of, is_legal, logged, log_of}
-use Rattle.vyrd_base.proofs.HistoryLaws.{log_entry, reversed_map}
+use Rattle.vyrd_base.proofs.HistoryLaws.{reversed_map, log_entry}
 use Rattle.vyrd_base.proofs.Fronts.{break_after}
-use Rattle.vyrd_base.proofs.TestLaws.{same_number}
-use Rattle.vyrd_memory.specs.Scripts.{Script, left_after}
-use Rattle.vyrd_memory.specs.Soundness.{Situation, at_rest, may_act}
-use Rattle.vyrd_memory.specs.Turns.{part_of, script_of}
-use Rattle.vyrd_memory.specs.Runs.{AreSoundScripts, PlayToTheEnd}
 use Rattle.vyrd_memory.proofs.Situations.{act_of_event, situation_after, KeepsTo, sound_left}
 use Rattle.vyrd_memory.proofs.Situations.{sound_keeps, rests_at_stop}
 use Rattle.vyrd_memory.proofs.LegalEvents.{AreLegal, legal_events, caller_low, are_answers}

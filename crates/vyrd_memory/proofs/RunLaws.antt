@@ -1,26 +1,16 @@
 -- The whole run by turns: how it begins, and where it ends.
-use Rattle.std.proofs.Common.{◌≡◌, ℕ, zero, suc, ◌+◌, ◌<◌, ◌^◌, Bool, true, false, not, ◌&&◌, ◌||◌}
-use Rattle.std.proofs.Common.{List, [], ◌∷◌, map, replicate, Some, None, option_map, refl, ap, ◌∙◌}
-use Rattle.std.proofs.Common.{sym, subst, arith}
-use Rattle.std.specs.Prelude.{length, slice_get, slice_index, All}
-use Rattle.std.specs.List.{list_all}
+use Rattle.vyrd_memory.proofs.Prelude
+use Prelude.{◌≡◌, ℕ, zero, suc, ◌+◌, ◌<◌, ◌^◌, Bool, true, false, not, ◌&&◌, ◌||◌, List, [], ◌∷◌}
+use Prelude.{map, replicate, Some, None, option_map, refl, ap, ◌∙◌, sym, subst, arith, length}
+use Prelude.{slice_get, slice_index, list_all, Header, Stamped, newest_first, numbers_from}
+use Prelude.{numbers_below, plain_words, lock_words, value_in, both_true, Act, Turn, Script, stop}
+use Prelude.{next_act, act_of, event_now, after_turns, after_rounds, turns_of, run_for, is_done}
+use Prelude.{are_done, is_held_up, are_stuck, RunsTo, GetsStuck, AreStuckThere, IsReady, IsPlaying}
+use Prelude.{HasPlayed, HaveComeToRest, Scene, memory_after, rounds_over}
+use Rattle.std.specs.Prelude.{All}
 use Rattle.std.proofs.lemmas.List.{length-map, length-replicate}
 use Rattle.std.proofs.lemmas.List.Elements.{All-head, All-tail}
 use Rattle.std.proofs.lemmas.Option.{slice_get-map, get_or_from_slice_get}
-use Rattle.vyrd_base.specs.declared.header.Header.{Header}
-use Rattle.vyrd_base.specs.declared.history.Stamped.{Stamped}
-use Rattle.vyrd_base.specs.Places.{newest_first, numbers_from, numbers_below}
-use Rattle.vyrd_base.specs.Layout.{plain_words, lock_words}
-use Rattle.vyrd_base.specs.Histories.{value_in}
-use Rattle.vyrd_base.proofs.TestLaws.{both_true}
-use Rattle.vyrd_memory.specs.declared.act.Act.{Act}
-use Rattle.vyrd_memory.specs.declared.op.Turn.{Turn}
-use Rattle.vyrd_memory.specs.Scripts.{Script, stop, next_act}
-use Rattle.vyrd_memory.specs.Turns.{act_of, event_now, after_turns, after_rounds, turns_of, run_for}
-use Rattle.vyrd_memory.specs.Turns.{is_done, are_done, is_held_up, are_stuck, RunsTo, GetsStuck}
-use Rattle.vyrd_memory.specs.StuckThere.{AreStuckThere}
-use Rattle.vyrd_memory.specs.Playing.{IsReady, IsPlaying, HasPlayed, HaveComeToRest, Scene}
-use Rattle.vyrd_memory.specs.Playing.{memory_after, rounds_over}
 use Rattle.vyrd_memory.proofs.PlayLaws.{act_is}
 use Rattle.vyrd_memory.proofs.PlayedLaws.{after_turns-append, turns_grow}
 

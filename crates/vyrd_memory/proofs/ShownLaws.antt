@@ -1,18 +1,9 @@
 -- Turns whose events a sink has taken, one after the other.
-use Rattle.std.proofs.Common.{◌≡◌, ℕ, ◌+◌, ◌*◌, ◌≤◌, List, [], ◌∷◌, ◌++◌, map, refl, ◌∙◌, sym}
-use Rattle.std.proofs.Common.{arith}
-use Rattle.std.specs.Prelude.{length, true, false}
-use Rattle.std.specs.List.{list_all}
-use Rattle.vyrd_base.specs.declared.header.Header.{Header}
-use Rattle.vyrd_base.specs.declared.history.Stamped.{Stamped}
-use Rattle.vyrd_base.specs.Places.{numbers_below}
-use Rattle.vyrd_memory.specs.declared.op.Turn.{Turn}
-use Rattle.vyrd_memory.specs.Scripts.{Script, next_act}
-use Rattle.vyrd_memory.specs.Bounds.{most_ahead}
-use Rattle.vyrd_memory.specs.Turns.{turns_of, is_done}
-use Rattle.vyrd_memory.specs.StuckThere.{AreStuckThere}
-use Rattle.vyrd_memory.specs.Playing.{rounds_over, scene, total, IsPlaying}
-use Rattle.vyrd_memory.specs.Showing.{Stage, HasShown, ComesToRest, HasRun}
+use Rattle.vyrd_memory.proofs.Prelude.{◌≡◌, ℕ, ◌+◌, ◌*◌, ◌≤◌, List, [], ◌∷◌, ◌++◌, map, refl, ◌∙◌}
+use Rattle.vyrd_memory.proofs.Prelude.{sym, arith, length, true, false, list_all, Header, Stamped}
+use Rattle.vyrd_memory.proofs.Prelude.{numbers_below, Turn, Script, next_act, most_ahead, turns_of}
+use Rattle.vyrd_memory.proofs.Prelude.{is_done, AreStuckThere, rounds_over, scene, total, IsPlaying}
+use Rattle.vyrd_memory.specs.Showing.{ComesToRest, HasRun, Stage, HasShown}
 use Rattle.vyrd_memory.proofs.PlayedLaws.{played_more, rounds_more, come_to_rest}
 use Rattle.vyrd_memory.proofs.RunLaws.{runs_to, stuck_there}
 

@@ -1,17 +1,11 @@
 -- The situation of a caller after its part of a history, the newest event first. A sound script
 -- that is played keeps to what may be
 -- done.
-use Rattle.std.proofs.Common.{◌≡◌, true, List, [], ◌∷◌, Some, refl, ap}
-use Rattle.std.proofs.lemmas.Option.{same_Some}
-use Rattle.vyrd_base.specs.declared.header.Header.{Header}
-use Rattle.vyrd_base.specs.declared.history.Did.{Did}
-use Rattle.vyrd_base.specs.declared.history.Did.TheVariants.{Read, Wrote, Took, Gave, Marked}
-use Rattle.vyrd_memory.specs.declared.act.Act.{Act}
-use Rattle.vyrd_memory.specs.declared.act.Act.TheVariants.{Load, Store, Take, Give, Mark, Done}
-use Rattle.vyrd_memory.specs.Scripts.{Script, stop, step, next_act, after_answer, event_of}
-use Rattle.vyrd_memory.specs.Scripts.{answer_of, left_after, IsAnswer, Plays}
-use Rattle.vyrd_memory.specs.Soundness.{Situation, at_rest, may_act, after_act, IsSound}
-use Rattle.vyrd_memory.specs.Turns.{is_done}
+use Rattle.vyrd_memory.proofs.Prelude.{◌≡◌, true, List, [], ◌∷◌, Some, refl, ap, same_Some, Header}
+use Rattle.vyrd_memory.proofs.Prelude.{Did, Read, Wrote, Took, Gave, Marked, Act, Load, Store, Take}
+use Rattle.vyrd_memory.proofs.Prelude.{Give, Mark, Done, Script, stop, step, next_act, after_answer}
+use Rattle.vyrd_memory.proofs.Prelude.{event_of, answer_of, left_after, IsAnswer, Plays, Situation}
+use Rattle.vyrd_memory.proofs.Prelude.{at_rest, may_act, after_act, IsSound, is_done}
 
 -- the act whose event it is
 abbrev pub act_of_event : Did → Act

@@ -1,7 +1,5 @@
 -- Arguments of 32 bits, one by one.
-use Rattle.std.proofs.Common.{◌≡◌, ◌<◌, ◌^◌, true, arith}
-use Rattle.std.proofs.lemmas.Bool.Decides.{nat_tests}
-use Rattle.vyrd_base.specs.declared.subject.Args.{Args}
+use Rattle.vyrd_memory.proofs.Prelude.{◌≡◌, ◌<◌, ◌^◌, true, arith, nat_tests, Args}
 use Rattle.vyrd_memory.specs.Arguments.{are_small}
 
 pub small_a : (args : Args) → are_small args ≡ true → args.a < 2 ^ 32

@@ -1,15 +1,9 @@
 -- Single acts of a sound script, with the locks that its caller holds.
-use Rattle.std.proofs.Common.{◌≡◌, ℕ, ◌+◌, ◌<◌, ◌^◌, Bool, true, false, cond, not, List, ◌∷◌, Some}
-use Rattle.std.proofs.Common.{arith}
-use Rattle.std.specs.Prelude.{◌==◌, filter, is_some}
-use Rattle.std.proofs.lemmas.Bool.Decides.{nat_tests}
-use Rattle.vyrd_base.specs.declared.header.Header.{Header}
-use Rattle.vyrd_base.specs.declared.subject.Method.{Method}
-use Rattle.vyrd_base.specs.Histories.{cells_of, is_plain}
-use Rattle.vyrd_base.proofs.TestLaws.{both_true, same_number, is_below}
-use Rattle.vyrd_memory.specs.declared.act.Act.TheVariants.{Store}
-use Rattle.vyrd_memory.specs.Scripts.{Script, perform}
-use Rattle.vyrd_memory.specs.Soundness.{Situation, IsSound, holds}
+use Rattle.vyrd_memory.proofs.Prelude.{◌≡◌, ℕ, ◌+◌, ◌<◌, ◌^◌, Bool, true, false, cond, not, List}
+use Rattle.vyrd_memory.proofs.Prelude.{◌∷◌, Some, arith, ◌==◌, is_some, nat_tests, Header, Method}
+use Rattle.vyrd_memory.proofs.Prelude.{cells_of, is_plain, both_true, same_number, is_below, Store}
+use Rattle.vyrd_memory.proofs.Prelude.{Script, perform, Situation, IsSound, holds}
+use Rattle.std.specs.Prelude.{filter}
 
 -- these locks are held in an execution of the method, and whether that has committed
 abbrev pub holding : List ℕ → Method → Bool → Situation

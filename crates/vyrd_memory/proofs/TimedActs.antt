@@ -1,9 +1,7 @@
 -- Single acts of a script that comes to its return in time.
-use Rattle.std.proofs.Common.{◌≡◌, ℕ, ◌+◌, ◌-◌, ◌≤◌, Bool, true, false, cond, refl, arith}
-use Rattle.vyrd_base.specs.declared.log.Kind.TheVariants.{Commit}
-use Rattle.vyrd_memory.specs.declared.act.Act.{Act}
-use Rattle.vyrd_memory.specs.declared.act.Act.TheVariants.{Load, Mark}
-use Rattle.vyrd_memory.specs.Scripts.{Script, stop, step, perform, returns, gives_up}
+use Rattle.vyrd_memory.proofs.Prelude.{◌≡◌, ℕ, ◌+◌, ◌-◌, ◌≤◌, Bool, true, false, cond, refl, arith}
+use Rattle.vyrd_memory.proofs.Prelude.{Commit, Act, Load, Mark, Script, stop, step, perform}
+use Rattle.vyrd_memory.specs.Scripts.{returns, gives_up}
 use Rattle.vyrd_memory.specs.Bounds.{is_return, EndsByReturn}
 
 -- there may be more time

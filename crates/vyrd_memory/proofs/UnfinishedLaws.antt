@@ -1,22 +1,12 @@
 -- A round that leaves out callers that are done is a round over all of them.
-use Rattle.std.proofs.Common.{◌≡◌, ◌≢◌, ℕ, zero, suc, ◌+◌, ◌<◌, ◌≤◌, Bool, true, false, cond, List}
-use Rattle.std.proofs.Common.{[], ◌∷◌, ◌++◌, length, get_or, slice_get, Option, Some, None, refl}
-use Rattle.std.proofs.Common.{ap, ◌∙◌, sym, arith, append-nil}
-use Rattle.std.specs.List.{filter}
+use Rattle.vyrd_memory.proofs.Prelude
+use Prelude.{◌≡◌, ◌≢◌, ℕ, zero, suc, ◌+◌, ◌<◌, ◌≤◌, Bool, true, false, cond, List, [], ◌∷◌, ◌++◌}
+use Prelude.{length, get_or, slice_get, Option, Some, None, refl, ap, ◌∙◌, sym, arith, append-nil}
+use Prelude.{filter, Header, Did, Stamped, newest_first, numbers_from, numbers_below, isnt_same}
+use Prelude.{Act, Script, act_of, event_now, with_event, after_turn, after_turns, is_done}
+use Prelude.{is_unfinished, LeavesOut, IsPlaying, Stage, HasShown}
 use Rattle.std.proofs.lemmas.List.Elements.{filter-append}
-use Rattle.vyrd_base.specs.declared.header.Header.{Header}
-use Rattle.vyrd_base.specs.declared.history.Did.{Did}
-use Rattle.vyrd_base.specs.declared.history.Stamped.{Stamped}
-use Rattle.vyrd_base.specs.Places.{newest_first, numbers_from, numbers_below}
 use Rattle.vyrd_base.proofs.PlaceLaws.{numbers_below-push}
-use Rattle.vyrd_base.proofs.TestLaws.{isnt_same}
-use Rattle.vyrd_memory.specs.declared.act.Act.{Act}
-use Rattle.vyrd_memory.specs.Scripts.{Script}
-use Rattle.vyrd_memory.specs.Turns.{act_of, event_now, with_event, after_turn}
-use Rattle.vyrd_memory.specs.Turns.{after_turns, is_done}
-use Rattle.vyrd_memory.specs.Unfinished.{is_unfinished, LeavesOut}
-use Rattle.vyrd_memory.specs.Playing.{IsPlaying}
-use Rattle.vyrd_memory.specs.Showing.{Stage, HasShown}
 use Rattle.vyrd_memory.proofs.PlayLaws.{part_there}
 
 -- no event where all is done

@@ -1,15 +1,9 @@
 -- The break of a block, found from its end on.
-use Rattle.std.proofs.Common.{◌≡◌, ℕ, Bool, true, false, cond, ◌&&◌, ◌||◌, List, [], ◌∷◌, ◌++◌}
-use Rattle.std.proofs.Common.{Option, Some, None, refl, ap, ◌∙◌, sym}
-use Rattle.std.specs.Option.{option_or, option_map, is_none}
-use Rattle.std.specs.List.{list_all}
-use Rattle.std.proofs.lemmas.Bool.{or_left}
-use Rattle.std.proofs.Math.Bool.{or-false}
-use Rattle.vyrd_base.specs.declared.history.Stamped.{Stamped}
-use Rattle.vyrd_base.specs.Places.{places_after, newest_first, first_answer}
-use Rattle.vyrd_mover.specs.Movers.{is_right_mover, is_left_mover, has_cut, uncut_at, break_of}
-use Rattle.vyrd_mover.specs.Blocks.{line_of, broken_lines}
-use Rattle.vyrd_mover.specs.Ahead.{first_not_left, break_line}
+use Rattle.vyrd_mover.proofs.Prelude
+use Prelude.{◌≡◌, ℕ, Bool, true, false, cond, ◌&&◌, ◌||◌, List, [], ◌∷◌, ◌++◌, Option, Some, None}
+use Prelude.{refl, ap, ◌∙◌, sym, option_or, option_map, is_none, list_all, or_left, or-false}
+use Prelude.{Stamped, places_after, newest_first, first_answer, is_right_mover, is_left_mover}
+use Prelude.{has_cut, uncut_at, break_of, line_of, broken_lines, first_not_left, break_line}
 use Rattle.vyrd_mover.proofs.CutLaws.{cuts, has_cut-cuts}
 use Rattle.vyrd_mover.proofs.Gathers.{onto_append}
 use Rattle.vyrd_mover.proofs.SeenLaws.{list_all-push}

@@ -1,19 +1,12 @@
 -- If no block is broken, each block can be gathered.
-use Rattle.std.proofs.Common.{◌≡◌, ℕ, Bool, true, List, [], ◌∷◌, ◌++◌, Option, Some, None}
-use Rattle.std.proofs.Common.{refl, ap, ◌∙◌, sym}
-use Rattle.std.specs.Option.{option_map, option_and_then, is_none}
-use Rattle.vyrd_base.specs.declared.history.Stamped.{Stamped}
-use Rattle.vyrd_base.specs.Places.{Place, places, places_after, newest_first, newest_first_onto}
-use Rattle.vyrd_base.specs.Places.{first_answer}
-use Rattle.vyrd_base.specs.Histories.{Cells, is_legal}
+use Rattle.vyrd_mover.proofs.Prelude
+use Prelude.{◌≡◌, ℕ, Bool, true, List, [], ◌∷◌, ◌++◌, Option, Some, None, refl, ap, ◌∙◌, sym}
+use Prelude.{option_map, option_and_then, is_none, Stamped, Place, places, places_after}
+use Prelude.{newest_first, newest_first_onto, first_answer, Cells, is_legal, Reducible}
+use Prelude.{is_race_free, has_cut, break_line, Surveyed, HasSurveyed, EachIsGathered}
 use Rattle.vyrd_base.proofs.ListLaws.{both_none}
-use Rattle.vyrd_mover.specs.declared.blocks.Blocks.TheVariants.{Reducible}
-use Rattle.vyrd_mover.specs.RaceFree.{is_race_free}
-use Rattle.vyrd_mover.specs.Movers.{has_cut}
-use Rattle.vyrd_mover.specs.Blocks.{is_block_open, up_to_end, events_of, block_at, broken_lines}
-use Rattle.vyrd_mover.specs.Blocks.{broken_at, first_broken, blocks_ended, said_of, blocks_of}
-use Rattle.vyrd_mover.specs.Ahead.{break_line, Surveyed, HasSurveyed}
-use Rattle.vyrd_mover.specs.Gathering.{EachIsGathered}
+use Rattle.vyrd_mover.specs.Blocks.{up_to_end, block_at, broken_at, first_broken, blocks_ended}
+use Rattle.vyrd_mover.specs.Blocks.{said_of, is_block_open, events_of, broken_lines, blocks_of}
 use Rattle.vyrd_mover.proofs.BreakLaws.{broken_lines_is, lines_from, has_cut_is_none}
 use Rattle.vyrd_mover.proofs.GatherLaws.{reducible_is_gathered}
 

@@ -1,13 +1,10 @@
 -- Cuts of a list by recursion: the first event is followed by left movers alone, or it is a right
 -- mover and the rest has a cut.
-use Rattle.std.proofs.Common.{◌≡◌, ℕ, zero, suc, ◌+◌, ◌<◌, Bool, true, ◌&&◌, ◌||◌, ◌⊎◌, inl}
-use Rattle.std.proofs.Common.{inr, List, [], ◌∷◌, length, take, drop, refl, ◌∙◌, sym, arith}
-use Rattle.std.specs.List.{list_all, list_any}
-use Rattle.std.proofs.lemmas.Bool.{or_left, or_right}
-use Rattle.vyrd_base.specs.declared.history.Stamped.{Stamped}
-use Rattle.vyrd_base.specs.Places.{numbers_below}
-use Rattle.vyrd_base.proofs.TestLaws.{both_true, first_true, second_true}
-use Rattle.vyrd_mover.specs.Movers.{is_right_mover, is_left_mover, is_cut, has_cut}
+use Rattle.vyrd_mover.proofs.Prelude.{◌≡◌, ℕ, zero, suc, ◌+◌, ◌<◌, Bool, true, ◌&&◌, ◌||◌, ◌⊎◌, inl}
+use Rattle.vyrd_mover.proofs.Prelude.{inr, List, [], ◌∷◌, length, take, drop, refl, ◌∙◌, sym, arith}
+use Rattle.vyrd_mover.proofs.Prelude.{list_all, list_any, or_left, or_right, Stamped, numbers_below}
+use Rattle.vyrd_mover.proofs.Prelude.{both_true, first_true, second_true}
+use Rattle.vyrd_mover.specs.Movers.{is_cut, is_right_mover, is_left_mover, has_cut}
 use Rattle.vyrd_mover.proofs.TruthLaws.{either_true, any_tells, tells_any}
 
 -- whether the list has a cut

@@ -1,30 +1,18 @@
 -- A later line of a history has one reading.
-use Rattle.std.proofs.Common.{◌≡◌, ℕ, ◌<◌, ◌^◌, Bool, true, false, cond, not, ◌&&◌, List, [], ◌∷◌}
-use Rattle.std.proofs.Common.{◌++◌, Option, Some, None, refl, ap, sym, ◌∙◌, arith}
-use Rattle.std.specs.Prelude.{nat_lt, decimal}
-use Rattle.std.specs.List.{list_all}
-use Rattle.std.specs.Str.{bytes_eq}
-use Rattle.std.proofs.lemmas.Slice.Eq.{bytes_eq-Decides}
-use Rattle.std.proofs.lemmas.Bool.{not-true}
-use Rattle.vyrd_base.specs.declared.subject.Subject.{Subject}
-use Rattle.vyrd_base.specs.declared.log.Kind.{Kind}
+use Rattle.vyrd_mover.proofs.Prelude
+use Prelude.{◌≡◌, ℕ, ◌<◌, ◌^◌, Bool, true, false, cond, not, ◌&&◌, List, [], ◌∷◌, ◌++◌, Option}
+use Prelude.{Some, None, refl, ap, sym, ◌∙◌, arith, nat_lt, decimal, list_all, bytes_eq}
+use Prelude.{bytes_eq-Decides, not-true, Subject, Kind, Did, Read, Wrote, Took, Gave, Marked}
+use Prelude.{Stamped, is_kind_of, fields_of, entry_in, is_write, split-join, number_of_decimal}
+use Prelude.{bytes_same, is_plain_field, both_true, first_true, second_true, below_of, is_below}
+use Prelude.{one_before_space, entry_line_is, did_line, event_line, is_did_of, is_event_of}
+use Prelude.{act_from, mark_or, event_in}
 use Rattle.vyrd_base.specs.declared.log.Entry.{Entry}
-use Rattle.vyrd_base.specs.declared.history.Did.{Did}
-use Rattle.vyrd_base.specs.declared.history.Did.TheVariants.{Read, Wrote, Took, Gave, Marked}
-use Rattle.vyrd_base.specs.declared.history.Stamped.{Stamped}
-use Rattle.vyrd_base.specs.Spelling.{entry_line, is_entry_of, is_kind_of}
-use Rattle.vyrd_base.specs.Lines.{fields_of, entry_in}
-use Rattle.vyrd_base.specs.Histories.{is_write}
-use Rattle.vyrd_base.proofs.SplitLaws.{split-join, number_of_decimal, bytes_same}
-use Rattle.vyrd_base.proofs.SplitLaws.{is_plain_field}
+use Rattle.vyrd_base.specs.Spelling.{entry_line, is_entry_of}
 use Rattle.vyrd_base.proofs.LineLaws.{plain_number, plain_spaces, below_32, entry_in-entry_line}
 use Rattle.vyrd_base.proofs.ReadingSound.{entry_in_sound}
-use Rattle.vyrd_base.proofs.TestLaws.{both_true, first_true, second_true, below_of, is_below}
 use Rattle.vyrd_text.specs.Spelled.{kind_text}
-use Rattle.vyrd_text.proofs.PartLaws.{one_before_space, entry_line_is}
-use Rattle.vyrd_mover.specs.HistoryText.{did_line, event_line}
-use Rattle.vyrd_mover.specs.HistoryLines.{is_did_of, is_event_of, event_if, act_from, mark_or}
-use Rattle.vyrd_mover.specs.HistoryLines.{event_in}
+use Rattle.vyrd_mover.specs.HistoryLines.{event_if}
 use Rattle.vyrd_mover.specs.HistorySpelled.{is_act, act_text, IsPairRead, IsActRead, IsStampedRead}
 
 -- an event of this number and caller

@@ -1,17 +1,9 @@
 -- What is kept of the events goes with the history that the lines so far say.
-use Rattle.std.proofs.Common.{◌≡◌, ℕ, ◌+◌, ◌<◌, List, length, Option, None, Result, Ok, Err, refl}
-use Rattle.std.proofs.Common.{ap, sym, ◌∙◌, subst}
-use Rattle.vyrd_base.specs.declared.subject.Subject.{Subject}
-use Rattle.vyrd_base.specs.declared.history.Stamped.{Stamped}
-use Rattle.vyrd_base.specs.Layout.{plain_words, lock_words}
-use Rattle.vyrd_mover.specs.declared.fault.HistoryRule.{HistoryRule}
-use Rattle.vyrd_mover.specs.HistoryText.{Recorded}
-use Rattle.vyrd_mover.specs.HistoryLines.{event_in}
-use Rattle.vyrd_mover.specs.HistoryReading.{broken_by, event_read, line_read}
-use Rattle.vyrd_mover.specs.Usage.{IsInRange}
+use Rattle.vyrd_mover.proofs.Prelude
+use Prelude.{◌≡◌, ℕ, ◌+◌, ◌<◌, List, length, Option, None, Result, Ok, Err, refl, ap, sym, ◌∙◌}
+use Prelude.{subst, Subject, Stamped, plain_words, lock_words, HistoryRule, Recorded, event_in}
+use Prelude.{broken_by, event_read, line_read, IsInRange, Taken, IsNext, HaveRead, HaveReadOn}
 use Rattle.vyrd_mover.specs.Remembering.{Remembered}
-use Rattle.vyrd_mover.specs.Taking.{Taken, IsNext}
-use Rattle.vyrd_mover.specs.EventsRead.{HaveRead, HaveReadOn}
 use Rattle.vyrd_mover.proofs.TextLaws.{no_rule}
 use Rattle.vyrd_mover.proofs.TakingLaws.{taken_count, fits}
 

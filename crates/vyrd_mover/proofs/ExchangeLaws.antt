@@ -1,9 +1,6 @@
 -- The exchange law over the definitions.
-use Rattle.std.proofs.Common.{◌≡◌, ◌≢◌, ℕ, true, List, ◌∷◌, ◌++◌}
-use Rattle.vyrd_base.specs.declared.history.Stamped.{Stamped}
-use Rattle.vyrd_base.specs.Histories.{Cells, is_legal}
-use Rattle.vyrd_mover.specs.RaceFree.{is_race_free}
-use Rattle.vyrd_mover.specs.Exchanges.{is_movable, numbered}
+use Rattle.vyrd_mover.proofs.Prelude.{◌≡◌, ◌≢◌, ℕ, true, List, ◌∷◌, ◌++◌, Stamped, Cells, is_legal}
+use Rattle.vyrd_mover.proofs.Prelude.{is_race_free, is_movable, numbered}
 use Rattle.vyrd_mover.proofs.Running.{legal_runs, runs_legal}
 use Rattle.vyrd_mover.proofs.FreeCells.{free_of, is_free, free_numbered}
 use Rattle.vyrd_mover.proofs.Swaps.{exchange_runs, exchange_frees}

@@ -1,18 +1,12 @@
 -- Race-free cells as facts about runs over a memory.
-use Rattle.std.proofs.Common.{◌≡◌, ℕ, ◌+◌, ◌<◌, true, false, not, ◌||◌, ◌⊎◌, inl, inr, List, []}
-use Rattle.std.proofs.Common.{◌∷◌, refl, ap, arith}
-use Rattle.std.specs.Prelude.{◌==◌, nat_le}
-use Rattle.std.specs.List.{list_all, list_any}
-use Rattle.std.proofs.lemmas.Bool.{or_left, or_right, not-true}
-use Rattle.vyrd_base.specs.declared.history.Stamped.{Stamped}
-use Rattle.vyrd_base.specs.Places.{places_after, numbers_from, numbers_below}
-use Rattle.vyrd_base.specs.Histories.{Cells, is_lock, value_in}
-use Rattle.vyrd_base.proofs.TestLaws.{both_true, first_true, second_true, same_of, is_same}
-use Rattle.vyrd_base.proofs.TestLaws.{at_most_of, below_of}
+use Rattle.vyrd_mover.proofs.Prelude
+use Prelude.{◌≡◌, ℕ, ◌+◌, ◌<◌, true, false, not, ◌||◌, ◌⊎◌, inl, inr, List, [], ◌∷◌, refl, ap}
+use Prelude.{arith, ◌==◌, nat_le, list_all, list_any, or_left, or_right, not-true, Stamped}
+use Prelude.{places_after, numbers_from, numbers_below, Cells, is_lock, value_in, both_true}
+use Prelude.{first_true, second_true, same_of, is_same, at_most_of, below_of, is_access_of}
+use Prelude.{is_write_to, is_used_by_alone, is_unwritten, is_guarded_at, is_guarded_by}
+use Prelude.{is_race_free, numbered_from}
 use Rattle.vyrd_base.proofs.CellLaws.{is_lock_of}
-use Rattle.vyrd_mover.specs.RaceFree.{is_access_of, is_write_to, is_used_by_alone, is_unwritten}
-use Rattle.vyrd_mover.specs.RaceFree.{is_guarded_at, is_guarded_by, is_race_free}
-use Rattle.vyrd_mover.specs.Exchanges.{numbered_from}
 use Rattle.vyrd_mover.proofs.TruthLaws.{either_true, implied, implies, any_tells, tells_any}
 use Rattle.vyrd_mover.proofs.Running.{step, value_step}
 

@@ -1,33 +1,17 @@
 -- Events that are read where they lie: what a reader makes of them is what it makes of their lines.
-use Rattle.std.proofs.Common.{◌≡◌, ℕ, ◌+◌, ◌-◌, ◌<◌, ◌≤◌, ◌^◌, Bool, true, false, List, [], ◌∷◌}
-use Rattle.std.proofs.Common.{◌++◌, length, take, drop, get_or, Option, Some, refl, ap, sym, ◌∙◌}
-use Rattle.std.proofs.Common.{subst, arith, append_assoc, length-append}
-use Rattle.std.specs.Prelude.{decimal, is_some, IfSome}
-use Rattle.std.proofs.lemmas.List.{append-nil}
-use Rattle.std.proofs.lemmas.Slice.Eq.{bytes_eq-Decides}
+use Rattle.vyrd_mover.proofs.Prelude
+use Prelude.{◌≡◌, ℕ, ◌+◌, ◌-◌, ◌<◌, ◌≤◌, ◌^◌, Bool, true, false, List, [], ◌∷◌, ◌++◌, length, take}
+use Prelude.{drop, get_or, Option, Some, refl, ap, sym, ◌∙◌, subst, arith, append_assoc}
+use Prelude.{length-append, decimal, is_some, append-nil, bytes_eq-Decides, Subject, Kind, Did}
+use Prelude.{Stamped, end_line, is_write, isnt_some, cut, lacks, both_true, is_below, entry_line_is}
+use Prelude.{Events, HistoryFault, Lines, Recorded, did_line, event_line, event_in, event_read}
+use Prelude.{line_read, history_reading, HaveRead, HaveReadOn, rest_read, Follows, IsAt, GoesTo}
+use Prelude.{ReaderState, HasRead, IsFedTo, IsRefusal, IsRefusedAt}
+use Rattle.std.specs.Prelude.{IfSome}
 use denote.Ref.{Bor}
-use Rattle.vyrd_base.specs.declared.subject.Subject.{Subject}
-use Rattle.vyrd_base.specs.declared.log.Kind.{Kind}
-use Rattle.vyrd_base.specs.declared.history.Did.{Did}
-use Rattle.vyrd_base.specs.declared.history.Stamped.{Stamped}
-use Rattle.vyrd_base.specs.Spelling.{end_line}
-use Rattle.vyrd_base.specs.Histories.{is_write}
-use Rattle.vyrd_base.proofs.ListLaws.{isnt_some}
-use Rattle.vyrd_base.proofs.SplitLaws.{cut, lacks}
-use Rattle.vyrd_base.proofs.TestLaws.{both_true, is_below}
 use Rattle.vyrd_text.specs.Quick.{IsKindAtFront}
-use Rattle.vyrd_text.proofs.PartLaws.{entry_line_is}
-use Rattle.vyrd_mover.specs.declared.events.Events.{Events}
-use Rattle.vyrd_mover.specs.declared.fault.HistoryFault.{HistoryFault}
-use Rattle.vyrd_mover.specs.declared.lines.Lines.{Lines}
-use Rattle.vyrd_mover.specs.HistoryText.{Recorded, did_line, event_line}
-use Rattle.vyrd_mover.specs.HistoryLines.{event_in}
 use Rattle.vyrd_mover.specs.HistoryFront.{did_text, IsDidAtFront, IsEventAtFront}
-use Rattle.vyrd_mover.specs.HistoryReading.{event_read, line_read, history_reading}
-use Rattle.vyrd_mover.specs.EventsRead.{HaveRead, HaveReadOn}
-use Rattle.vyrd_mover.specs.HistoryReaders.{rest_read, Follows, IsAt, GoesTo, IsTakenTo}
-use Rattle.vyrd_mover.specs.HistoryReaders.{ReaderState, HasRead, IsFedTo}
-use Rattle.vyrd_mover.specs.Refusals.{IsRefusal, IsRefusedAt}
+use Rattle.vyrd_mover.specs.HistoryReaders.{IsTakenTo}
 use Rattle.vyrd_mover.proofs.EventLaws.{event_in-event_line}
 use Rattle.vyrd_mover.proofs.EventsReadLaws.{line_says}
 use Rattle.vyrd_mover.proofs.LinesLaws.{rest_line, rest_goes_on, at_later, line_and_rest}

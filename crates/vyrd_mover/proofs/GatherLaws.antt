@@ -1,20 +1,11 @@
 -- The block law over the definitions.
-use Rattle.std.proofs.Common.{◌≡◌, ℕ, ◌+◌, Bool, true, cond, List, [], ◌∷◌}
-use Rattle.std.proofs.Common.{◌++◌, length, Some, None, refl, ap, ◌∙◌, sym, subst, arith}
-use Rattle.std.proofs.Common.{append_assoc, append-nil}
-use Rattle.std.specs.Prelude.{◌==◌}
-use Rattle.std.specs.List.{list_all, cons_option}
+use Rattle.vyrd_mover.proofs.Prelude
+use Prelude.{◌≡◌, ℕ, ◌+◌, Bool, true, cond, List, [], ◌∷◌, ◌++◌, length, Some, None, refl, ap, ◌∙◌}
+use Prelude.{sym, subst, arith, append_assoc, append-nil, ◌==◌, list_all, cons_option, Did, Stamped}
+use Prelude.{newest_first, newest_first_onto, Cells, is_legal, both_true, is_race_free, has_cut}
+use Prelude.{is_mark, is_block_open, events_of, numbered_from, done_by}
 use Rattle.std.proofs.lemmas.List.Elements.{filter_map-append}
-use Rattle.vyrd_base.specs.declared.history.Did.{Did}
-use Rattle.vyrd_base.specs.declared.history.Stamped.{Stamped}
-use Rattle.vyrd_base.specs.Places.{newest_first, newest_first_onto}
-use Rattle.vyrd_base.specs.Histories.{Cells, is_legal}
-use Rattle.vyrd_base.proofs.TestLaws.{both_true}
-use Rattle.vyrd_mover.specs.RaceFree.{is_race_free}
-use Rattle.vyrd_mover.specs.Movers.{has_cut}
-use Rattle.vyrd_mover.specs.Blocks.{is_mark, is_block_open, events_of}
-use Rattle.vyrd_mover.specs.Exchanges.{numbered_from}
-use Rattle.vyrd_mover.specs.Gathering.{done_by, IsBlock, IsGathered, CanBeGathered}
+use Rattle.vyrd_mover.specs.Gathering.{IsBlock, IsGathered, CanBeGathered}
 use Rattle.vyrd_mover.proofs.Running.{legal_runs, runs_legal}
 use Rattle.vyrd_mover.proofs.FreeCells.{free_of}
 use Rattle.vyrd_mover.proofs.CutLaws.{cuts, has_cut-cuts}

@@ -1,18 +1,11 @@
 -- The events of a reducible block brought side by side, one exchange after the other.
-use Rattle.std.proofs.Common.{◌≡◌, ◌≢◌, ℕ, Bool, true, false, cond, not, ◌&&◌, ◌||◌, ◌⊎◌, inl, inr}
-use Rattle.std.proofs.Common.{List, [], ◌∷◌, ◌++◌, Option, Some, None, refl, ap, ◌∙◌, sym, subst}
-use Rattle.std.specs.Prelude.{◌==◌}
-use Rattle.std.specs.List.{list_all, filter, cons_option}
-use Rattle.std.proofs.lemmas.Bool.{or_left, or_right}
-use Rattle.vyrd_base.specs.declared.history.Did.{Did}
-use Rattle.vyrd_base.specs.declared.history.Stamped.{Stamped}
-use Rattle.vyrd_base.specs.Places.{newest_first, newest_first_onto}
-use Rattle.vyrd_base.specs.Histories.{Cells, value_in}
-use Rattle.vyrd_base.proofs.TestLaws.{first_true, second_true, same_of, apart_of}
+use Rattle.vyrd_mover.proofs.Prelude
+use Prelude.{◌≡◌, ◌≢◌, ℕ, Bool, true, false, cond, not, ◌&&◌, ◌||◌, ◌⊎◌, inl, inr, List, [], ◌∷◌}
+use Prelude.{◌++◌, Option, Some, None, refl, ap, ◌∙◌, sym, subst, ◌==◌, list_all, cons_option}
+use Prelude.{or_left, or_right, Did, Stamped, newest_first, newest_first_onto, Cells, value_in}
+use Prelude.{first_true, second_true, same_of, apart_of, is_mark, events_of, is_movable, done_by}
+use Rattle.std.specs.List.{filter}
 use Rattle.vyrd_mover.specs.Movers.{is_free_access, is_take, is_give, is_right_mover, is_left_mover}
-use Rattle.vyrd_mover.specs.Blocks.{is_mark, events_of}
-use Rattle.vyrd_mover.specs.Exchanges.{is_movable}
-use Rattle.vyrd_mover.specs.Gathering.{done_by}
 use Rattle.vyrd_mover.proofs.TruthLaws.{either_true}
 use Rattle.vyrd_mover.proofs.Running.{Runs}
 use Rattle.vyrd_mover.proofs.Swaps.{Frees, exchange_runs, exchange_frees}

@@ -1,26 +1,18 @@
 -- The first line of a history has one reading.
-use Rattle.std.proofs.Common.{◌≡◌, ℕ, ◌<◌, ◌^◌, Bool, true, false, cond, List, [], ◌∷◌, ◌++◌}
-use Rattle.std.proofs.Common.{Option, Some, None, refl, sym, ◌∙◌, arith}
-use Rattle.std.specs.Prelude.{codes, decimal}
-use Rattle.std.specs.List.{list_all}
-use Rattle.std.specs.Str.{bytes_eq}
-use Rattle.std.proofs.lemmas.Slice.Eq.{bytes_eq-Decides}
-use Rattle.vyrd_base.specs.declared.header.Header.{Header}
-use Rattle.vyrd_base.specs.declared.subject.Subject.{Subject}
+use Rattle.vyrd_mover.proofs.Prelude
+use Prelude.{◌≡◌, ℕ, ◌<◌, ◌^◌, Bool, true, false, cond, List, [], ◌∷◌, ◌++◌, Option, Some, None}
+use Prelude.{refl, sym, ◌∙◌, arith, codes, decimal, list_all, bytes_eq, bytes_eq-Decides, Header}
+use Prelude.{Subject, fields_of, lacks, split-join, lacks-join, number_of_decimal, bytes_same}
+use Prelude.{is_plain_field, both_true, one_before_space, history_header_line, history_header_in}
 use Rattle.vyrd_base.specs.Subjects.{is_built_in, limits_of}
 use Rattle.vyrd_base.specs.Spelling.{subject_name}
-use Rattle.vyrd_base.specs.Lines.{fields_of, number_of, subject_called, header_if, header_of}
-use Rattle.vyrd_base.proofs.HeaderLaws.{size_in_32_bits, callers_in_32_bits, first_version_built_in}
-use Rattle.vyrd_base.proofs.SplitLaws.{lacks, split-join, lacks-join, number_of_decimal, bytes_same}
-use Rattle.vyrd_base.proofs.SplitLaws.{is_plain_field}
+use Rattle.vyrd_base.specs.Lines.{number_of, subject_called, header_if, header_of}
+use Rattle.vyrd_base.proofs.HeaderLaws.{first_version_built_in, size_in_32_bits, callers_in_32_bits}
 use Rattle.vyrd_base.proofs.LineLaws.{plain_number, plain_spaces, plain_line_feeds}
-use Rattle.vyrd_base.proofs.TestLaws.{both_true}
 use Rattle.vyrd_base.proofs.StructureLaws.{plain_subject}
 use Rattle.vyrd_base.proofs.SubjectLaws.{subject_read, one_name}
-use Rattle.vyrd_text.proofs.PartLaws.{one_before_space}
 use Rattle.vyrd_text.proofs.HeaderLaws.{made, not_made}
-use Rattle.vyrd_mover.specs.HistoryText.{history_header_line}
-use Rattle.vyrd_mover.specs.HistoryLines.{history_header_if, history_header_from, history_header_in}
+use Rattle.vyrd_mover.specs.HistoryLines.{history_header_if, history_header_from}
 use Rattle.vyrd_mover.specs.HistorySpelled.{AreBoundsRead, IsFirstRead}
 
 -- a size that no number of callers follows

@@ -1,14 +1,9 @@
 -- What a legal history says of the event at a place.
-use Rattle.std.proofs.Common.{◌≡◌, ℕ, zero, suc, ◌+◌, ◌<◌, ◌≤◌, true, List, [], ◌∷◌, length, take}
-use Rattle.std.proofs.Common.{get_or, subst, arith}
-use Rattle.std.specs.List.{list_all}
-use Rattle.vyrd_base.specs.declared.history.Did.{Did}
-use Rattle.vyrd_base.specs.declared.history.Stamped.{Stamped}
-use Rattle.vyrd_base.specs.Places.{places_after, newest_first, newest_first_onto}
-use Rattle.vyrd_base.specs.Histories.{Cells, may_do, is_legal_at, is_legal}
-use Rattle.vyrd_base.proofs.TestLaws.{first_true, second_true, below_of, at_most_of}
-use Rattle.vyrd_mover.specs.LockSets.{words_for}
-use Rattle.vyrd_mover.specs.Usage.{IsInRange, IsBehind, HasPlaceIn}
+use Rattle.vyrd_mover.proofs.Prelude.{◌≡◌, ℕ, zero, suc, ◌+◌, ◌<◌, ◌≤◌, true, List, [], ◌∷◌, length}
+use Rattle.vyrd_mover.proofs.Prelude.{take, get_or, subst, arith, list_all, Did, Stamped}
+use Rattle.vyrd_mover.proofs.Prelude.{places_after, newest_first, newest_first_onto, Cells, may_do}
+use Rattle.vyrd_mover.proofs.Prelude.{is_legal_at, is_legal, first_true, second_true, below_of}
+use Rattle.vyrd_mover.proofs.Prelude.{at_most_of, words_for, IsInRange, IsBehind, HasPlaceIn}
 use Rattle.vyrd_mover.proofs.LockLaws.{place_of_lock}
 
 -- the event may come here

@@ -1,3 +1,4 @@
+mod Prelude
 pub mod Opened
 pub mod TruthLaws
 pub mod Running

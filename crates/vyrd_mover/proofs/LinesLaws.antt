@@ -1,22 +1,11 @@
 -- The lines so far are followed by one more, or by bytes that break a rule.
-use Rattle.std.proofs.Common.{◌≡◌, ℕ, ◌+◌, ◌<◌, ◌≤◌, Bool, true, false, cond, List, [], ◌∷◌, ◌++◌}
-use Rattle.std.proofs.Common.{length, Option, Some, None, ap, ◌∙◌, arith, append_assoc}
-use Rattle.std.specs.Prelude.{is_some}
-use Rattle.vyrd_base.specs.Spelling.{end_line}
-use Rattle.vyrd_base.proofs.SplitLaws.{cut, lacks}
-use Rattle.vyrd_base.proofs.TestLaws.{is_below, isnt_below}
-use Rattle.vyrd_mover.specs.declared.events.Events.{Events}
-use Rattle.vyrd_mover.specs.declared.fault.HistoryRule.{HistoryRule}
-use Rattle.vyrd_mover.specs.declared.fault.HistoryRule.TheVariants.{TooManyLines, AfterEnd}
-use Rattle.vyrd_mover.specs.declared.fault.HistoryRule.TheVariants.{BadHeader, BadLine}
-use Rattle.vyrd_mover.specs.declared.fault.HistoryFault.{HistoryFault}
-use Rattle.vyrd_mover.specs.declared.lines.Lines.{Lines}
-use Rattle.vyrd_mover.specs.HistoryText.{Recorded}
-use Rattle.vyrd_mover.specs.HistoryReading.{refused, line_read, first_read, unless_too_many}
-use Rattle.vyrd_mover.specs.HistoryReading.{unfinished_rule, history_reading}
-use Rattle.vyrd_mover.specs.EventsRead.{HaveRead, HaveReadOn}
-use Rattle.vyrd_mover.specs.HistoryReaders.{rest_read, Follows, IsAt, GoesOn}
-use Rattle.vyrd_mover.specs.Refusals.{IsRefusal, IsRefusedAt}
+use Rattle.vyrd_mover.proofs.Prelude
+use Prelude.{◌≡◌, ℕ, ◌+◌, ◌<◌, ◌≤◌, Bool, true, false, cond, List, [], ◌∷◌, ◌++◌, length, Option}
+use Prelude.{Some, None, ap, ◌∙◌, arith, append_assoc, is_some, end_line, cut, lacks, is_below}
+use Prelude.{isnt_below, Events, HistoryRule, TooManyLines, AfterEnd, BadHeader, BadLine}
+use Prelude.{HistoryFault, Lines, Recorded, refused, line_read, first_read, unless_too_many}
+use Prelude.{unfinished_rule, history_reading, HaveRead, HaveReadOn, IsRefusal, IsRefusedAt}
+use Rattle.vyrd_mover.specs.HistoryReaders.{GoesOn, rest_read, Follows, IsAt}
 use Rattle.vyrd_mover.proofs.EventsReadLaws.{read_on}
 use Rattle.vyrd_mover.proofs.SettledLaws.{long_line, long_text}
 use Rattle.vyrd_mover.proofs.WalkLaws.{then_lines, after_first, too_many, end_found, line_found}

@@ -1,16 +1,10 @@
 -- Two neighbouring events that may be exchanged don't meet: where one changes a cell, the other
 -- doesn't touch it.
-use Rattle.std.proofs.Common.{◌≡◌, ◌≢◌, ℕ, Bool, true, false, ◌||◌, List, ◌∷◌, arith}
-use Rattle.std.specs.Prelude.{◌==◌}
-use Rattle.std.proofs.lemmas.Bool.{or_left, or_right}
-use Rattle.vyrd_base.specs.declared.history.Did.{Did}
-use Rattle.vyrd_base.specs.declared.history.Did.TheVariants.{Took, Gave}
-use Rattle.vyrd_base.specs.declared.history.Stamped.{Stamped}
-use Rattle.vyrd_base.specs.Histories.{Cells, is_plain, is_lock}
-use Rattle.vyrd_base.proofs.TestLaws.{first_true, same_of}
+use Rattle.vyrd_mover.proofs.Prelude.{◌≡◌, ◌≢◌, ℕ, Bool, true, false, ◌||◌, List, ◌∷◌, arith, ◌==◌}
+use Rattle.vyrd_mover.proofs.Prelude.{or_left, or_right, Did, Took, Gave, Stamped, Cells, is_plain}
+use Rattle.vyrd_mover.proofs.Prelude.{is_lock, first_true, same_of, is_access_of, is_write_to}
+use Rattle.vyrd_mover.proofs.Prelude.{is_movable}
 use Rattle.vyrd_base.proofs.CellLaws.{plain_isnt}
-use Rattle.vyrd_mover.specs.RaceFree.{is_access_of, is_write_to}
-use Rattle.vyrd_mover.specs.Exchanges.{is_movable}
 use Rattle.vyrd_mover.proofs.TruthLaws.{either_true}
 use Rattle.vyrd_mover.proofs.Running.{step, may, touches, changes, step_same}
 use Rattle.vyrd_mover.proofs.FreeCells.{Free, alone, unwritten}

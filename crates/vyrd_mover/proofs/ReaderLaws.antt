@@ -1,15 +1,9 @@
 -- A reader of a history's text takes in a line, bytes without a line feed, and a piece.
-use Rattle.std.proofs.Common.{◌≡◌, ℕ, ◌≤◌, true, List, [], ◌∷◌, ◌++◌, length, Ok, refl, ap, sym}
-use Rattle.std.proofs.Common.{◌∙◌, subst, arith, append_assoc, append-nil}
-use Rattle.vyrd_base.specs.Histories.{cells_of}
-use Rattle.vyrd_base.proofs.SplitLaws.{lacks, lacks-append}
-use Rattle.vyrd_mover.specs.declared.blocks.Blocks.TheVariants.{Reducible}
-use Rattle.vyrd_mover.specs.declared.lines.Lines.{Lines}
-use Rattle.vyrd_mover.specs.Gathering.{EachIsGathered}
-use Rattle.vyrd_mover.specs.HistoryText.{Recorded}
-use Rattle.vyrd_mover.specs.HistoryReading.{history_reading}
-use Rattle.vyrd_mover.specs.EventsRead.{AreBlocksOf}
-use Rattle.vyrd_mover.specs.HistoryReaders.{IsAt, ReaderState, HasRead, IsFedTo}
+use Rattle.vyrd_mover.proofs.Prelude.{◌≡◌, ℕ, ◌≤◌, true, List, [], ◌∷◌, ◌++◌, length, Ok, refl, ap}
+use Rattle.vyrd_mover.proofs.Prelude.{sym, ◌∙◌, subst, arith, append_assoc, append-nil, cells_of}
+use Rattle.vyrd_mover.proofs.Prelude.{lacks, lacks-append, Reducible, Lines, EachIsGathered}
+use Rattle.vyrd_mover.proofs.Prelude.{Recorded, history_reading, AreBlocksOf, IsAt, ReaderState}
+use Rattle.vyrd_mover.proofs.Prelude.{HasRead, IsFedTo}
 use Rattle.vyrd_mover.proofs.CheckLaws.{each_is_gathered}
 use Rattle.vyrd_mover.proofs.TextLaws.{reading_sound}
 

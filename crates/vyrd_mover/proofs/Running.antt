@@ -1,17 +1,10 @@
 -- Legal histories as runs over a memory, which is a function from cells to values.
-use Rattle.std.proofs.Common.{◌≡◌, ℕ, suc, ◌+◌, ◌^◌, Bool, true, false, cond, not, ◌&&◌, List, []}
-use Rattle.std.proofs.Common.{◌∷◌, length, Option, Some, None, refl, ap, ◌∙◌, sym, add-one}
-use Rattle.std.specs.Prelude.{◌==◌, nat_lt, unwrap_or}
-use Rattle.std.specs.Option.{option_or}
-use Rattle.std.specs.List.{list_all}
-use Rattle.vyrd_base.specs.declared.history.Did.{Did}
-use Rattle.vyrd_base.specs.declared.history.Did.TheVariants.{Read, Wrote, Took, Gave, Marked}
-use Rattle.vyrd_base.specs.declared.history.Stamped.{Stamped}
-use Rattle.vyrd_base.specs.Places.{places_after, first_answer}
-use Rattle.vyrd_base.specs.Histories.{Cells, is_plain, is_lock, made_of, value_in, is_write, may_do}
-use Rattle.vyrd_base.specs.Histories.{is_legal_at, is_legal}
-use Rattle.vyrd_base.proofs.TestLaws.{both_true, first_true, second_true, same_number, is_same}
-use Rattle.vyrd_mover.specs.Exchanges.{numbered_from}
+use Rattle.vyrd_mover.proofs.Prelude
+use Prelude.{◌≡◌, ℕ, suc, ◌+◌, ◌^◌, Bool, true, false, cond, not, ◌&&◌, List, [], ◌∷◌, length}
+use Prelude.{Option, Some, None, refl, ap, ◌∙◌, sym, add-one, ◌==◌, nat_lt, unwrap_or, option_or}
+use Prelude.{list_all, Did, Read, Wrote, Took, Gave, Marked, Stamped, places_after, first_answer}
+use Prelude.{Cells, is_plain, is_lock, made_of, value_in, is_write, may_do, is_legal_at, is_legal}
+use Prelude.{both_true, first_true, second_true, same_number, is_same, numbered_from}
 
 -- the memory after an event
 abbrev pub step : (ℕ → ℕ) → Stamped → ℕ → ℕ

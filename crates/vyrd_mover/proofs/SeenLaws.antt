@@ -1,31 +1,20 @@
 -- What is kept of locks and plain cells says what the events so far say.
-use Rattle.std.proofs.Common.{◌≡◌, ◌≢◌, ℕ, zero, suc, ◌+◌, ◌-◌, ◌/◌, ◌<◌, ◌≤◌, Bool, true, false}
-use Rattle.std.proofs.Common.{cond, not, ◌&&◌, ◌||◌, List, [], ◌∷◌, ◌++◌, length, map, replicate}
-use Rattle.std.proofs.Common.{get_or, set, Some, None, refl, ap, ◌∙◌, sym, subst, arith}
-use Rattle.std.specs.Prelude.{◌==◌, nat_le, nat_lt, unwrap_or}
-use Rattle.std.specs.List.{list_all, list_any}
-use Rattle.std.proofs.Math.Bool.{and-false}
-use Rattle.std.proofs.lemmas.List.{get_or-set_same, get_or-set_other, get_or-replicate}
-use Rattle.std.proofs.lemmas.List.{length-replicate, length-set}
-use Rattle.std.proofs.lemmas.List.Folds.{list_all-append, list_all-map}
-use Rattle.std.proofs.lemmas.Bool.{or_left}
+use Rattle.vyrd_mover.proofs.Prelude
+use Prelude.{◌≡◌, ◌≢◌, ℕ, zero, suc, ◌+◌, ◌-◌, ◌/◌, ◌<◌, ◌≤◌, Bool, true, false, cond, not, ◌&&◌}
+use Prelude.{◌||◌, List, [], ◌∷◌, ◌++◌, length, map, replicate, get_or, set, Some, None, refl, ap}
+use Prelude.{◌∙◌, sym, subst, arith, ◌==◌, nat_le, nat_lt, unwrap_or, list_all, list_any, and-false}
+use Prelude.{get_or-set_same, get_or-set_other, get_or-replicate, length-replicate, length-set}
+use Prelude.{list_all-append, list_all-map, or_left, Did, Read, Wrote, Took, Gave, Marked, Stamped}
+use Prelude.{Place, places_after, newest_first, numbers_from, numbers_below, Cells, is_lock}
+use Prelude.{made_of, value_in, may_do, first_true, second_true, same_of, apart_of, same_number}
+use Prelude.{below_of, at_most_of, is_below, Users, Nobody, One, Many, is_access_of, is_write_to}
+use Prelude.{is_used_by_alone, is_unwritten, is_guarded_at, is_guarded_by, is_race_free, words_for}
+use Prelude.{has_lock, with_lock, without_lock, in_both, Use, UsageKept, IsUse, HaveSeen, is_used}
+use Prelude.{is_shared, joined, unused, held_by, kept_after}
 use Rattle.std.proofs.Math.Bool.{and-true}
-use Rattle.vyrd_base.specs.declared.history.Did.{Did}
-use Rattle.vyrd_base.specs.declared.history.Did.TheVariants.{Read, Wrote, Took, Gave, Marked}
-use Rattle.vyrd_base.specs.declared.history.Stamped.{Stamped}
-use Rattle.vyrd_base.specs.Places.{Place, places_after, newest_first, numbers_from, numbers_below}
-use Rattle.vyrd_base.specs.Histories.{Cells, is_lock, made_of, value_in, may_do}
-use Rattle.vyrd_base.proofs.PlaceLaws.{with_later, places_after-append, newest_first-push}
-use Rattle.vyrd_base.proofs.TestLaws.{first_true, second_true, same_of, apart_of, isnt_same}
-use Rattle.vyrd_base.proofs.TestLaws.{same_number, below_of, at_most_of, is_below}
-use Rattle.vyrd_mover.specs.declared.usage.Users.{Users}
-use Rattle.vyrd_mover.specs.declared.usage.Users.TheVariants.{Nobody, One, Many}
-use Rattle.vyrd_mover.specs.RaceFree.{is_access_of, is_write_to, is_used_by_alone, is_unwritten}
-use Rattle.vyrd_mover.specs.RaceFree.{is_guarded_at, is_guarded_by, is_race_free}
-use Rattle.vyrd_mover.specs.LockSets.{words_for, has_lock, with_lock, without_lock, in_both}
-use Rattle.vyrd_mover.specs.Usage.{Use, UsageKept, IsUse, HoldsSo, HaveSeen, may_be_alone, is_used}
-use Rattle.vyrd_mover.specs.Usage.{is_shared, joined, used_by, unused, held_by, with_use, with_held}
-use Rattle.vyrd_mover.specs.Usage.{kept_after}
+use Rattle.vyrd_base.proofs.PlaceLaws.{newest_first-push, with_later, places_after-append}
+use Rattle.vyrd_base.proofs.TestLaws.{isnt_same}
+use Rattle.vyrd_mover.specs.Usage.{HoldsSo, may_be_alone, used_by, with_use, with_held}
 use Rattle.vyrd_mover.proofs.LockLaws.{with_same, with_other, length-with_lock, without_same}
 use Rattle.vyrd_mover.proofs.LockLaws.{without_other, length-without_lock, has-in_both}
 use Rattle.vyrd_mover.proofs.LockLaws.{has_none_of_zeros}

@@ -1,28 +1,14 @@
 -- The bytes of the longest input settle what they say as a history: the lines that are taken in are
 -- short and few, so reading ends in them.
-use Rattle.std.proofs.Common.{◌≡◌, ℕ, ◌+◌, ◌*◌, ◌<◌, ◌≤◌, Bool, true, false, cond, not, List, []}
-use Rattle.std.proofs.Common.{◌∷◌, ◌++◌, length, length-append}
-use Rattle.std.proofs.Common.{Option, Some, None, refl, ap, subst, sym, ◌∙◌, arith, append_assoc}
-use Rattle.std.proofs.Common.{inl, inr}
-use Rattle.std.specs.Prelude.{◌⊎◌, ◌==◌, nat_lt}
-use Rattle.std.specs.Str.{bytes_eq}
-use Rattle.std.proofs.lemmas.List.{append-nil}
-use Rattle.std.proofs.lemmas.Slice.Eq.{bytes_eq-Decides}
-use Rattle.vyrd_base.specs.declared.header.Header.{Header}
-use Rattle.vyrd_base.specs.declared.subject.Subject.{Subject}
-use Rattle.vyrd_base.specs.declared.history.Stamped.{Stamped}
-use Rattle.vyrd_base.specs.Spelling.{end_line}
-use Rattle.vyrd_base.proofs.SplitLaws.{cut, lacks, lacks-append}
-use Rattle.vyrd_base.proofs.TestLaws.{both_true, below_of, is_below, not_below_of, same_of}
+use Rattle.vyrd_mover.proofs.Prelude
+use Prelude.{◌≡◌, ℕ, ◌+◌, ◌*◌, ◌<◌, ◌≤◌, Bool, true, false, cond, not, List, [], ◌∷◌, ◌++◌, length}
+use Prelude.{length-append, Option, Some, None, refl, ap, subst, sym, ◌∙◌, arith, append_assoc, inl}
+use Prelude.{inr, ◌⊎◌, ◌==◌, nat_lt, bytes_eq, append-nil, bytes_eq-Decides, Header, Subject}
+use Prelude.{Stamped, end_line, cut, lacks, lacks-append, both_true, below_of, is_below}
+use Prelude.{not_below_of, same_of, HistoryRule, TooManyLines, BadHeader, BadLine, Recorded}
+use Prelude.{history_header_in, event_in, refused, broken_by, with_event, unless_broken, event_read}
+use Prelude.{begun_or_bad, unless_too_many, unfinished_rule, lines_read, history_reading}
 use Rattle.vyrd_base.proofs.LongLines.{longer}
-use Rattle.vyrd_mover.specs.declared.fault.HistoryRule.{HistoryRule}
-use Rattle.vyrd_mover.specs.declared.fault.HistoryRule.TheVariants.{TooManyLines, BadHeader}
-use Rattle.vyrd_mover.specs.declared.fault.HistoryRule.TheVariants.{BadLine}
-use Rattle.vyrd_mover.specs.HistoryText.{Recorded}
-use Rattle.vyrd_mover.specs.HistoryLines.{history_header_in, event_in}
-use Rattle.vyrd_mover.specs.HistoryReading.{refused, broken_by, with_event, unless_broken}
-use Rattle.vyrd_mover.specs.HistoryReading.{event_read, begun_or_bad, unless_too_many}
-use Rattle.vyrd_mover.specs.HistoryReading.{unfinished_rule, lines_read, history_reading}
 use Rattle.vyrd_mover.specs.LongHistories.{longest_history}
 use Rattle.vyrd_mover.proofs.HeadLaws.{header_in_sound}
 use Rattle.vyrd_mover.proofs.EventLaws.{event_in_sound}

@@ -1,23 +1,13 @@
 -- No line of a history has more than 64 bytes.
-use Rattle.std.proofs.Common.{◌≡◌, ℕ, ◌<◌, ◌≤◌, ◌^◌, true, not, List, [], ◌∷◌, ◌++◌, map, length}
-use Rattle.std.proofs.Common.{arith, length-append}
-use Rattle.std.specs.Prelude.{codes, decimal, nat_lt}
-use Rattle.std.specs.List.{AllByRecursion}
-use Rattle.vyrd_base.specs.declared.header.Header.{Header}
-use Rattle.vyrd_base.specs.declared.subject.Subject.{Subject}
-use Rattle.vyrd_base.specs.declared.history.Did.{Did}
-use Rattle.vyrd_base.specs.declared.history.Did.TheVariants.{Read, Wrote, Took, Gave, Marked}
-use Rattle.vyrd_base.specs.declared.history.Stamped.{Stamped}
-use Rattle.vyrd_base.specs.Spelling.{end_line, is_kind_of}
-use Rattle.vyrd_base.specs.Histories.{is_write}
-use Rattle.vyrd_base.proofs.HeaderLaws.{size_in_32_bits, callers_in_32_bits}
+use Rattle.vyrd_mover.proofs.Prelude
+use Prelude.{◌≡◌, ℕ, ◌<◌, ◌≤◌, ◌^◌, true, not, List, [], ◌∷◌, ◌++◌, map, length, arith}
+use Prelude.{length-append, codes, decimal, nat_lt, AllByRecursion, Header, Subject, Did, Read}
+use Prelude.{Wrote, Took, Gave, Marked, Stamped, end_line, is_kind_of, is_write, size_in_32_bits}
+use Prelude.{callers_in_32_bits, both_true, first_true, second_true, below_of, Recorded}
+use Prelude.{history_header_line, did_line, event_line, history_lines, is_did_of, is_event_of}
+use Prelude.{KeepsLimits}
 use Rattle.vyrd_base.proofs.LongLines.{short_entry, short_number, short_value}
-use Rattle.vyrd_base.proofs.TestLaws.{both_true, first_true, second_true, below_of}
 use Rattle.vyrd_base.proofs.StructureLaws.{short_subject}
-use Rattle.vyrd_mover.specs.HistoryText.{Recorded, history_header_line, did_line, event_line}
-use Rattle.vyrd_mover.specs.HistoryText.{history_lines}
-use Rattle.vyrd_mover.specs.HistoryLines.{is_did_of, is_event_of}
-use Rattle.vyrd_mover.specs.HistoryLimits.{KeepsLimits}
 
 short_pair : (caller cell value : ℕ) (word : List ℕ) → caller < 2 ^ 32 → cell < 2 ^ 32
     → value < 2 ^ 64 → length word ≤ 5

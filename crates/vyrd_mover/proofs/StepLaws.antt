@@ -1,14 +1,9 @@
 -- The code of a step says the step.
-use Rattle.std.proofs.Common.{◌≡◌, ℕ, ◌^◌, ◌<◌, List, [], ◌∷◌, ◌++◌, map, length, get_or, ap, sym}
-use Rattle.std.proofs.Common.{◌∙◌, arith}
-use Rattle.std.proofs.lemmas.List.{map-append, length-map, get_or-map}
-use Rattle.vyrd_base.specs.declared.history.Did.{Did}
-use Rattle.vyrd_base.specs.declared.history.Stamped.{Stamped}
-use Rattle.vyrd_mover.specs.declared.step.Role.{Role}
-use Rattle.vyrd_mover.specs.declared.step.Step.{Step}
-use Rattle.vyrd_mover.specs.Usage.{IsInRange}
-use Rattle.vyrd_mover.specs.Steps.{role_of, step_of, role_number, numbered_role, code_of}
-use Rattle.vyrd_mover.specs.Steps.{step_coded, IsShort, IsWithin}
+use Rattle.vyrd_mover.proofs.Prelude.{◌≡◌, ℕ, ◌^◌, ◌<◌, List, [], ◌∷◌, ◌++◌, map, length, get_or}
+use Rattle.vyrd_mover.proofs.Prelude.{ap, sym, ◌∙◌, arith, Did, Stamped, Role, Step, IsInRange}
+use Rattle.vyrd_mover.proofs.Prelude.{role_of, step_of, code_of, step_coded, IsShort, IsWithin}
+use Rattle.std.proofs.lemmas.List.{map-append, get_or-map, length-map}
+use Rattle.vyrd_mover.specs.Steps.{role_number, numbered_role}
 
 role_back : (role : Role) → numbered_role (role_number role) ≡ role
 role_back role = grind arith

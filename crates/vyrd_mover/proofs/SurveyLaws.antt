@@ -1,28 +1,17 @@
 -- What is kept of a history from some place on, one event earlier.
-use Rattle.std.proofs.Common.{◌≡◌, ℕ, suc, ◌<◌, ◌≤◌, Bool, true, false, not, ◌&&◌}
-use Rattle.std.proofs.Common.{List, [], ◌∷◌, length, get_or, set, replicate, Option, Some, None}
-use Rattle.std.proofs.Common.{refl, ap, ◌∙◌, sym, subst, arith}
-use Rattle.std.specs.Prelude.{◌==◌}
-use Rattle.std.specs.Option.{option_or, option_map, option_and_then}
-use Rattle.std.specs.List.{cons_option}
-use Rattle.std.proofs.Math.Bool.{and-false}
-use Rattle.std.proofs.lemmas.List.{get_or-set_same, get_or-set_other, get_or-replicate}
-use Rattle.std.proofs.lemmas.List.{length-replicate, length-set}
+use Rattle.vyrd_mover.proofs.Prelude
+use Prelude.{◌≡◌, ℕ, suc, ◌<◌, ◌≤◌, Bool, true, false, not, ◌&&◌, List, [], ◌∷◌, length, get_or}
+use Prelude.{set, replicate, Option, Some, None, refl, ap, ◌∙◌, sym, subst, arith, ◌==◌, option_or}
+use Prelude.{option_map, option_and_then, cons_option, and-false, get_or-set_same, get_or-set_other}
+use Prelude.{get_or-replicate, length-replicate, length-set, Did, Read, Wrote, Took, Gave, Marked}
+use Prelude.{Stamped, same_of, apart_of, same_number, Role, is_right_mover, is_left_mover, is_mark}
+use Prelude.{is_block_open, events_of, broken_lines, line_of, role_of}
 use Rattle.vyrd_base.specs.declared.log.Kind.TheVariants.{Call, Return, Write, Commit, BlockOpen}
 use Rattle.vyrd_base.specs.declared.log.Kind.TheVariants.{BlockClose, BlockCommit}
-use Rattle.vyrd_base.specs.declared.history.Did.{Did}
-use Rattle.vyrd_base.specs.declared.history.Did.TheVariants.{Read, Wrote, Took, Gave, Marked}
-use Rattle.vyrd_base.specs.declared.history.Stamped.{Stamped}
-use Rattle.vyrd_base.proofs.TestLaws.{same_of, apart_of, same_number}
 use Rattle.vyrd_mover.specs.declared.ahead.Ahead.{Ahead}
-use Rattle.vyrd_mover.specs.declared.step.Role.{Role}
-use Rattle.vyrd_mover.specs.Movers.{is_right_mover, is_left_mover}
-use Rattle.vyrd_mover.specs.Blocks.{is_mark, is_block_open, is_block_end, events_of, broken_lines}
-use Rattle.vyrd_mover.specs.Blocks.{line_of}
-use Rattle.vyrd_mover.specs.Steps.{role_of}
-use Rattle.vyrd_mover.specs.Ahead.{kept_of, ahead_of, with_line}
-use Rattle.vyrd_mover.specs.Ahead.{Surveyed, with_ahead, opened_before, ahead_at, preceded_by}
-use Rattle.vyrd_mover.specs.Ahead.{HasSurveyed}
+use Rattle.vyrd_mover.specs.Blocks.{is_block_end}
+use Rattle.vyrd_mover.specs.Ahead.{kept_of, ahead_of, with_line, with_ahead, opened_before}
+use Rattle.vyrd_mover.specs.Ahead.{ahead_at, Surveyed, preceded_by, HasSurveyed}
 use Rattle.vyrd_mover.proofs.BreakLaws.{broken_lines_is}
 
 -- what is kept of the rest of a block

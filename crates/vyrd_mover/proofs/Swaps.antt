@@ -1,12 +1,8 @@
 -- Two neighbouring events exchanged: what follows runs as before, and each race-free cell stays
 -- race-free.
-use Rattle.std.proofs.Common.{◌≡◌, ◌≢◌, ℕ, ◌+◌, Bool, true, false, ◌⊎◌, List, [], ◌∷◌, ◌++◌, sym}
-use Rattle.std.proofs.Common.{subst, arith}
-use Rattle.std.specs.Prelude.{unwrap_or}
-use Rattle.vyrd_base.specs.declared.history.Did.{Did}
-use Rattle.vyrd_base.specs.declared.history.Stamped.{Stamped}
-use Rattle.vyrd_base.specs.Histories.{Cells, is_lock, made_of}
-use Rattle.vyrd_mover.specs.Exchanges.{is_movable}
+use Rattle.vyrd_mover.proofs.Prelude.{◌≡◌, ◌≢◌, ℕ, ◌+◌, Bool, true, false, ◌⊎◌, List, [], ◌∷◌, ◌++◌}
+use Rattle.vyrd_mover.proofs.Prelude.{sym, subst, arith, unwrap_or, Did, Stamped, Cells, is_lock}
+use Rattle.vyrd_mover.proofs.Prelude.{made_of, is_movable}
 use Rattle.vyrd_mover.proofs.TruthLaws.{true_or_false}
 use Rattle.vyrd_mover.proofs.Running.{step, may, Runs, changes, may_same, step_same}
 use Rattle.vyrd_mover.proofs.FreeCells.{Free, alone, unwritten, guarded, Only, Unwritten, Guards}

@@ -1,21 +1,13 @@
 -- A history is taken in event by event.
-use Rattle.std.proofs.Common.{◌≡◌, ℕ, ◌+◌, ◌^◌, ◌<◌, true, List, [], ◌∷◌, ◌++◌, map, length}
-use Rattle.std.proofs.Common.{replicate, take, drop, drop-cons, get_or, suc, refl, ap, sym, ◌∙◌}
-use Rattle.std.proofs.Common.{subst, arith}
-use Rattle.std.proofs.lemmas.List.{take-append-drop, take_more, length-map}
-use Rattle.vyrd_base.specs.declared.header.Header.{Header}
-use Rattle.vyrd_base.specs.declared.history.Stamped.{Stamped}
-use Rattle.vyrd_base.specs.Places.{newest_first}
-use Rattle.vyrd_base.specs.Histories.{cells_of, is_legal}
-use Rattle.vyrd_base.specs.Layout.{plain_words, lock_words}
+use Rattle.vyrd_mover.proofs.Prelude
+use Prelude.{◌≡◌, ℕ, ◌+◌, ◌^◌, ◌<◌, true, List, [], ◌∷◌, ◌++◌, map, length, replicate, take, drop}
+use Prelude.{drop-cons, get_or, suc, refl, ap, sym, ◌∙◌, subst, arith, length-map, Header, Stamped}
+use Prelude.{newest_first, cells_of, is_legal, plain_words, lock_words, length-newest_first}
+use Prelude.{first_true, second_true, same_of, below_of, step_of, step_coded, code_of, IsShort}
+use Prelude.{role_of, words_for, UsageKept, HaveSeen, IsInRange, IsBehind, HasPlaceIn, held_by}
+use Prelude.{kept_after, unused, Taken, HasTaken, IsNext}
+use Rattle.std.proofs.lemmas.List.{take-append-drop, take_more}
 use Rattle.vyrd_base.proofs.HeaderLaws.{few_callers, few_words}
-use Rattle.vyrd_base.proofs.PlaceLaws.{length-newest_first}
-use Rattle.vyrd_base.proofs.TestLaws.{first_true, second_true, same_of, below_of}
-use Rattle.vyrd_mover.specs.Steps.{step_of, step_coded, code_of, IsShort, role_of}
-use Rattle.vyrd_mover.specs.LockSets.{words_for}
-use Rattle.vyrd_mover.specs.Usage.{UsageKept, HaveSeen, IsInRange, IsBehind, HasPlaceIn, held_by}
-use Rattle.vyrd_mover.specs.Usage.{kept_after, unused}
-use Rattle.vyrd_mover.specs.Taking.{Taken, HasTaken, IsNext}
 use Rattle.vyrd_mover.proofs.SeenLaws.{have_seen_nothing, have_seen_more}
 use Rattle.vyrd_mover.proofs.LegalPlaces.{MayCome, in_range, behind, wider, has_place_in}
 use Rattle.vyrd_mover.proofs.TextLaws.{all_more, all_here, legal_test}

@@ -1,42 +1,24 @@
 -- The text of a history is read as that history, and what is read is the text of a history.
-use Rattle.std.proofs.Common.{◌≡◌, ℕ, ◌+◌, ◌≤◌, ◌^◌, Bool, true, false, cond, not, ◌&&◌, List, []}
-use Rattle.std.proofs.Common.{◌∷◌, ◌++◌, map, length}
-use Rattle.std.proofs.Common.{Option, Some, None, Ok, refl, ap, subst, sym, ◌∙◌, arith}
-use Rattle.std.proofs.Common.{append_assoc}
-use Rattle.std.specs.Prelude.{nat_lt, decimal}
-use Rattle.std.specs.List.{list_all, join_with_byte, AllByRecursion}
-use Rattle.std.specs.Str.{bytes_eq}
-use Rattle.std.proofs.lemmas.List.{append-nil}
-use Rattle.std.proofs.lemmas.List.Folds.{list_all-append, list_all-map}
-use Rattle.std.proofs.lemmas.Slice.Eq.{bytes_eq-Decides}
+use Rattle.vyrd_mover.proofs.Prelude
+use Prelude.{◌≡◌, ℕ, ◌+◌, ◌≤◌, ◌^◌, Bool, true, false, cond, not, ◌&&◌, List, [], ◌∷◌, ◌++◌, map}
+use Prelude.{length, Option, Some, None, Ok, refl, ap, subst, sym, ◌∙◌, arith, append_assoc, nat_lt}
+use Prelude.{decimal, bytes_eq, append-nil, list_all-append, list_all-map, bytes_eq-Decides, Header}
+use Prelude.{Subject, Did, Read, Wrote, Took, Gave, Marked, Stamped, end_line, is_kind_of, Place}
+use Prelude.{places, places_after, newest_first, cells_of, is_legal_at, is_legal, size_in_32_bits}
+use Prelude.{callers_in_32_bits, with_later, places_after-append, length-newest_first, cut, lacks}
+use Prelude.{lacks-join, both_true, first_true, second_true, same_of, below_of, not_below_of}
+use Prelude.{isnt_below, HistoryRule, TooManyLines, Recorded, history_header_line, did_line}
+use Prelude.{event_line, history_lines, history_text, is_event_of, is_did_of, history_header_in}
+use Prelude.{event_in, refused, broken_by, with_event, unless_broken, event_read, line_read}
+use Prelude.{begun_or_bad, ended, lines_read, text_read, history_reading, KeepsLimits}
+use Rattle.std.specs.List.{join_with_byte, list_all, AllByRecursion}
 use Rattle.std.proofs.lemmas.List.Splits.{join_with_byte-slice_split}
-use Rattle.vyrd_base.specs.declared.header.Header.{Header}
-use Rattle.vyrd_base.specs.declared.subject.Subject.{Subject}
-use Rattle.vyrd_base.specs.declared.history.Did.{Did}
-use Rattle.vyrd_base.specs.declared.history.Did.TheVariants.{Read, Wrote, Took, Gave, Marked}
-use Rattle.vyrd_base.specs.declared.history.Stamped.{Stamped}
-use Rattle.vyrd_base.specs.Spelling.{end_line, is_kind_of}
 use Rattle.vyrd_base.specs.Reading.{has_any}
-use Rattle.vyrd_base.specs.Places.{Place, places, places_after, newest_first}
-use Rattle.vyrd_base.specs.Histories.{cells_of, is_legal_at, is_legal}
-use Rattle.vyrd_base.proofs.HeaderLaws.{size_in_32_bits, callers_in_32_bits}
-use Rattle.vyrd_base.proofs.PlaceLaws.{with_later, places_after-append, length-newest_first}
-use Rattle.vyrd_base.proofs.SplitLaws.{cut, join_lines, cut_lines, lacks, all_lack, lacks-join}
+use Rattle.vyrd_base.proofs.SplitLaws.{join_lines, cut_lines, all_lack}
 use Rattle.vyrd_base.proofs.LineLaws.{spaced_isnt_end, plain_number, plain_line_feeds, below_32}
 use Rattle.vyrd_base.proofs.LineLaws.{entry_line_whole, entry_line_isnt_end}
-use Rattle.vyrd_base.proofs.TestLaws.{both_true, first_true, second_true, same_of, below_of}
-use Rattle.vyrd_base.proofs.TestLaws.{not_below_of, isnt_below}
 use Rattle.vyrd_base.proofs.ListLaws.{all_push}
-use Rattle.vyrd_mover.specs.declared.fault.HistoryRule.{HistoryRule}
-use Rattle.vyrd_mover.specs.declared.fault.HistoryRule.TheVariants.{TooManyLines}
-use Rattle.vyrd_mover.specs.HistoryText.{Recorded, history_header_line, did_line, event_line}
-use Rattle.vyrd_mover.specs.HistoryText.{history_lines, history_text}
-use Rattle.vyrd_mover.specs.HistoryLines.{is_event_of, is_did_of, history_header_in, event_in}
-use Rattle.vyrd_mover.specs.HistoryReading.{refused, is_misplaced, next_place, broken_by}
-use Rattle.vyrd_mover.specs.HistoryReading.{with_event, unless_broken, event_read, line_read}
-use Rattle.vyrd_mover.specs.HistoryReading.{begun_or_bad, ended, lines_read, text_read}
-use Rattle.vyrd_mover.specs.HistoryReading.{history_reading}
-use Rattle.vyrd_mover.specs.HistoryLimits.{KeepsLimits}
+use Rattle.vyrd_mover.specs.HistoryReading.{is_misplaced, next_place}
 use Rattle.vyrd_mover.proofs.HeadLaws.{IsFirst, header_in_sound, header_in-first_line}
 use Rattle.vyrd_mover.proofs.HeadLaws.{first_line_whole}
 use Rattle.vyrd_mover.proofs.EventLaws.{event_in_sound, event_in-event_line}

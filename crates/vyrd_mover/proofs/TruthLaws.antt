@@ -1,10 +1,7 @@
 -- What tests joined by `or`, and tests of numbers in a row, tell.
-use Rattle.std.proofs.Common.{◌≡◌, ℕ, zero, suc, ◌+◌, ◌<◌, ◌≤◌, Bool, true, false, not, ◌||◌, ◌⊎◌}
-use Rattle.std.proofs.Common.{refl, arith}
-use Rattle.std.specs.List.{list_any}
-use Rattle.std.specs.Prelude.{◌==◌}
-use Rattle.vyrd_base.proofs.TestLaws.{same_of, apart_of}
-use Rattle.vyrd_base.specs.Places.{numbers_from}
+use Rattle.vyrd_mover.proofs.Prelude.{◌≡◌, ℕ, zero, suc, ◌+◌, ◌<◌, ◌≤◌, Bool, true, false, not}
+use Rattle.vyrd_mover.proofs.Prelude.{◌||◌, ◌⊎◌, refl, arith, list_any, ◌==◌, same_of, apart_of}
+use Rattle.vyrd_mover.proofs.Prelude.{numbers_from}
 
 pub either_true : (a b : Bool) → (a || b) ≡ true → (a ≡ true) ⊎ (b ≡ true)
 either_true a b e = search arith

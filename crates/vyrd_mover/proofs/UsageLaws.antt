@@ -1,8 +1,6 @@
 -- What is kept of a plain cell, one event further.
-use Rattle.std.proofs.Common.{◌≡◌, ℕ, Bool, true, false, cond, not, ◌||◌, List, refl, ap, ◌∙◌, sym}
-use Rattle.vyrd_mover.specs.declared.usage.Users.{Users}
-use Rattle.vyrd_mover.specs.declared.usage.Users.TheVariants.{Nobody, One, Many}
-use Rattle.vyrd_mover.specs.Usage.{Use, is_used, is_shared}
+use Rattle.vyrd_mover.proofs.Prelude.{◌≡◌, ℕ, Bool, true, false, cond, not, ◌||◌, List, refl, ap}
+use Rattle.vyrd_mover.proofs.Prelude.{◌∙◌, sym, Users, Nobody, One, Many, Use, is_used, is_shared}
 
 -- what was kept where nobody used the cell, and where somebody did
 pub when_unused : (users : Users) (both held : List ℕ) → users ≡ Nobody

@@ -1,24 +1,11 @@
 -- Lines are read one after the other.
-use Rattle.std.proofs.Common.{◌≡◌, ℕ, ◌+◌, ◌<◌, ◌≤◌, Bool, true, false, cond, List, [], ◌∷◌, ◌++◌}
-use Rattle.std.proofs.Common.{Result, Ok, Err, refl, ap}
-use Rattle.std.specs.Prelude.{◌==◌, nat_lt}
-use Rattle.std.specs.List.{onto_first}
-use Rattle.std.specs.Str.{bytes_eq}
-use Rattle.std.proofs.lemmas.Slice.Eq.{bytes_eq-Decides}
-use Rattle.vyrd_base.specs.Spelling.{end_line}
-use Rattle.vyrd_base.proofs.SplitLaws.{cut, lacks, split_at, split_whole, bytes_same}
-use Rattle.vyrd_base.proofs.TestLaws.{is_below, isnt_below}
-use Rattle.vyrd_text.proofs.AheadLaws.{parts_of}
-use Rattle.vyrd_mover.specs.declared.fault.HistoryRule.{HistoryRule}
-use Rattle.vyrd_mover.specs.declared.fault.HistoryRule.TheVariants.{TooManyLines, AfterEnd}
-use Rattle.vyrd_mover.specs.declared.fault.HistoryRule.TheVariants.{BadHeader, BadLine}
-use Rattle.vyrd_mover.specs.declared.fault.HistoryFault.{HistoryFault}
-use Rattle.vyrd_mover.specs.declared.fault.HistoryFault.TheVariants.{Refused, Memory}
-use Rattle.vyrd_mover.specs.HistoryText.{Recorded}
-use Rattle.vyrd_mover.specs.Refusals.{IsRefusal, IsRefusedAt}
-use Rattle.vyrd_mover.specs.HistoryReading.{Refusal, refused, line_read, first_read}
-use Rattle.vyrd_mover.specs.HistoryReading.{unfinished_rule, unless_too_many, ended, lines_read}
-use Rattle.vyrd_mover.specs.HistoryReading.{text_read, history_reading}
+use Rattle.vyrd_mover.proofs.Prelude
+use Prelude.{◌≡◌, ℕ, ◌+◌, ◌<◌, ◌≤◌, Bool, true, false, cond, List, [], ◌∷◌, ◌++◌, Result, Ok, Err}
+use Prelude.{refl, ap, ◌==◌, nat_lt, onto_first, bytes_eq, bytes_eq-Decides, end_line, cut, lacks}
+use Prelude.{split_at, split_whole, bytes_same, is_below, isnt_below, parts_of, HistoryRule}
+use Prelude.{TooManyLines, AfterEnd, BadHeader, BadLine, HistoryFault, Refused, Memory, Recorded}
+use Prelude.{IsRefusal, IsRefusedAt, Refusal, refused, line_read, first_read, unfinished_rule}
+use Prelude.{unless_too_many, ended, lines_read, text_read, history_reading}
 
 -- what is read after a line
 abbrev pub then_lines : ℕ → List (List ℕ) → Result Recorded HistoryRule → Result Recorded Refusal

@@ -1,10 +1,7 @@
 -- What is appended in turn is a history's text.
-use Rattle.std.proofs.Common.{◌≡◌, ℕ, List, [], ◌∷◌, ◌++◌, map, refl, ap, sym, ◌∙◌, append_assoc}
-use Rattle.std.specs.Prelude.{codes, flat_map}
-use Rattle.vyrd_base.specs.declared.header.Header.{Header}
-use Rattle.vyrd_base.specs.declared.history.Stamped.{Stamped}
-use Rattle.vyrd_base.specs.Spelling.{ended_line, end_line}
-use Rattle.vyrd_mover.specs.HistoryText.{history_header_line, event_line, history_text}
+use Rattle.vyrd_mover.proofs.Prelude.{◌≡◌, ℕ, List, [], ◌∷◌, ◌++◌, map, refl, ap, sym, ◌∙◌}
+use Rattle.vyrd_mover.proofs.Prelude.{append_assoc, codes, flat_map, Header, Stamped, ended_line}
+use Rattle.vyrd_mover.proofs.Prelude.{end_line, history_header_line, event_line, history_text}
 
 -- the lines of events
 abbrev pub events_text : List Stamped → List ℕ

@@ -1,22 +1,13 @@
 -- How many observers ask a trail.
-use Rattle.std.proofs.Common.{◌≡◌, ◌≢◌, ℕ, zero, suc, ◌+◌, ◌-◌, ◌<◌, ◌≤◌, Bool, true, false, cond}
-use Rattle.std.proofs.Common.{◌⊎◌, inl, ⊎_elim, List, [], ◌∷◌, length, map, set, get_or, Option}
-use Rattle.std.proofs.Common.{Some, None, slice_get, refl, ap, subst, ◌∙◌, sym, arith}
-use Rattle.std.specs.Prelude.{◌==◌, sum_by}
-use Rattle.std.proofs.lemmas.List.Sums.{sum_by-cons, sum_by-set, count_by-le-length}
-use Rattle.std.proofs.lemmas.List.{length-set}
-use Rattle.std.proofs.lemmas.Option.{slice_get_within, unwrap_or-slice_get, slice_get-get_or}
-use Rattle.std.proofs.lemmas.Option.{same_Some}
-use Rattle.vyrd_base.specs.declared.header.Header.{Header}
-use Rattle.vyrd_base.proofs.BlockLaws.{by_same}
-use Rattle.vyrd_base.proofs.ListLaws.{slice_get-set_same, slice_get-set_other}
-use Rattle.vyrd_base.proofs.TestLaws.{same_number, same_of, is_same, apart_of, isnt_same}
-use Rattle.vyrd_observers.specs.declared.watch.Watch.{Watch}
-use Rattle.vyrd_observers.specs.Trails.{Asked, without_asker, with_asker, seen_by, AreOn, AreAsking}
-use Rattle.vyrd_observers.specs.Trails.{KeepsAsked, AreUsed, OthersAreUsed, AreOldExcept, StayOrEnd}
-use Rattle.vyrd_observers.specs.Trails.{IsUsed, moved}
-use Rattle.vyrd_observers.specs.Order.{asks, askers_of, SomeAsks, AreCounted, AreCountedBefore}
-use Rattle.vyrd_observers.specs.Order.{AreFreeFrom}
+use Rattle.vyrd_observers.proofs.Prelude
+use Prelude.{◌≡◌, ◌≢◌, ℕ, zero, suc, ◌+◌, ◌-◌, ◌<◌, ◌≤◌, Bool, true, false, cond, ◌⊎◌, inl, ⊎_elim}
+use Prelude.{List, [], ◌∷◌, length, map, set, get_or, Option, Some, None, slice_get, refl, ap}
+use Prelude.{subst, ◌∙◌, sym, arith, ◌==◌, sum_by, sum_by-cons, sum_by-set, count_by-le-length}
+use Prelude.{length-set, slice_get_within, unwrap_or-slice_get, slice_get-get_or, same_Some, Header}
+use Prelude.{by_same, slice_get-set_same, slice_get-set_other, same_number, same_of, is_same}
+use Prelude.{apart_of, isnt_same, Watch, Asked, without_asker, with_asker, seen_by, AreOn}
+use Prelude.{AreAsking, KeepsAsked, AreUsed, OthersAreUsed, AreOldExcept, StayOrEnd, IsUsed, moved}
+use Prelude.{asks, askers_of, SomeAsks, AreCounted, AreCountedBefore, AreFreeFrom}
 use Rattle.vyrd_observers.proofs.TrailLaws.{NoneOn, seen_without, on_without, asking_set, stay_set}
 use Rattle.vyrd_observers.proofs.TrailLaws.{others_set, used_except, seen_recounted, on_recounted}
 

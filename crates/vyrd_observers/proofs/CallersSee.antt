@@ -1,23 +1,13 @@
 -- What each caller sees of a state that comes, and of a call.
-use Rattle.std.proofs.Common.{◌≡◌, ℕ, zero, suc, ◌<◌, ◌≤◌, Bool, true, false, cond, ◌||◌, List, []}
-use Rattle.std.proofs.Common.{◌∷◌, ◌++◌, length, drop, map, set, get_or, Option, Some, None}
-use Rattle.std.proofs.Common.{slice_get, refl, ap, ◌∙◌, sym, arith, length-append}
-use Rattle.std.specs.Prelude.{◌==◌, option_map, unwrap_or, replicate}
-use Rattle.std.specs.List.{list_any}
-use Rattle.std.proofs.lemmas.List.{drop-append-le, length-map, map-set, set-get_or}
-use Rattle.std.proofs.lemmas.List.Folds.{list_any-append}
-use Rattle.std.proofs.lemmas.Option.{slice_get_past, slice_get-map}
-use Rattle.std.proofs.lemmas.Option.{unwrap_or-slice_get, none-some}
-use Rattle.std.proofs.lemmas.Option.{same_Some}
-use Rattle.vyrd_base.specs.declared.subject.Method.{Method}
-use Rattle.vyrd_base.specs.declared.subject.Args.{Args}
-use Rattle.vyrd_base.proofs.TestLaws.{same_number, same_of}
-use Rattle.vyrd_observers.specs.declared.watch.Watch.{Watch}
-use Rattle.vyrd_observers.specs.Trails.{Asked, with_answer, after_state, seen_from, seen_by}
-use Rattle.vyrd_observers.specs.Trails.{AreOn, KeepsAsked}
-use Rattle.vyrd_observers.specs.Watching.{Seen, unwatched, has_answer, SeesAnswer, SeesState}
+use Rattle.vyrd_observers.proofs.Prelude
+use Prelude.{◌≡◌, ℕ, zero, suc, ◌<◌, ◌≤◌, Bool, true, false, cond, ◌||◌, List, [], ◌∷◌, ◌++◌}
+use Prelude.{length, drop, map, set, get_or, Option, Some, None, slice_get, refl, ap, ◌∙◌, sym}
+use Prelude.{arith, length-append, ◌==◌, option_map, unwrap_or, replicate, list_any, drop-append-le}
+use Prelude.{length-map, map-set, set-get_or, list_any-append, slice_get_past, slice_get-map}
+use Prelude.{unwrap_or-slice_get, none-some, same_Some, Method, Args, same_number, same_of, Watch}
+use Prelude.{Asked, with_answer, after_state, seen_from, seen_by, AreOn, KeepsAsked, Seen}
+use Prelude.{unwatched, has_answer, SeesAnswer, SeesState, slice_get-is}
 use Rattle.vyrd_observers.proofs.SeeingLaws.{SeenBelow, knows_already}
-use Rattle.vyrd_base.proofs.ListLaws.{slice_get-is}
 use Rattle.vyrd_observers.proofs.TrailLaws.{seen_kept, seen_at_end}
 
 -- what the next state makes of what an observer has seen

@@ -1,19 +1,10 @@
 -- What is kept and what observers have seen, as the steps are paid by it.
-use Rattle.std.proofs.Common.{◌≡◌, ℕ, zero, suc, ◌+◌, ◌*◌, ◌<◌, ◌≤◌, Bool, List, [], ◌∷◌, length}
-use Rattle.std.proofs.Common.{drop, map, set, get_or, Option, Some, None, slice_get, refl, arith}
-use Rattle.std.proofs.Common.{length-drop, length-append}
-use Rattle.std.specs.Prelude.{replicate}
-use Rattle.std.proofs.lemmas.List.Sums.{sum_by-cons}
-use Rattle.std.proofs.lemmas.Option.{slice_get-get_or}
-use Rattle.vyrd_base.specs.declared.header.Header.{Header}
-use Rattle.vyrd_base.specs.declared.subject.Method.{Method}
-use Rattle.vyrd_base.specs.declared.subject.Args.{Args}
-use Rattle.vyrd_base.proofs.ChangedLists.{changed_below}
-use Rattle.vyrd_observers.specs.declared.watch.Watch.{Watch}
-use Rattle.vyrd_observers.specs.Order.{AreInOrder, Closes}
-use Rattle.vyrd_observers.specs.Trails.{Asked, after_state, seen_from, seen_by}
-use Rattle.vyrd_observers.specs.Trails.{kept_by, kept_count}
-use Rattle.vyrd_observers.specs.Watching.{Seen, unwatched, answer_count}
+use Rattle.vyrd_observers.proofs.Prelude
+use Prelude.{◌≡◌, ℕ, zero, suc, ◌+◌, ◌*◌, ◌<◌, ◌≤◌, Bool, List, [], ◌∷◌, length, drop, map, set}
+use Prelude.{get_or, Option, Some, None, slice_get, refl, arith, length-drop, length-append}
+use Prelude.{replicate, sum_by-cons, slice_get-get_or, Header, Method, Args, changed_below, Watch}
+use Prelude.{AreInOrder, Closes, Asked, after_state, seen_from, seen_by, kept_by, kept_count, Seen}
+use Prelude.{unwatched, answer_count}
 use Rattle.vyrd_observers.proofs.AskerLaws.{sum_set}
 
 -- how many answers an observer has seen

@@ -1,3 +1,4 @@
+mod Prelude
 pub mod AskerLaws
 pub mod CallersSee
 pub mod CostLaws

@@ -1,14 +1,9 @@
 -- Watches that see a state one after the other.
-use Rattle.std.proofs.Common.{◌≡◌, ℕ, zero, suc, ◌<◌, ◌≤◌, Bool, true, false, ◌||◌, List, [], ◌∷◌}
-use Rattle.std.proofs.Common.{length, Some, slice_get, refl, ap, ◌∙◌, sym, arith}
-use Rattle.std.proofs.lemmas.Option.{slice_get_within}
-use Rattle.std.proofs.lemmas.Option.{same_Some}
+use Rattle.vyrd_observers.proofs.Prelude
+use Prelude.{◌≡◌, ℕ, zero, suc, ◌<◌, ◌≤◌, Bool, true, false, ◌||◌, List, [], ◌∷◌, length, Some}
+use Prelude.{slice_get, refl, ap, ◌∙◌, sym, arith, slice_get_within, same_Some, same_number, Seen}
+use Prelude.{has_answer, SeesAnswer, SeesState, Method, Args, AreCurrent, AllSee}
 use Rattle.std.proofs.Math.Bool.{or-true}
-use Rattle.vyrd_base.proofs.TestLaws.{same_number}
-use Rattle.vyrd_observers.specs.Watching.{Seen, has_answer, SeesAnswer, SeesState}
-use Rattle.vyrd_base.specs.declared.subject.Method.{Method}
-use Rattle.vyrd_base.specs.declared.subject.Args.{Args}
-use Rattle.vyrd_observers.specs.Watching.{AreCurrent, AllSee}
 
 -- the watches before this place have seen the state, and those from it on are as they were
 pub record SeenBelow (told : Method → Args → ℕ) (i : ℕ) (old new : List Seen) : Type 0 where

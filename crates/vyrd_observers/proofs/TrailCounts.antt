@@ -1,20 +1,12 @@
 -- How many trails there are, and how many answers they keep.
-use Rattle.std.proofs.Common.{◌≡◌, ℕ, zero, suc, ◌+◌, ◌*◌, ◌^◌, ◌<◌, ◌≤◌, Bool, true, false, cond}
-use Rattle.std.proofs.Common.{◌⊎◌, inl, inr, ⊎_elim, List, [], ◌∷◌, length, drop, map, set, Option}
-use Rattle.std.proofs.Common.{Some, None, slice_get, refl, ap, subst, ◌∙◌, sym, arith, length-drop}
-use Rattle.std.specs.Prelude.{sum_by, sum, option_map}
-use Rattle.std.proofs.lemmas.List.Sums.{sum_by-cons, sum-map, count_by-le-length}
-use Rattle.std.proofs.lemmas.List.{length-map, length-set}
-use Rattle.std.proofs.lemmas.Option.{slice_get_within, slice_get-map, same_Some}
-use Rattle.vyrd_base.specs.declared.header.Header.{Header}
-use Rattle.vyrd_base.proofs.HeaderLaws.{few_callers}
-use Rattle.vyrd_base.proofs.ListLaws.{slice_get-set_other}
-use Rattle.vyrd_observers.specs.declared.watch.Watch.{Watch}
-use Rattle.vyrd_observers.specs.Trails.{Asked, seen_from, seen_by, IsOn, AreAsking, KeepsAsked}
-use Rattle.vyrd_observers.specs.Trails.{AreUsed, AreOldExcept, asked_count, kept_by, kept_count}
-use Rattle.vyrd_observers.specs.Trails.{with_asker}
-use Rattle.vyrd_observers.specs.Order.{AreInOrder, Closes}
-use Rattle.vyrd_observers.specs.Watching.{Seen, KeepsFew, unwatched, open_count, answer_count}
+use Rattle.vyrd_observers.proofs.Prelude
+use Prelude.{◌≡◌, ℕ, zero, suc, ◌+◌, ◌*◌, ◌^◌, ◌<◌, ◌≤◌, Bool, true, false, cond, ◌⊎◌, inl, inr}
+use Prelude.{⊎_elim, List, [], ◌∷◌, length, drop, map, set, Option, Some, None, slice_get, refl, ap}
+use Prelude.{subst, ◌∙◌, sym, arith, length-drop, sum_by, sum, option_map, sum_by-cons, sum-map}
+use Prelude.{count_by-le-length, length-map, length-set, slice_get_within, slice_get-map, same_Some}
+use Prelude.{Header, few_callers, slice_get-set_other, Watch, Asked, seen_from, seen_by, IsOn}
+use Prelude.{AreAsking, KeepsAsked, AreUsed, AreOldExcept, asked_count, kept_by, kept_count}
+use Prelude.{with_asker, AreInOrder, Closes, Seen, KeepsFew, unwatched, open_count, answer_count}
 use Rattle.vyrd_observers.proofs.TrailLaws.{some_some, map_after, asking_set, on_set, on_kept}
 use Rattle.vyrd_observers.proofs.TrailLaws.{on_recounted, used_begun, used_recounted}
 use Rattle.vyrd_observers.proofs.AskerLaws.{sum_set, count_low, counted_asked, counted_begun}

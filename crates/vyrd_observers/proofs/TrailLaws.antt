@@ -1,29 +1,16 @@
 -- Trails of answers that open observers share.
-use Rattle.std.proofs.Common.{◌≡◌, ℕ, zero, suc, ◌+◌, ◌-◌, ◌*◌, ◌<◌, ◌≤◌, Bool, true, false, cond}
-use Rattle.std.proofs.Common.{◌&&◌, ◌≢◌, ◌⊎◌, inl, inr, ⊎_elim, List, [], ◌∷◌, ◌++◌, length}
-use Rattle.std.proofs.Common.{drop, map, set, Option, Some, None, slice_get, refl, ap}
-use Rattle.std.proofs.Common.{subst, ◌∙◌, sym, arith, length-drop}
-use Rattle.std.specs.Prelude.{◌==◌, option_map}
+use Rattle.vyrd_observers.proofs.Prelude
+use Prelude.{◌≡◌, ℕ, zero, suc, ◌+◌, ◌-◌, ◌*◌, ◌<◌, ◌≤◌, Bool, true, false, cond, ◌&&◌, ◌≢◌, ◌⊎◌}
+use Prelude.{inl, inr, ⊎_elim, List, [], ◌∷◌, ◌++◌, length, drop, map, set, Option, Some, None}
+use Prelude.{slice_get, refl, ap, subst, ◌∙◌, sym, arith, length-drop, ◌==◌, option_map}
+use Prelude.{slice_get_within, slice_get-map, none-some, same_Some, Header, Method, Args}
+use Prelude.{must_commit, by_same, same_number, same_of, apart_of, isnt_same, Watch, has_method}
+use Prelude.{Asked, after_state, seen_from, seen_by, IsOn, AreOn, AreAsking, KeepsAsked, IsTrailOf}
+use Prelude.{IsUsed, AreUsed, OthersAreUsed, AreOldExcept, StayOrEnd, moved, AreCounted}
+use Prelude.{AreFreeFrom, AreInOrder, Seen, changed_below, slice_get-set_same, slice_get-set_other}
 use Rattle.std.proofs.lemmas.List.{drop-drop}
-use Rattle.std.proofs.lemmas.Option.{slice_get_within, slice_get-map}
-use Rattle.std.proofs.lemmas.Option.{none-some}
-use Rattle.std.proofs.lemmas.Option.{same_Some}
 use Rattle.std.proofs.Math.Seq.{drop-length}
-use Rattle.vyrd_base.specs.declared.header.Header.{Header}
-use Rattle.vyrd_base.specs.declared.subject.Method.{Method}
-use Rattle.vyrd_base.specs.declared.subject.Args.{Args}
-use Rattle.vyrd_base.specs.Subjects.{must_commit}
-use Rattle.vyrd_base.proofs.BlockLaws.{by_same}
-use Rattle.vyrd_base.proofs.TestLaws.{same_number, same_of, apart_of, isnt_same}
-use Rattle.vyrd_observers.specs.declared.watch.Watch.{Watch}
-use Rattle.vyrd_base.specs.Entries.{has_method}
-use Rattle.vyrd_observers.specs.Trails.{Asked, after_state, seen_from, seen_by, IsOn}
-use Rattle.vyrd_observers.specs.Trails.{AreOn, AreAsking, KeepsAsked, IsTrailOf, IsUsed, AreUsed}
-use Rattle.vyrd_observers.specs.Trails.{OthersAreUsed, AreOldExcept, StaysOrEnds, StayOrEnd, moved}
-use Rattle.vyrd_observers.specs.Order.{AreCounted, AreFreeFrom, AreInOrder}
-use Rattle.vyrd_observers.specs.Watching.{Seen}
-use Rattle.vyrd_base.proofs.ChangedLists.{changed_below}
-use Rattle.vyrd_base.proofs.ListLaws.{slice_get-set_same, slice_get-set_other}
+use Rattle.vyrd_observers.specs.Trails.{StaysOrEnds}
 
 pub false_true : {b : Bool} → b ≡ false → b ≡ true → ⊥
 false_true is_false is_true = cc

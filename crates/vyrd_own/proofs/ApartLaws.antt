@@ -1,17 +1,10 @@
 -- What effects do to each part of a state.
-use Rattle.std.proofs.Common.{◌≡◌, ℕ, Bool, true, false, cond, List, [], ◌∷◌, ◌++◌, refl, ap, ◌∙◌}
-use Rattle.std.proofs.Common.{sym, ◌<◌, ◌+◌, length, drop, suc, add-one, drop-cons}
-use Rattle.std.specs.Prelude.{◌||◌, slice_index_or}
-use Rattle.std.specs.List.{list_any}
-use Rattle.vyrd_base.specs.Amounts.{Amounts}
-use Rattle.vyrd_base.specs.declared.own.effect.Effect.{Effect}
-use Rattle.vyrd_base.specs.declared.own.effect.Effect.TheVariants.{SetShown, SetHidden, SetRegister}
-use Rattle.vyrd_base.specs.declared.own.effect.Effect.TheVariants.{PutLast, PutFirst, TakeFirst}
-use Rattle.vyrd_base.specs.declared.own.effect.Effect.TheVariants.{TakeLast, Empty, EmptyShown}
-use Rattle.vyrd_base.specs.States.{State}
-use Rattle.vyrd_base.specs.Own.Steps.{with_effect, with_effects, hidden_with, is_clearing}
-use Rattle.vyrd_own.specs.Sets.{shown_after, hidden_after}
-use Rattle.vyrd_own.specs.Apart.{registers_with, registers_after, lists_with, lists_after}
+use Rattle.vyrd_own.proofs.Prelude
+use Prelude.{◌≡◌, ℕ, Bool, true, false, cond, List, [], ◌∷◌, ◌++◌, refl, ap, ◌∙◌, sym, ◌<◌, ◌+◌}
+use Prelude.{length, drop, suc, add-one, drop-cons, ◌||◌, slice_index_or, list_any, Amounts, Effect}
+use Prelude.{SetShown, SetHidden, SetRegister, PutLast, PutFirst, TakeFirst, TakeLast, Empty}
+use Prelude.{EmptyShown, State, with_effect, with_effects, hidden_with, is_clearing, shown_after}
+use Prelude.{hidden_after, registers_with, registers_after, lists_with, lists_after}
 use Rattle.vyrd_own.proofs.SetLaws.{set_more}
 
 registers_one : (s : State) (e : Effect) → registers_with s.registers e

@@ -1,15 +1,9 @@
 -- What effects leave as it is.
-use Rattle.std.proofs.Common.{◌≡◌, ℕ, Bool, true, false, cond, List, [], ◌∷◌, refl, ap, ◌∙◌}
-use Rattle.std.specs.Prelude.{◌==◌, ◌||◌}
-use Rattle.std.specs.List.{list_any}
-use Rattle.vyrd_base.specs.Amounts.{amount_of}
-use Rattle.vyrd_base.proofs.AmountLaws.{amount_of-with_amount}
-use Rattle.vyrd_base.specs.declared.own.effect.Effect.{Effect}
-use Rattle.vyrd_base.specs.declared.own.effect.Effect.TheVariants.{SetShown, SetHidden, SetRegister}
-use Rattle.vyrd_base.specs.declared.own.effect.Effect.TheVariants.{PutLast, PutFirst, TakeFirst}
-use Rattle.vyrd_base.specs.declared.own.effect.Effect.TheVariants.{TakeLast, Empty, EmptyShown}
-use Rattle.vyrd_base.specs.States.{State}
-use Rattle.vyrd_base.specs.Own.Steps.{with_effect, with_effects, shown_keys, is_clearing}
+use Rattle.vyrd_own.proofs.Prelude.{◌≡◌, ℕ, Bool, true, false, cond, List, [], ◌∷◌, refl, ap, ◌∙◌}
+use Rattle.vyrd_own.proofs.Prelude.{◌==◌, ◌||◌, list_any, amount_of, amount_of-with_amount, Effect}
+use Rattle.vyrd_own.proofs.Prelude.{SetShown, SetHidden, SetRegister, PutLast, PutFirst, TakeFirst}
+use Rattle.vyrd_own.proofs.Prelude.{TakeLast, Empty, EmptyShown, State}
+use Rattle.vyrd_base.specs.Own.Steps.{shown_keys, with_effect, with_effects, is_clearing}
 
 left_false : (a b : Bool) → (a || b) ≡ false → a ≡ false
 left_false false b e = refl

@@ -1,3 +1,4 @@
+mod Prelude
 pub mod NodeLaws
 pub mod OrderLaws
 pub mod StepLaws

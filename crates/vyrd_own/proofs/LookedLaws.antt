@@ -1,13 +1,10 @@
 -- How many nodes are looked at for the value of an expression.
-use Rattle.std.proofs.Common.{◌≡◌, ℕ, Bool, true, false, List, [], ◌∷◌, ◌++◌, length, ◌+◌, ◌≤◌}
-use Rattle.std.proofs.Common.{arith, length-append}
-use Rattle.std.specs.Prelude.{if◌then◌else◌}
-use Rattle.vyrd_base.specs.States.{State}
-use Rattle.vyrd_base.specs.Own.Expressions.{Expr, number, at, count, shown, hidden, least, greatest}
-use Rattle.vyrd_base.specs.Own.Expressions.{first, last, size, negation, infix_of, choice}
-use Rattle.vyrd_base.specs.Own.Expressions.{holds, value}
-use Rattle.vyrd_own.specs.Reads.{counted}
-use Rattle.vyrd_own.specs.Prices.{nodes_of, looked_at}
+use Rattle.vyrd_own.proofs.Prelude.{◌≡◌, ℕ, Bool, true, false, List, [], ◌∷◌, ◌++◌, length, ◌+◌}
+use Rattle.vyrd_own.proofs.Prelude.{◌≤◌, arith, length-append, if◌then◌else◌, State, Expr, number}
+use Rattle.vyrd_own.proofs.Prelude.{shown, hidden, least, greatest, negation, infix_of, choice}
+use Rattle.vyrd_own.proofs.Prelude.{holds, value, counted, looked_at}
+use Rattle.vyrd_base.specs.Own.Expressions.{at, count, first, last, size}
+use Rattle.vyrd_own.specs.Prices.{nodes_of}
 
 one_more : (parts : List Expr) (e : Expr) → length (parts ++ e ∷ []) ≡ length parts + 1
 one_more parts e = omega (arith, length-append parts (e ∷ []))

@@ -1,13 +1,9 @@
 -- Laws of keys that are marked.
-use Rattle.std.proofs.Common.{◌≡◌, ℕ, Bool, true, false, cond, ◌&&◌, [], ◌∷◌, Some}
-use Rattle.std.proofs.Common.{refl, ap, ◌∙◌, sym, arith}
-use Rattle.std.specs.Prelude.{◌≢◌, ◌==◌, unwrap_or, min}
-use Rattle.std.specs.Ordering.{nat_cmp, eq_by_cmp, is_lt}
-use Rattle.std.specs.FinMap.Entries.{find, is_sorted, below_all}
-use Rattle.vyrd_base.specs.Amounts.{Amounts, IsAmounts, amount_of, with_amount, keys_of}
-use Rattle.vyrd_base.proofs.AmountLaws.{AllSome, IsAmounts-with_amount, amount_of-with_amount}
-use Rattle.vyrd_base.proofs.AmountLaws.{amounts_are, same_amount}
-use Rattle.vyrd_own.specs.Marks.{marked}
+use Rattle.vyrd_own.proofs.Prelude.{◌≡◌, ℕ, Bool, true, false, cond, ◌&&◌, [], ◌∷◌, Some, refl, ap}
+use Rattle.vyrd_own.proofs.Prelude.{◌∙◌, sym, arith, ◌≢◌, ◌==◌, unwrap_or, min, nat_cmp, eq_by_cmp}
+use Rattle.vyrd_own.proofs.Prelude.{is_lt, find, is_sorted, below_all, Amounts, IsAmounts}
+use Rattle.vyrd_own.proofs.Prelude.{amount_of, with_amount, keys_of, AllSome, IsAmounts-with_amount}
+use Rattle.vyrd_own.proofs.Prelude.{amount_of-with_amount, amounts_are, same_amount, marked}
 
 marked_one : (a : ℕ) → a ≢ 0 → min a 1 ≡ 1
 marked_one a some = omega (arith, some)

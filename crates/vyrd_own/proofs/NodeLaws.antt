@@ -1,11 +1,8 @@
 -- The expressions of nodes, one after the other.
-use Rattle.std.proofs.Common.{◌≡◌, ℕ, List, [], ◌∷◌, ◌++◌, length, refl, ap, ◌∙◌, sym, suc, zero}
-use Rattle.std.proofs.Common.{arith, take, get_or, ◌<◌, ◌+◌, length-append}
-use Rattle.std.specs.Prelude.{◌-◌, ◌≤◌, drop}
-use Rattle.std.proofs.lemmas.List.{take-append-drop, length-take-le}
-use Rattle.vyrd_own.specs.declared.node.Node.{Node}
-use Rattle.vyrd_base.specs.Own.Expressions.{Expr, number}
-use Rattle.vyrd_own.specs.Nodes.{earlier, expr_at, exprs_from, exprs_of, expr_of}
+use Rattle.vyrd_own.proofs.Prelude.{◌≡◌, ℕ, List, [], ◌∷◌, ◌++◌, length, refl, ap, ◌∙◌, sym, suc}
+use Rattle.vyrd_own.proofs.Prelude.{zero, arith, take, get_or, ◌<◌, ◌+◌, length-append, ◌-◌, ◌≤◌}
+use Rattle.vyrd_own.proofs.Prelude.{drop, take-append-drop, length-take-le, Node, Expr, number}
+use Rattle.vyrd_own.proofs.Prelude.{earlier, expr_at, exprs_from, exprs_of, expr_of}
 
 -- one node more
 from_more : (exprs : List Expr) (nodes : List Node) (node : Node)

@@ -1,12 +1,8 @@
 -- The nearest keys.
-use Rattle.std.proofs.Common.{◌≡◌, ℕ, Bool, true, false, cond, not, [], ◌∷◌, ◌++◌, refl, ap}
-use Rattle.std.proofs.Common.{◌∙◌, sym, arith}
-use Rattle.std.specs.Prelude.{filter, reverse, ◌&&◌, nat_le, slice_index_or}
-use Rattle.std.specs.Ordering.{nat_cmp, is_le, is_lt}
-use Rattle.std.proofs.lemmas.Bool.Decides.{nat_tests}
-use Rattle.std.proofs.lemmas.List.{reverse-append, map-append}
-use Rattle.vyrd_base.specs.Amounts.{Amounts, keys_of}
-use Rattle.vyrd_base.specs.Own.Expressions.{most, least_from, greatest_to}
+use Rattle.vyrd_own.proofs.Prelude.{◌≡◌, ℕ, Bool, true, false, cond, not, [], ◌∷◌, ◌++◌, refl, ap}
+use Rattle.vyrd_own.proofs.Prelude.{◌∙◌, sym, arith, filter, reverse, ◌&&◌, nat_le, slice_index_or}
+use Rattle.vyrd_own.proofs.Prelude.{nat_cmp, is_le, is_lt, nat_tests, reverse-append, map-append}
+use Rattle.vyrd_own.proofs.Prelude.{Amounts, keys_of, most, least_from, greatest_to}
 
 -- the keys of the entries that are kept
 keys-filter : (p q : ℕ → Bool) → ((k : ℕ) → p k ≡ q k) → (es : Amounts)

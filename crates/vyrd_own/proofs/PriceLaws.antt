@@ -1,20 +1,11 @@
 -- How many effects there are, and what they cost together.
-use Rattle.std.proofs.Common.{◌≡◌, ℕ, Bool, true, false, cond, List, [], ◌∷◌, ◌++◌, length, ap}
-use Rattle.std.proofs.Common.{◌+◌, ◌*◌, ◌≤◌, arith, length-append, Some, map}
-use Rattle.std.proofs.lemmas.List.{length-map}
-use Rattle.std.specs.Prelude.{max, find, option_map}
-use Rattle.std.specs.Option.{option_map_or}
-use Rattle.std.proofs.lemmas.Nat.{mul-le}
-use Rattle.vyrd_base.specs.States.{State}
-use Rattle.vyrd_base.specs.Own.Expressions.{holds, value}
-use Rattle.vyrd_base.specs.Own.Programs.{Case}
-use Rattle.vyrd_base.specs.Own.Steps.{allowed_effects, effect_of}
-use Rattle.vyrd_base.specs.declared.own.effect.Effect.{Effect}
-use Rattle.vyrd_base.specs.declared.own.effect.Effect.TheVariants.{SetShown, SetHidden, SetRegister}
-use Rattle.vyrd_base.specs.declared.own.effect.Effect.TheVariants.{PutLast, PutFirst, TakeFirst}
-use Rattle.vyrd_base.specs.declared.own.effect.Effect.TheVariants.{TakeLast, Empty, EmptyShown}
-use Rattle.vyrd_own.specs.Sets.{shown_after, hidden_after}
-use Rattle.vyrd_own.specs.Prices.{sets_price, put_price, longest_case}
+use Rattle.vyrd_own.proofs.Prelude
+use Prelude.{◌≡◌, ℕ, Bool, true, false, cond, List, [], ◌∷◌, ◌++◌, length, ap, ◌+◌, ◌*◌, ◌≤◌, arith}
+use Prelude.{length-append, Some, map, length-map, max, option_map, option_map_or, mul-le, State}
+use Prelude.{holds, value, Case, allowed_effects, effect_of, Effect, SetShown, SetHidden}
+use Prelude.{SetRegister, PutLast, PutFirst, TakeFirst, TakeLast, Empty, EmptyShown, shown_after}
+use Prelude.{hidden_after, sets_price, put_price, longest_case}
+use Rattle.std.specs.Prelude.{find}
 
 pub one_more : (xs ys : List ℕ) (x : ℕ) → ys ≡ xs ++ x ∷ [] → length ys ≡ length xs + 1
 one_more xs ys x is = omega (arith, ap length is, length-append xs (x ∷ []))

@@ -1,9 +1,7 @@
 -- Lists with two ends, and the room in them.
-use Rattle.std.proofs.Common.{◌≡◌, ℕ, List, [], ◌∷◌, refl, ap, ◌∙◌}
-use Rattle.std.proofs.Common.{arith, ◌<◌, ◌≤◌, length, take, zero, suc}
-use Rattle.std.specs.Prelude.{map, slice_index_or, slice_set}
-use Rattle.vyrd_own.specs.Queues.{Queued, queue_at}
-use Rattle.vyrd_own.specs.Apart.{listed}
+use Rattle.vyrd_own.proofs.Prelude.{◌≡◌, ℕ, List, [], ◌∷◌, refl, ap, ◌∙◌, arith, ◌<◌, ◌≤◌, length}
+use Rattle.vyrd_own.proofs.Prelude.{take, zero, suc, map, slice_index_or, slice_set, Queued}
+use Rattle.vyrd_own.proofs.Prelude.{queue_at, listed}
 
 -- what the lists hold
 abbrev pub all_items : List Queued → List (List ℕ)

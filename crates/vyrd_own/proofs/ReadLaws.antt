@@ -1,18 +1,11 @@
 -- What counts for an expression, by what counts for its parts.
-use Rattle.std.proofs.Common.{◌≡◌, ◌≢◌, ℕ, Bool, true, false, List, [], ◌∷◌, ◌++◌, map}
-use Rattle.std.proofs.Common.{refl, ap, ◌∙◌, sym, ◌⊎◌, inl, inr}
-use Rattle.std.specs.Prelude.{if◌then◌else◌}
-use Rattle.std.proofs.lemmas.List.{map-append, append_assoc}
-use Rattle.vyrd_base.specs.States.{State}
-use Rattle.vyrd_base.specs.declared.own.op.Op.{Op}
-use Rattle.vyrd_base.specs.Own.Expressions.{Expr, shown, hidden, least, greatest, negation}
-use Rattle.vyrd_base.specs.Own.Expressions.{infix_of, choice, holds, value}
-use Rattle.vyrd_own.specs.declared.node.Node.{Node}
+use Rattle.vyrd_own.proofs.Prelude.{◌≡◌, ◌≢◌, ℕ, Bool, true, false, List, [], ◌∷◌, ◌++◌, map, refl}
+use Rattle.vyrd_own.proofs.Prelude.{ap, ◌∙◌, sym, ◌⊎◌, inl, inr, if◌then◌else◌, map-append}
+use Rattle.vyrd_own.proofs.Prelude.{append_assoc, State, Op, Expr, shown, hidden, least, greatest}
+use Rattle.vyrd_own.proofs.Prelude.{negation, infix_of, choice, holds, value, Node, Worth, earlier}
+use Rattle.vyrd_own.proofs.Prelude.{expr_at, counted, reads_of, worth_of, worths_in}
 use Rattle.vyrd_own.specs.declared.node.Node.TheVariants as nodes
 use Rattle.vyrd_own.specs.declared.reads.Reads.TheVariants as reads
-use Rattle.vyrd_own.specs.declared.reads.Worth.{Worth}
-use Rattle.vyrd_own.specs.Nodes.{earlier, expr_at}
-use Rattle.vyrd_own.specs.Reads.{counted, reads_of, worth_of, worths_in}
 
 -- what an expression is worth stands behind what its parts are worth
 pub with_itself : (s : State) (values : List ℕ) (e : Expr) (parts : List Expr)

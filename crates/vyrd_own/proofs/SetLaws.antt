@@ -1,13 +1,12 @@
 -- Pairs that set amounts, and what is added and taken back.
-use Rattle.std.proofs.Common.{◌≡◌, ℕ, Bool, true, false, cond, List, [], ◌∷◌, ◌++◌, refl, ap, ◌∙◌}
-use Rattle.std.proofs.Common.{sym, subst, arith, ◌<◌, ◌+◌, length, drop, inl, inr, zero, suc}
-use Rattle.std.proofs.Common.{add-one, drop-cons}
-use Rattle.std.specs.Prelude.{◌≢◌, ◌==◌, ◌||◌, slice_index_or, ◌⊎◌}
-use Rattle.vyrd_base.specs.Amounts.{Amounts, IsAmounts, amount_of, with_amount}
-use Rattle.vyrd_base.proofs.AmountLaws.{amount_of-with_amount, IsAmounts-with_amount, same_amounts}
+use Rattle.vyrd_own.proofs.Prelude
+use Prelude.{◌≡◌, ℕ, Bool, true, false, cond, List, [], ◌∷◌, ◌++◌, refl, ap, ◌∙◌, sym, subst, arith}
+use Prelude.{◌<◌, ◌+◌, length, drop, inl, inr, zero, suc, add-one, drop-cons, ◌≢◌, ◌==◌, ◌||◌}
+use Prelude.{slice_index_or, ◌⊎◌, Amounts, IsAmounts, amount_of, with_amount, amount_of-with_amount}
+use Prelude.{IsAmounts-with_amount, hidden_with, amount_after, AreAdded, HasKeys}
+use Rattle.vyrd_base.proofs.AmountLaws.{same_amounts}
 use Rattle.vyrd_base.proofs.TestLaws.{same_of, is_same}
-use Rattle.vyrd_base.specs.Own.Steps.{hidden_with}
-use Rattle.vyrd_own.specs.Sets.{amount_after, is_set, is_among, AreAdded, HasKeys}
+use Rattle.vyrd_own.specs.Sets.{is_set, is_among}
 
 -- a test is true or false
 pub decided : (b : Bool) → (b ≡ true) ⊎ (b ≡ false)

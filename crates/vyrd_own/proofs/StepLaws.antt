@@ -1,10 +1,7 @@
 -- The next state, from what a call does.
-use Rattle.std.proofs.Common.{◌≡◌, ℕ, List, Option, ap}
-use Rattle.std.specs.Prelude.{option_map}
-use Rattle.vyrd_base.specs.declared.own.effect.Effect.{Effect}
-use Rattle.vyrd_base.specs.Own.Programs.{Method, Written}
-use Rattle.vyrd_base.specs.States.{State}
-use Rattle.vyrd_base.specs.Own.Steps.{effects_of, with_effects, next_of}
+use Rattle.vyrd_own.proofs.Prelude.{◌≡◌, ℕ, List, ap, option_map, Effect, Method, Written, State}
+use Rattle.std.proofs.Common.{Option}
+use Rattle.vyrd_base.specs.Own.Steps.{next_of, effects_of, with_effects}
 
 pub next_is : (p : Written) (m : Method) (args : List ℕ) (reply : ℕ) (s : State)
     (o : Option (List Effect))

@@ -1,13 +1,9 @@
 -- What a checker answers, by what it keeps.
-use Rattle.std.proofs.Common.{◌≡◌, ℕ, true, List, [], ◌∷◌, ◌++◌, length, append_assoc, Some}
-use Rattle.std.proofs.Common.{refl, ap, subst, ◌∙◌, sym, append-nil, arith}
-use Rattle.std.specs.Prelude.{◌==◌, is_some}
-use Rattle.std.proofs.lemmas.Bool.Decides.{nat_tests}
-use Rattle.vyrd_base.specs.declared.verdict.Verdict.{Verdict}
-use Rattle.vyrd_base.specs.Own.LogVerdicts.{own_text_verdict, own_text_verdict_so_far}
-use Rattle.vyrd_base.specs.Limits.{IsLimit}
+use Rattle.vyrd_own_check.proofs.Prelude
+use Prelude.{◌≡◌, ℕ, true, List, [], ◌∷◌, ◌++◌, length, append_assoc, Some, refl, ap, subst, ◌∙◌}
+use Prelude.{sym, append-nil, arith, ◌==◌, is_some, nat_tests, Verdict, own_text_verdict}
+use Prelude.{own_text_verdict_so_far, IsLimit, limit_of, CheckerState, FollowsBy, HasChecked}
 use Rattle.vyrd_own_check.proofs.LastLaws.{own_verdict_lasts, own_verdict_stands}
-use Rattle.vyrd_own_check.specs.Checking.{limit_of, CheckerState, FollowsBy, HasChecked}
 
 -- the verdict that is kept is that of the bytes so far
 pub so_far_is : (c : CheckerState) (bytes : List ℕ) → HasChecked c bytes → c.so_far

@@ -1,31 +1,20 @@
 -- What a piece costs is paid by what was owed before it, and by what its bytes cost.
-use Rattle.std.proofs.Common.{◌≡◌, ℕ, ◌+◌, ◌≤◌, Bool, true, false, cond, ◌||◌, List, [], ◌++◌}
-use Rattle.std.proofs.Common.{Option, Some, None, refl, ap, subst, ◌∙◌, sym, arith, append_assoc}
-use Rattle.std.proofs.Common.{append-nil, option_map}
+use Rattle.vyrd_own_check.proofs.Prelude
+use Prelude.{◌≡◌, ℕ, ◌+◌, ◌≤◌, Bool, true, false, cond, ◌||◌, List, [], ◌++◌, Option, Some, None}
+use Prelude.{refl, ap, subst, ◌∙◌, sym, arith, append_assoc, append-nil, option_map, Header, Entry}
+use Prelude.{StartWord, Verdict, has_any, Charter, own, OwnReading, own_reading, IsLimit, has_begun}
+use Prelude.{IsGrown, reading_grown, JudgeView, read_so_far, bytes_cost, IsJudging, IsReady}
+use Prelude.{IsBegun, OwnCheckerKept, CheckerState, limit_of, judge_owes, following_cost, kept_debt}
+use Prelude.{checker_debt}
 use Rattle.std.specs.List.{sum_by}
 use Rattle.std.specs.Option.{option_map_or}
 use Rattle.std.proofs.lemmas.List.Sums.{sum_by-append}
-use Rattle.vyrd_base.specs.declared.header.Header.{Header}
-use Rattle.vyrd_base.specs.declared.log.Entry.{Entry}
-use Rattle.vyrd_base.specs.declared.log.StartWord.{StartWord}
-use Rattle.vyrd_base.specs.declared.verdict.Verdict.{Verdict}
-use Rattle.vyrd_base.specs.Reading.{has_any}
-use Rattle.vyrd_base.specs.Rules.{Charter, own}
-use Rattle.vyrd_base.specs.Own.Log.{OwnReading, own_reading}
-use Rattle.vyrd_base.specs.Limits.{IsLimit}
-use Rattle.vyrd_own_log.specs.Grown.{has_begun, IsGrown}
-use Rattle.vyrd_own_log.proofs.GrownLaws.{reading_grown}
 use Rattle.vyrd_judge.specs.Costs.{callers_of, judge_debt, log_cost}
-use Rattle.vyrd_judge.specs.Following.{JudgeView}
 use Rattle.vyrd_own_spec.specs.Effects.{most_touched}
-use Rattle.vyrd_own_check.specs.LogReadings.{read_so_far}
-use Rattle.vyrd_own_check.specs.Costs.{entry_cost, starting_cost, headed_cost}
-use Rattle.vyrd_own_check.specs.Costs.{reading_cost, bytes_cost, end_cost}
-use Rattle.vyrd_own_check.specs.Checking.{IsAt, IsJudging, IsReady, IsBegun}
-use Rattle.vyrd_own_check.specs.Checking.{OwnCheckerKept}
-use Rattle.vyrd_own_check.specs.Checking.{CheckerState, limit_of}
-use Rattle.vyrd_own_check.specs.Owed.{price_by, judge_owes, following_cost, kept_debt, debt_after}
-use Rattle.vyrd_own_check.specs.Owed.{checker_debt}
+use Rattle.vyrd_own_check.specs.Costs.{entry_cost, starting_cost, headed_cost, reading_cost}
+use Rattle.vyrd_own_check.specs.Costs.{end_cost}
+use Rattle.vyrd_own_check.specs.Checking.{IsAt}
+use Rattle.vyrd_own_check.specs.Owed.{price_by, debt_after}
 use Rattle.vyrd_own_check.proofs.PieceLaws.{begun_on}
 
 -- the costs of what was read, by its parts

@@ -1,23 +1,10 @@
 -- After `end` nothing more is read, so that only the text can be wrong.
-use Rattle.std.proofs.Common.{◌≡◌, ℕ, ◌+◌, ◌≤◌, true, false, List, ◌++◌, Option, None, ap, subst}
-use Rattle.std.proofs.Common.{◌∙◌, sym, arith}
-use Rattle.std.specs.Prelude.{option_map}
-use Rattle.vyrd_base.specs.declared.verdict.Verdict.{Verdict}
-use Rattle.vyrd_base.specs.declared.verdict.Verdict.TheVariants.{Malformed}
-use Rattle.vyrd_base.specs.Reading.{has_any}
-use Rattle.vyrd_base.specs.Rules.{own}
-use Rattle.vyrd_base.specs.Own.Log.{OwnReading}
-use Rattle.vyrd_base.specs.Own.LogVerdicts.{own_text_verdict_so_far}
-use Rattle.vyrd_base.specs.Limits.{IsLimit}
-use Rattle.vyrd_own_log.specs.Readers.{ReaderState, HasRead, IsGrownBy}
-use Rattle.vyrd_own_log.specs.States.{has_ended}
-use Rattle.vyrd_own_log.proofs.GrownLaws.{reading_grown, reading_formed}
-use Rattle.vyrd_judge.specs.Following.{JudgeView}
-use Rattle.vyrd_own_check.specs.LogReadings.{read_so_far}
-use Rattle.vyrd_own_check.specs.Costs.{bytes_cost}
-use Rattle.vyrd_own_check.specs.Owed.{judge_owes, kept_debt}
-use Rattle.vyrd_own_check.specs.Checking.{limit_of, IsJudging, OwnCheckerKept, IsUndecided}
-use Rattle.vyrd_own_check.specs.Checking.{untold_in}
+use Rattle.vyrd_own_check.proofs.Prelude
+use Prelude.{◌≡◌, ℕ, ◌+◌, ◌≤◌, true, false, List, ◌++◌, Option, None, ap, subst, ◌∙◌, sym, arith}
+use Prelude.{option_map, Verdict, Malformed, has_any, own, OwnReading, own_text_verdict_so_far}
+use Prelude.{IsLimit, ReaderState, HasRead, IsGrownBy, has_ended, reading_grown, reading_formed}
+use Prelude.{JudgeView, read_so_far, bytes_cost, judge_owes, kept_debt, limit_of, IsJudging}
+use Prelude.{OwnCheckerKept, IsUndecided, untold_in}
 use Rattle.vyrd_own_check.proofs.ReadingFacts.{known_so_far, untold_right}
 use Rattle.vyrd_own_check.proofs.CostLaws.{bytes_more}
 

@@ -1,32 +1,12 @@
 -- What a piece that was read and judged makes of what is kept.
-use Rattle.std.proofs.Common.{◌≡◌, ℕ, ◌+◌, ◌≤◌, ◌^◌, true, false, ◌||◌, List, [], ◌++◌, length}
-use Rattle.std.proofs.Common.{length-append, Option, Some, None, refl, ap, subst, ◌∙◌, sym, arith}
-use Rattle.std.specs.Prelude.{option_map}
-use Rattle.std.specs.Option.{option_or}
-use Rattle.std.proofs.Math.Logic.{∥∥₁_elim}
-use Rattle.std.proofs.Math.Bool.{Bool-set}
-use Rattle.vyrd_base.specs.declared.header.Header.{Header}
-use Rattle.vyrd_base.specs.declared.subject.Subject.{Subject}
-use Rattle.vyrd_base.specs.declared.subject.Subject.TheVariants.{Own}
-use Rattle.vyrd_base.specs.declared.log.Entry.{Entry}
-use Rattle.vyrd_base.specs.declared.verdict.Verdict.{Verdict}
-use Rattle.vyrd_base.specs.declared.verdict.Verdict.TheVariants.{Malformed}
-use Rattle.vyrd_base.specs.Starts.{do_follow}
-use Rattle.vyrd_base.specs.Subjects.{is_built_in}
-use Rattle.vyrd_base.specs.Reading.{has_any}
-use Rattle.vyrd_base.specs.Own.LogVerdicts.{told_in_text, own_text_verdict_so_far}
-use Rattle.vyrd_base.proofs.TestLaws.{at_most_of, is_at_most}
-use Rattle.vyrd_base.specs.Limits.{IsLimit}
-use Rattle.vyrd_own_log.specs.States.{header_at, has_ended}
-use Rattle.vyrd_own_log.specs.Readers.{ReaderState, HasRead, IsGrownBy}
-use Rattle.vyrd_own_log.proofs.GrownLaws.{reading_grown, reading_formed}
-use Rattle.vyrd_judge.specs.Following.{JudgeView}
-use Rattle.vyrd_own_check.specs.LogReadings.{read_so_far}
-use Rattle.vyrd_own_check.specs.Checking.{IsJudging, IsReady, IsBegun, HasRoom}
-use Rattle.vyrd_own_check.specs.Checking.{OwnCheckerKept}
-use Rattle.vyrd_own_check.specs.Checking.{limit_of, IsUndecided, IsSomewhere, untold_in}
-use Rattle.vyrd_own_check.specs.Costs.{bytes_cost}
-use Rattle.vyrd_own_check.specs.Owed.{judge_owes, following_cost, kept_debt}
+use Rattle.vyrd_own_check.proofs.Prelude
+use Prelude.{◌≡◌, ℕ, ◌+◌, ◌≤◌, ◌^◌, true, false, ◌||◌, List, [], ◌++◌, length, length-append}
+use Prelude.{Option, Some, None, refl, ap, subst, ◌∙◌, sym, arith, option_map, option_or, ∥∥₁_elim}
+use Prelude.{Bool-set, Header, Subject, Own, Entry, Verdict, Malformed, do_follow, is_built_in}
+use Prelude.{has_any, told_in_text, own_text_verdict_so_far, at_most_of, is_at_most, IsLimit}
+use Prelude.{header_at, has_ended, ReaderState, HasRead, IsGrownBy, reading_grown, reading_formed}
+use Prelude.{JudgeView, read_so_far, IsJudging, IsReady, IsBegun, HasRoom, OwnCheckerKept, limit_of}
+use Prelude.{IsUndecided, IsSomewhere, untold_in, bytes_cost, judge_owes, following_cost, kept_debt}
 use Rattle.vyrd_own_check.proofs.ReadingFacts.{known_so_far}
 use Rattle.vyrd_own_check.proofs.PieceLaws.{judge_before, has_room}
 use Rattle.vyrd_own_check.proofs.CostLaws.{piece_paid}

@@ -1,21 +1,12 @@
 -- A verdict about bytes that stands stands for all longer bytes.
-use Rattle.std.proofs.Common.{◌≡◌, ℕ, Bool, true, false, cond, List, ◌++◌, length, Option, Some}
-use Rattle.std.proofs.Common.{None, refl, ap, ◌∙◌, sym, subst, arith}
-use Rattle.std.specs.Prelude.{option_map, option_and_then}
-use Rattle.std.specs.Option.{option_or}
-use Rattle.vyrd_base.specs.declared.verdict.Verdict.{Verdict}
-use Rattle.vyrd_base.specs.declared.verdict.Verdict.TheVariants.{Malformed}
-use Rattle.vyrd_base.specs.Reading.{TextFault, has_any}
-use Rattle.vyrd_base.specs.Rules.{Charter, Rules, rules_by}
-use Rattle.vyrd_base.specs.Verdicts.{verdict_so_far, end_verdict}
-use Rattle.vyrd_base.specs.Own.Log.{OwnReading, own_reading}
-use Rattle.vyrd_base.specs.Own.LogVerdicts.{told_in_text, own_entries_verdict, known_own_verdict}
-use Rattle.vyrd_base.specs.Own.LogVerdicts.{own_text_verdict, own_text_verdict_so_far}
+use Rattle.vyrd_own_check.proofs.Prelude
+use Prelude.{◌≡◌, ℕ, Bool, true, false, cond, List, ◌++◌, length, Option, Some, None, refl, ap, ◌∙◌}
+use Prelude.{sym, subst, arith, option_map, option_and_then, option_or, Verdict, Malformed}
+use Prelude.{TextFault, has_any, Charter, Rules, rules_by, verdict_so_far, end_verdict, OwnReading}
+use Prelude.{own_reading, told_in_text, own_entries_verdict, known_own_verdict, own_text_verdict}
+use Prelude.{own_text_verdict_so_far, IsLimit, to_go_on, input_of, has_begun, IsGrown, ends}
+use Prelude.{IsFormed, reading_grown, reading_formed, charter_in, untold_by, untold_in}
 use Rattle.vyrd_base.proofs.VerdictLaws.{verdict_lasts}
-use Rattle.vyrd_base.specs.Limits.{IsLimit}
-use Rattle.vyrd_own_log.specs.Grown.{to_go_on, input_of, has_begun, IsGrown, ends, IsFormed}
-use Rattle.vyrd_own_log.proofs.GrownLaws.{reading_grown, reading_formed}
-use Rattle.vyrd_own_check.specs.Checking.{charter_in, untold_by, untold_in}
 use Rattle.vyrd_own_check.proofs.PlaceLaws.{IsWithin, within_more, told_stays, nothing_so_far}
 use Rattle.vyrd_own_check.proofs.PlaceLaws.{so_far_within, end_within}
 

@@ -1,3 +1,4 @@
+mod Prelude
 pub mod PlaceLaws
 pub mod LastLaws
 pub mod ReadingFacts

@@ -1,29 +1,12 @@
 -- How what is kept goes on with a piece of the text.
-use Rattle.std.proofs.Common.{◌≡◌, ℕ, ◌≤◌, Bool, true, false, cond, ◌||◌, List, [], ◌++◌, length}
-use Rattle.std.proofs.Common.{Option, Some, None, refl, ap, ◌∙◌, sym, arith, length-append}
-use Rattle.std.proofs.Common.{option_map}
-use Rattle.std.specs.Prelude.{is_none}
-use Rattle.std.specs.Bool.{then_some}
-use Rattle.std.specs.Option.{option_or}
-use Rattle.vyrd_base.specs.Rules.{own, Rules, rules_by}
-use Rattle.vyrd_base.specs.declared.header.Header.{Header}
-use Rattle.vyrd_base.specs.declared.log.Entry.{Entry}
-use Rattle.vyrd_base.specs.declared.log.StartWord.{StartWord}
-use Rattle.vyrd_base.specs.declared.verdict.Rule.TheVariants.{StartState}
-use Rattle.vyrd_base.specs.declared.verdict.Verdict.TheVariants.{Malformed}
-use Rattle.vyrd_base.specs.Front.{front}
-use Rattle.vyrd_base.specs.Starts.{state_at_start}
-use Rattle.vyrd_base.specs.Reading.{has_any}
-use Rattle.vyrd_base.specs.Verdicts.{verdict_so_far, end_verdict}
-use Rattle.vyrd_base.specs.Own.Log.{OwnReading, own_reading}
-use Rattle.vyrd_base.specs.Own.LogVerdicts.{own_text_verdict_so_far}
-use Rattle.vyrd_base.specs.Limits.{most_lines}
-use Rattle.vyrd_own_log.specs.Grown.{has_begun, IsGrown}
-use Rattle.vyrd_own_log.specs.Readers.{ReaderState, HasRead}
-use Rattle.vyrd_judge.specs.Following.{JudgeView, HasFollowed}
-use Rattle.vyrd_judge.proofs.OnlineLaws.{faultless_of}
-use Rattle.vyrd_own_check.specs.Checking.{untold_in, IsJudging, IsBefore, IsReady, HasRoom, IsMade}
-use Rattle.vyrd_own_check.specs.Checking.{IsBegun, IsUndecided}
+use Rattle.vyrd_own_check.proofs.Prelude
+use Prelude.{◌≡◌, ℕ, ◌≤◌, Bool, true, false, cond, ◌||◌, List, [], ◌++◌, length, Option, Some, None}
+use Prelude.{refl, ap, ◌∙◌, sym, arith, length-append, option_map, is_none, then_some, option_or}
+use Prelude.{own, Rules, rules_by, Header, Entry, StartWord, StartState, Malformed, front}
+use Prelude.{state_at_start, has_any, verdict_so_far, end_verdict, OwnReading, own_reading}
+use Prelude.{own_text_verdict_so_far, most_lines, has_begun, IsGrown, ReaderState, HasRead}
+use Prelude.{JudgeView, HasFollowed, faultless_of, untold_in, IsJudging, IsBefore, IsReady, HasRoom}
+use Prelude.{IsMade, IsBegun, IsUndecided}
 use Rattle.vyrd_own_check.proofs.PlaceLaws.{nothing_so_far}
 
 -- a judge without a verdict has counted the entries that it has followed

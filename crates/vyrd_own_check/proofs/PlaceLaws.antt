@@ -1,29 +1,19 @@
 -- A verdict names the line of a starting word, an entry or `end` that was read, and so does each
 -- that is told by the lines of the text.
-use Rattle.std.proofs.Common.{◌≡◌, ℕ, suc, ◌+◌, ◌-◌, ◌<◌, ◌≤◌, Bool, true, false, List, [], ◌∷◌}
-use Rattle.std.proofs.Common.{◌++◌, length, Option, Some, None, refl, ap, ◌∙◌, sym, subst, arith}
-use Rattle.std.specs.Prelude.{is_none}
-use Rattle.std.specs.Option.{option_or, option_map}
-use Rattle.std.specs.Bool.{then_some}
+use Rattle.vyrd_own_check.proofs.Prelude
+use Prelude.{◌≡◌, ℕ, suc, ◌+◌, ◌-◌, ◌<◌, ◌≤◌, Bool, true, false, List, [], ◌∷◌, ◌++◌, length}
+use Prelude.{Option, Some, None, refl, ap, ◌∙◌, sym, subst, arith, is_none, option_or, then_some}
+use Prelude.{Header, Entry, StartWord, Rule, StartState, Verdict, Malformed, State, front}
+use Prelude.{state_at_start, Rules, verdict_so_far, end_verdict, told_in_text}
+use Rattle.std.specs.Option.{option_map}
 use Rattle.std.proofs.lemmas.List.{get_or_append_left}
-use Rattle.vyrd_base.specs.declared.header.Header.{Header}
-use Rattle.vyrd_base.specs.declared.log.Entry.{Entry}
-use Rattle.vyrd_base.specs.declared.log.StartWord.{StartWord}
-use Rattle.vyrd_base.specs.declared.verdict.Rule.{Rule}
-use Rattle.vyrd_base.specs.declared.verdict.Rule.TheVariants.{StartState}
 use Rattle.vyrd_base.specs.declared.verdict.Why.{Why}
-use Rattle.vyrd_base.specs.declared.verdict.Verdict.{Verdict}
-use Rattle.vyrd_base.specs.declared.verdict.Verdict.TheVariants.{Accepted, Violation, Malformed}
+use Rattle.vyrd_base.specs.declared.verdict.Verdict.TheVariants.{Accepted, Violation}
 use Rattle.vyrd_base.specs.Places.{places_after, first_answer}
-use Rattle.vyrd_base.specs.States.{State}
 use Rattle.vyrd_base.specs.Shape.{broken_rule}
-use Rattle.vyrd_base.specs.Front.{front, front_after, first_break}
-use Rattle.vyrd_base.specs.Starts.{state_at_start}
+use Rattle.vyrd_base.specs.Front.{front_after, first_break}
 use Rattle.vyrd_base.specs.Faults.{fault_at}
-use Rattle.vyrd_base.specs.Rules.{Rules}
 use Rattle.vyrd_base.specs.Verdicts.{violation_at, states_along, first_fault, shape_verdict}
-use Rattle.vyrd_base.specs.Verdicts.{verdict_so_far, end_verdict}
-use Rattle.vyrd_base.specs.Own.LogVerdicts.{told_in_text}
 use Rattle.vyrd_base.proofs.Fronts.{break_after}
 
 -- the verdict names no line or one of the first n behind the header

@@ -1,18 +1,10 @@
 -- What is known of bytes, by what is wrong with what was read.
-use Rattle.std.proofs.Common.{◌≡◌, ℕ, true, false, cond, List, Option, Some, None, refl, ap, ◌∙◌}
-use Rattle.std.proofs.Common.{sym}
-use Rattle.std.specs.Prelude.{unwrap_or, option_map, option_and_then}
-use Rattle.std.specs.Option.{option_or}
-use Rattle.vyrd_base.specs.Rules.{Charter, rules_by}
-use Rattle.vyrd_base.specs.declared.verdict.Rule.{Rule}
-use Rattle.vyrd_base.specs.declared.verdict.Verdict.{Verdict}
-use Rattle.vyrd_base.specs.declared.verdict.Verdict.TheVariants.{Malformed}
-use Rattle.vyrd_base.specs.Verdicts.{verdict_so_far, end_verdict, accepted, verdict}
-use Rattle.vyrd_base.specs.Own.Log.{OwnReading}
-use Rattle.vyrd_base.specs.Own.LogVerdicts.{told_in_text, own_entries_verdict, known_own_verdict}
-use Rattle.vyrd_base.specs.Own.LogVerdicts.{own_text_verdict, own_text_verdict_so_far}
-use Rattle.vyrd_own_check.specs.LogReadings.{read_so_far, read_whole}
-use Rattle.vyrd_own_check.specs.Checking.{charter_in, untold_by, untold_in}
+use Rattle.vyrd_own_check.proofs.Prelude
+use Prelude.{◌≡◌, ℕ, true, false, cond, List, Option, Some, None, refl, ap, ◌∙◌, sym, unwrap_or}
+use Prelude.{option_map, option_and_then, option_or, Charter, rules_by, Rule, Verdict, Malformed}
+use Prelude.{verdict_so_far, end_verdict, accepted, verdict, OwnReading, told_in_text}
+use Prelude.{own_entries_verdict, known_own_verdict, own_text_verdict, own_text_verdict_so_far}
+use Prelude.{read_so_far, read_whole, charter_in, untold_by, untold_in}
 use Rattle.vyrd_own_check.proofs.LastLaws.{told_is, known_is}
 
 -- what is known of bytes is what is wrong with what was read, or otherwise their fault of text

@@ -1,9 +1,7 @@
 -- A specification is read line by line.
-use Rattle.std.proofs.Common.{◌≡◌, ℕ, suc, zero, ◌+◌, ◌<◌, List, [], ◌∷◌, length, take}
-use Rattle.std.proofs.Common.{get_or, refl, arith}
-use Rattle.std.specs.Global.{Vec}
-use Rattle.vyrd_base.specs.Own.Reader.{SoFar, read_next, read_lines}
-use Rattle.vyrd_own.specs.Layout.{texts}
+use Rattle.vyrd_own_check.proofs.Prelude.{◌≡◌, ℕ, suc, zero, ◌+◌, ◌<◌, List, [], ◌∷◌, length, take}
+use Rattle.vyrd_own_check.proofs.Prelude.{get_or, refl, arith, Vec, read_next, read_lines, texts}
+use Rattle.vyrd_base.specs.Own.Reader.{SoFar}
 
 -- one line more
 pub read_more : (s : SoFar) (xs : List (Vec ℕ)) (i : ℕ) (d : Vec ℕ) → i < length xs

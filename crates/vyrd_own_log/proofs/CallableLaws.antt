@@ -1,31 +1,27 @@
 -- Entries can call the methods of each specification that is read.
-use Rattle.std.proofs.Common.{◌≡◌, ℕ, suc, zero, ◌+◌, ◌<◌, ◌≤◌, Bool, true, false, cond, ◌&&◌, List}
-use Rattle.std.proofs.Common.{[], ◌∷◌, ◌++◌, length, Option, Some, None, refl, ap, ◌∙◌, subst}
-use Rattle.std.proofs.Common.{arith, length-append}
-use Rattle.std.specs.Prelude.{◌==◌, ◌||◌, not, nat_le, codes, Ok, Err}
-use Rattle.std.specs.List.{list_all}
+use Rattle.vyrd_own_log.proofs.Prelude
+use Prelude.{◌≡◌, ℕ, suc, zero, ◌+◌, ◌<◌, ◌≤◌, Bool, true, false, cond, ◌&&◌, List, [], ◌∷◌, ◌++◌}
+use Prelude.{length, Option, Some, None, refl, ap, ◌∙◌, subst, arith, length-append, ◌==◌, ◌||◌}
+use Prelude.{not, nat_le, codes, Ok, Err, list_all, Taken, Method, Written, Line, line_read, SoFar}
+use Prelude.{unfinished, ended_with, read_next, lacks, is_callable, are_callable}
 use Rattle.std.proofs.lemmas.List.Folds.{list_all-append}
 use Rattle.std.proofs.lemmas.Bool.Decides.{nat_tests}
 use Rattle.vyrd_base.specs.declared.own.last.Last.{Last}
 use Rattle.vyrd_base.specs.Own.Expressions.{Expr}
-use Rattle.vyrd_base.specs.Own.Reading.{Taken, Found, is_word_byte, word_of, after_word, number_in}
-use Rattle.vyrd_base.specs.Own.Programs.{Method, Written}
+use Rattle.vyrd_base.specs.Own.Reading.{Found, is_word_byte, word_of, after_word, number_in}
 use Rattle.vyrd_base.specs.Own.Lines as lines
-use Rattle.vyrd_base.specs.Own.Lines.{Inner, Line, has_any, with_inner, change_last, with_line}
+use Rattle.vyrd_base.specs.Own.Lines.{Inner, has_any, with_inner, change_last, with_line}
 use Rattle.vyrd_base.specs.Own.Names.{is_name, is_known, is_among, new_name}
 use Rattle.vyrd_base.specs.Own.Pieces.{taken_with, last_number, named_number, two_numbers, two_read}
 use Rattle.vyrd_base.specs.Own.Outer.{is_list, is_part, is_past_constants, part_of, part_scope}
 use Rattle.vyrd_base.specs.Own.Outer.{outer_read}
 use Rattle.vyrd_base.specs.Own.Methods.{last_in, is_unfinished, is_method, parameters_read}
 use Rattle.vyrd_base.specs.Own.Methods.{named_method, method_read}
-use Rattle.vyrd_base.specs.Own.Reader.{method_line_read, line_read, SoFar, unfinished, ended_with}
-use Rattle.vyrd_base.specs.Own.Reader.{read_next}
+use Rattle.vyrd_base.specs.Own.Reader.{method_line_read}
 use Rattle.vyrd_base.specs.declared.own.rule.SpecificationRule.TheVariants as refusals
-use Rattle.vyrd_base.proofs.SplitLaws.{lacks}
-use Rattle.vyrd_base.proofs.TestLaws.{both_true, first_true, second_true, is_at_most, above_of}
+use Rattle.vyrd_base.proofs.TestLaws.{is_at_most, above_of, both_true, first_true, second_true}
 use Rattle.vyrd_own_text.proofs.PieceLaws.{after_or, after_inv, taken_inv, then_inv, past, kept}
 use Rattle.vyrd_own_text.proofs.PieceLaws.{ended_is}
-use Rattle.vyrd_own_log.specs.Callable.{is_callable, are_callable}
 
 some_is : (x t : Taken Line) (r : Line) → ◌≡◌ {A = Option (Taken Line)} (Some x) (Some t) → t ≡ Ok r
     → x ≡ Ok r

@@ -1,28 +1,15 @@
 -- What whole lines bring, counted.
-use Rattle.std.proofs.Common.{◌≡◌, ℕ, ◌+◌, ◌≤◌, Bool, true, false, cond, List, [], ◌∷◌, ◌++◌}
-use Rattle.std.proofs.Common.{length, Option, Some, None, refl, arith, length-append}
-use Rattle.std.specs.Prelude.{nat_lt, is_some}
+use Rattle.vyrd_own_log.proofs.Prelude
+use Prelude.{◌≡◌, ℕ, ◌+◌, ◌≤◌, Bool, true, false, cond, List, [], ◌∷◌, ◌++◌, length, Option, Some}
+use Prelude.{None, refl, arith, length-append, nat_lt, is_some, SpecificationLine, Entry, StartWord}
+use Prelude.{Rule, start_rule, start_in, has_any, SoFar, read_next, is_note, own_header_in, Stage}
+use Prelude.{Found, LineState, has_ended, next, broken, header_step, specification_step, entry_step}
+use Prelude.{word_step, start_step, starts_step, stage_step, own_step, Brought, nothing_brought}
+use Prelude.{brought_then, brought_by, starts_of, entries_of, numbers_of, ends}
 use Rattle.vyrd_base.specs.declared.header.Header as headers
-use Rattle.vyrd_base.specs.declared.own.line.SpecificationLine.{SpecificationLine}
-use Rattle.vyrd_base.specs.declared.log.Entry.{Entry}
-use Rattle.vyrd_base.specs.declared.log.StartWord.{StartWord}
-use Rattle.vyrd_base.specs.declared.verdict.Rule.{Rule}
 use Rattle.vyrd_base.specs.declared.verdict.Rule.TheVariants as rules
-use Rattle.vyrd_base.specs.Starts.{start_rule}
-use Rattle.vyrd_base.specs.Lines.{start_in}
-use Rattle.vyrd_base.specs.Reading.{has_any}
-use Rattle.vyrd_base.specs.Own.Reader.{SoFar, read_next}
-use Rattle.vyrd_base.specs.Own.Log.{is_note, own_header_in}
-use Rattle.vyrd_own_log.specs.declared.stage.Stage.{Stage}
 use Rattle.vyrd_own_log.specs.declared.stage.Stage.TheVariants as stages
-use Rattle.vyrd_own_log.specs.declared.stage.Found.{Found}
 use Rattle.vyrd_own_log.specs.declared.stage.Found.TheVariants as found
-use Rattle.vyrd_own_log.specs.States.{LineState, has_ended}
-use Rattle.vyrd_own_log.specs.Steps.{next, broken, header_step, specification_step, entry_step}
-use Rattle.vyrd_own_log.specs.Steps.{word_step, start_step, starts_step, stage_step, own_step}
-use Rattle.vyrd_own_log.specs.Steps.{Brought, nothing_brought, brought_then, brought_by, starts_of}
-use Rattle.vyrd_own_log.specs.Steps.{entries_of, numbers_of}
-use Rattle.vyrd_own_log.specs.Grown.{ends}
 use Rattle.vyrd_own_log.proofs.ReaderLaws.{and_nothing}
 
 -- whether no starting word comes any more

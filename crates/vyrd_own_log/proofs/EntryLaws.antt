@@ -1,40 +1,18 @@
 -- An entry's line has one reading, by a specification whose methods can be called.
-use Rattle.std.proofs.Common.{◌≡◌, ℕ, suc, zero, ◌<◌, ◌≤◌, ◌^◌, Bool, true, false, cond, ◌&&◌}
-use Rattle.std.proofs.Common.{List, [], ◌∷◌, ◌++◌, map, take, get_or, Option, Some, None, refl, ap}
-use Rattle.std.proofs.Common.{sym, ◌∙◌, subst, arith, zero-add}
-use Rattle.std.specs.Prelude.{nat_lt, codes, decimal, option_map}
-use Rattle.std.specs.Option.{option_and_then}
-use Rattle.std.specs.List.{list_all}
-use Rattle.std.specs.Char.{digit_value}
-use Rattle.std.specs.Str.{bytes_eq}
-use Rattle.std.proofs.lemmas.List.{append-nil, append_cancel_left}
-use Rattle.std.proofs.lemmas.Slice.Eq.{bytes_eq-Decides}
-use Rattle.vyrd_base.specs.declared.own.method.OwnMethod.{OwnMethod}
+use Rattle.vyrd_own_log.proofs.Prelude
+use Prelude.{◌≡◌, ℕ, suc, zero, ◌<◌, ◌≤◌, ◌^◌, Bool, true, false, cond, ◌&&◌, List, [], ◌∷◌, ◌++◌}
+use Prelude.{map, take, get_or, Option, Some, None, refl, ap, sym, ◌∙◌, subst, arith, zero-add}
+use Prelude.{nat_lt, codes, decimal, option_map, option_and_then, list_all, digit_value, bytes_eq}
+use Prelude.{append-nil, append_cancel_left, bytes_eq-Decides, OwnMethod, Commits, Args, Kind, Call}
+use Prelude.{Return, Write, Commit, BlockOpen, BlockClose, BlockCommit, Entry, own_numbered}
+use Prelude.{own_call, own_number, are_padded, spaced, fields_of, number_of, args_from, most}
+use Prelude.{Written, own_arity, own_name, named_from, own_fields, own_entry_line, is_own_kind}
+use Prelude.{is_own_entry, guessed_own_kind, guessed_own_entry, own_entry_in, lacks, all_lack}
+use Prelude.{split-join, lacks-join, decimal_lacks, no_space, no_line_feed, number_of_decimal}
+use Prelude.{bytes_same, both_true, first_true, second_true, same_of, below_of, is_below}
+use Prelude.{after_field, one_before_space, is_callable, own_kind_text, own_args, IsCalled, IsOf}
+use Prelude.{HasNoOther, IsOwnKindRead, AreOwnArgsRead}
 use Rattle.vyrd_base.specs.declared.subject.Method.{Method}
-use Rattle.vyrd_base.specs.declared.subject.Commits.{Commits}
-use Rattle.vyrd_base.specs.declared.subject.Args.{Args}
-use Rattle.vyrd_base.specs.declared.log.Kind.{Kind}
-use Rattle.vyrd_base.specs.declared.log.Kind.TheVariants.{Call, Return, Write, Commit, BlockOpen}
-use Rattle.vyrd_base.specs.declared.log.Kind.TheVariants.{BlockClose, BlockCommit}
-use Rattle.vyrd_base.specs.declared.log.Entry.{Entry}
-use Rattle.vyrd_base.specs.Subjects.{own_numbered, own_call, own_number, are_padded}
-use Rattle.vyrd_base.specs.Spelling.{spaced}
-use Rattle.vyrd_base.specs.Lines.{fields_of, number_of, args_from}
-use Rattle.vyrd_base.specs.Own.Expressions.{most}
-use Rattle.vyrd_base.specs.Own.Programs.{Written}
-use Rattle.vyrd_base.specs.Own.OwnRules.{own_arity}
-use Rattle.vyrd_base.specs.Own.Entries.{own_name, named_from, own_fields, own_entry_line}
-use Rattle.vyrd_base.specs.Own.Entries.{is_own_kind, is_own_entry, guessed_own_kind}
-use Rattle.vyrd_base.specs.Own.Entries.{guessed_own_entry, own_entry_in}
-use Rattle.vyrd_base.proofs.SplitLaws.{lacks, all_lack, split-join, lacks-join, decimal_lacks}
-use Rattle.vyrd_base.proofs.SplitLaws.{no_space, no_line_feed, number_of_decimal, bytes_same}
-use Rattle.vyrd_base.proofs.TestLaws.{both_true, first_true, second_true, same_of, below_of}
-use Rattle.vyrd_base.proofs.TestLaws.{is_below}
-use Rattle.vyrd_text.specs.Fields.{after_field}
-use Rattle.vyrd_text.proofs.PartLaws.{one_before_space}
-use Rattle.vyrd_own_log.specs.Callable.{is_callable}
-use Rattle.vyrd_own_log.specs.Spelled.{own_kind_text, own_args, IsCalled, IsOf, HasNoOther}
-use Rattle.vyrd_own_log.specs.Spelled.{IsOwnKindRead, AreOwnArgsRead}
 use Rattle.vyrd_own_log.proofs.NameLaws.{name_in, arity_in, named_is, one_field}
 
 -- the methods can be called

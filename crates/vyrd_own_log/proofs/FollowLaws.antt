@@ -1,30 +1,14 @@
 -- The starting words that are read keep both rules, and the header names the user's own subject.
-use Rattle.std.proofs.Common.{◌≡◌, ℕ, ◌+◌, Bool, true, false, cond, not, ◌&&◌, ◌||◌, List, [], ◌∷◌}
-use Rattle.std.proofs.Common.{Option, Some, None, refl, ap, sym, ◌∙◌}
-use Rattle.std.specs.Prelude.{◌==◌, nat_lt}
-use Rattle.std.specs.List.{slice_split}
-use Rattle.std.specs.Str.{bytes_eq}
-use Rattle.vyrd_base.specs.declared.header.Header.{Header}
-use Rattle.vyrd_base.specs.declared.subject.Subject.TheVariants.{Own}
-use Rattle.vyrd_base.specs.declared.log.Entry.{Entry}
-use Rattle.vyrd_base.specs.declared.log.StartWord.{StartWord}
-use Rattle.vyrd_base.specs.declared.own.line.SpecificationLine.{SpecificationLine}
+use Rattle.vyrd_own_log.proofs.Prelude
+use Prelude.{◌≡◌, ℕ, ◌+◌, Bool, true, false, cond, not, ◌&&◌, ◌||◌, List, [], ◌∷◌, Option, Some}
+use Prelude.{None, refl, ap, sym, ◌∙◌, ◌==◌, nat_lt, slice_split, bytes_eq, Header, Own, Entry}
+use Prelude.{StartWord, SpecificationLine, TooManyLines, BadHeader, Specification, StartRange}
+use Prelude.{StartOrder, limits_of, ◌breaks◌, first_broken, end_line, is_out_of_range}
+use Prelude.{is_out_of_order, start_rule, do_follow, start_in, header_if, Input, after_end_rule}
+use Prelude.{Written, SoFar, nothing_read, read_next, own_entry_in, OwnReading, own_stopped}
+use Prelude.{own_ended, is_note, own_entry_before, entries_read, own_start_before, own_starts_read}
+use Prelude.{line_before, specification_read, own_header_in, own_text_read, own_reading, both_true}
 use Rattle.vyrd_base.specs.declared.own.line.SpecificationLine.TheVariants as said
-use Rattle.vyrd_base.specs.declared.verdict.Rule.TheVariants.{TooManyLines, BadHeader}
-use Rattle.vyrd_base.specs.declared.verdict.Rule.TheVariants.{Specification, StartRange, StartOrder}
-use Rattle.vyrd_base.specs.Subjects.{limits_of}
-use Rattle.vyrd_base.specs.Shape.{◌breaks◌, first_broken}
-use Rattle.vyrd_base.specs.Spelling.{end_line}
-use Rattle.vyrd_base.specs.Starts.{is_out_of_range, is_out_of_order, start_rule, do_follow}
-use Rattle.vyrd_base.specs.Lines.{start_in, header_if}
-use Rattle.vyrd_base.specs.Reading.{Input, after_end_rule}
-use Rattle.vyrd_base.specs.Own.Programs.{Written}
-use Rattle.vyrd_base.specs.Own.Reader.{SoFar, nothing_read, read_next}
-use Rattle.vyrd_base.specs.Own.Entries.{own_entry_in}
-use Rattle.vyrd_base.specs.Own.Log.{OwnReading, own_stopped, own_ended, is_note, own_entry_before}
-use Rattle.vyrd_base.specs.Own.Log.{entries_read, own_start_before, own_starts_read, line_before}
-use Rattle.vyrd_base.specs.Own.Log.{specification_read, own_header_in, own_text_read, own_reading}
-use Rattle.vyrd_base.proofs.TestLaws.{both_true}
 use Rattle.vyrd_own_log.proofs.HeaderLaws.{header_sound, header_complete}
 
 -- neither lines of a specification nor starting words

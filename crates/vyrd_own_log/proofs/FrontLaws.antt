@@ -1,28 +1,14 @@
 -- What a reader makes of entries that are read where they lie: what it makes of their lines.
-use Rattle.std.proofs.Common.{◌≡◌, ℕ, ◌+◌, ◌<◌, ◌≤◌, ◌^◌, Bool, true, false, not, List, [], ◌∷◌}
-use Rattle.std.proofs.Common.{◌++◌, length, None, refl, ap, sym, ◌∙◌, arith, append_assoc}
-use Rattle.std.proofs.Common.{length-append}
-use Rattle.std.specs.Prelude.{◌==◌, decimal, is_some}
-use Rattle.std.specs.Str.{bytes_eq}
-use Rattle.std.proofs.Math.Bool.{and-false}
-use Rattle.std.proofs.lemmas.Bool.{not-true}
-use Rattle.std.proofs.lemmas.List.{append-nil}
-use Rattle.std.proofs.lemmas.Slice.Eq.{bytes_eq-Decides}
-use Rattle.vyrd_base.specs.declared.header.Header.{Header}
+use Rattle.vyrd_own_log.proofs.Prelude
+use Prelude.{◌≡◌, ℕ, ◌+◌, ◌<◌, ◌≤◌, ◌^◌, Bool, true, false, not, List, [], ◌∷◌, ◌++◌, length, None}
+use Prelude.{refl, ap, sym, ◌∙◌, arith, append_assoc, length-append, ◌==◌, decimal, is_some}
+use Prelude.{bytes_eq, and-false, not-true, append-nil, bytes_eq-Decides, Header, end_line}
+use Prelude.{own_entry_line, is_note, lacks, decimal_lacks, first_true, second_true, below_of}
+use Prelude.{isnt_below, Found, own_kind_text, IsOwnEntryAtFront, LineState, next, broken, own_step}
+use Prelude.{OwnReaderKept, IsSafe, IsSound, IsFed, IsFedFront}
 use Rattle.vyrd_base.specs.declared.log.Entry as entries
-use Rattle.vyrd_base.specs.Spelling.{end_line}
-use Rattle.vyrd_base.specs.Own.Entries.{own_entry_line}
-use Rattle.vyrd_base.specs.Own.Log.{is_note}
-use Rattle.vyrd_base.proofs.SplitLaws.{lacks, decimal_lacks}
-use Rattle.vyrd_base.proofs.TestLaws.{first_true, second_true, below_of, isnt_below}
 use Rattle.vyrd_own_log.specs.declared.stage.Stage.TheVariants as stages
-use Rattle.vyrd_own_log.specs.declared.stage.Found.{Found}
 use Rattle.vyrd_own_log.specs.declared.stage.Found.TheVariants as found
-use Rattle.vyrd_own_log.specs.Spelled.{own_kind_text}
-use Rattle.vyrd_own_log.specs.Quick.{IsOwnEntryAtFront}
-use Rattle.vyrd_own_log.specs.States.{LineState}
-use Rattle.vyrd_own_log.specs.Steps.{next, broken, own_step}
-use Rattle.vyrd_own_log.specs.Readers.{OwnReaderKept, IsSafe, IsSound, IsFed, IsFedFront}
 use Rattle.vyrd_own_log.proofs.EntryLaws.{AllCallable, own_line_is, entry_complete, entry_one_line}
 use Rattle.vyrd_own_log.proofs.EntryLaws.{below_64}
 use Rattle.vyrd_own_log.proofs.ReadLaws.{nothing_fed, fed_then, line_fed, line_kept}

@@ -1,28 +1,14 @@
 -- What longer bytes say: what was read stays read, and a fault of text that is known stays.
-use Rattle.std.proofs.Common.{◌≡◌, ℕ, ◌+◌, ◌≤◌, Bool, true, false, ◌||◌, length, List, [], ◌∷◌}
-use Rattle.std.proofs.Common.{◌++◌, Option, Some, None, refl, ap, sym, ◌∙◌, subst, arith}
-use Rattle.std.proofs.Common.{append_assoc}
-use Rattle.std.proofs.lemmas.List.{append-nil}
-use Rattle.vyrd_base.specs.declared.header.Header.{Header}
-use Rattle.vyrd_base.specs.declared.verdict.Rule.{Rule}
-use Rattle.vyrd_base.specs.Reading.{TextFault, has_any}
-use Rattle.vyrd_base.specs.Own.Reader.{written_in}
-use Rattle.vyrd_base.specs.Own.Log.{OwnReading, own_reading}
-use Rattle.vyrd_base.proofs.SplitLaws.{cut, lacks, lacks-append}
-use Rattle.vyrd_base.proofs.TestLaws.{both_true, same_of}
-use Rattle.vyrd_base.specs.Limits.{most_lines}
-use Rattle.vyrd_own_log.specs.declared.stage.Stage.{Stage}
+use Rattle.vyrd_own_log.proofs.Prelude
+use Prelude.{◌≡◌, ℕ, ◌+◌, ◌≤◌, Bool, true, false, ◌||◌, length, List, [], ◌∷◌, ◌++◌, Option, Some}
+use Prelude.{None, refl, ap, sym, ◌∙◌, subst, arith, append_assoc, append-nil, Header, Rule}
+use Prelude.{TextFault, has_any, written_in, OwnReading, own_reading, cut, lacks, lacks-append}
+use Prelude.{both_true, same_of, most_lines, Stage, are_callable, header_at, has_ended, input_to}
+use Prelude.{lines_on, known, unless_faulty, IsFirst, parts_of, broken, own_step, Brought}
+use Prelude.{nothing_brought, brought_then, brought_by, with_read, rest_rule, OwnReaderKept}
+use Prelude.{fresh_kept, goes_on, HasReached, IsSound, IsTaken, to_go_on, input_of, has_begun}
+use Prelude.{IsGrown, ends, IsFormed}
 use Rattle.vyrd_own_log.specs.declared.stage.Stage.TheVariants as stages
-use Rattle.vyrd_own_log.specs.Callable.{are_callable}
-use Rattle.vyrd_own_log.specs.States.{header_at, has_ended, input_to, lines_on, known}
-use Rattle.vyrd_own_log.specs.States.{unless_faulty, IsFirst}
-use Rattle.vyrd_text.proofs.AheadLaws.{parts_of}
-use Rattle.vyrd_own_log.specs.Steps.{broken, own_step, Brought, nothing_brought, brought_then}
-use Rattle.vyrd_own_log.specs.Steps.{brought_by, with_read}
-use Rattle.vyrd_own_log.specs.Rests.{rest_rule}
-use Rattle.vyrd_own_log.specs.Readers.{OwnReaderKept, fresh_kept, goes_on, HasReached, IsSound}
-use Rattle.vyrd_own_log.specs.Readers.{IsTaken}
-use Rattle.vyrd_own_log.specs.Grown.{to_go_on, input_of, has_begun, IsGrown, ends, IsFormed}
 use Rattle.vyrd_own_log.proofs.CountLaws.{IsCounted, is_past, line_counted, same_counted}
 use Rattle.vyrd_own_log.proofs.FollowLaws.{IsBare, entries_bare, reading_follows}
 use Rattle.vyrd_own_log.proofs.ReaderLaws.{longer_taken, faulty_taken, broken_taken, line_taken}

@@ -1,23 +1,12 @@
 -- The first line has one reading.
-use Rattle.std.proofs.Common.{◌≡◌, ℕ, ◌<◌, ◌^◌, Bool, true, false, cond, ◌&&◌, List, [], ◌∷◌, ◌++◌}
-use Rattle.std.proofs.Common.{Option, Some, None, refl, ap, sym, ◌∙◌, arith}
-use Rattle.std.specs.Prelude.{codes, decimal, IsSome, IfSome, ◌↔◌, IsTrue}
-use Rattle.std.specs.Str.{bytes_eq}
+use Rattle.vyrd_own_log.proofs.Prelude
+use Prelude.{◌≡◌, ℕ, ◌<◌, ◌^◌, Bool, true, false, cond, ◌&&◌, List, [], ◌∷◌, ◌++◌, Option, Some}
+use Prelude.{None, refl, ap, sym, ◌∙◌, arith, codes, decimal, IsSome, IfSome, ◌↔◌, IsTrue, bytes_eq}
+use Prelude.{append_cancel_left, bytes_eq-Decides, Header, Own, is_own_sized, limits_of}
+use Prelude.{header_line, fields_of, number_of, header_of, own_header_spelled, own_header_from}
+use Prelude.{own_header_in, all_lack, split-join, decimal_lacks, no_space, number_of_decimal}
+use Prelude.{bytes_same, both_true, first_true, second_true, at_most_of, made, one_before_space}
 use Rattle.std.proofs.lemmas.Fmt.{decimal_digit}
-use Rattle.std.proofs.lemmas.List.{append_cancel_left}
-use Rattle.std.proofs.lemmas.Slice.Eq.{bytes_eq-Decides}
-use Rattle.vyrd_base.specs.declared.header.Header.{Header}
-use Rattle.vyrd_base.specs.declared.subject.Subject.TheVariants.{Own}
-use Rattle.vyrd_base.specs.Limits.{is_own_sized}
-use Rattle.vyrd_base.specs.Subjects.{limits_of}
-use Rattle.vyrd_base.specs.Spelling.{header_line}
-use Rattle.vyrd_base.specs.Lines.{fields_of, number_of, header_of}
-use Rattle.vyrd_base.specs.Own.Log.{own_header_spelled, own_header_from, own_header_in}
-use Rattle.vyrd_base.proofs.SplitLaws.{all_lack, split-join, decimal_lacks, no_space}
-use Rattle.vyrd_base.proofs.SplitLaws.{number_of_decimal, bytes_same}
-use Rattle.vyrd_base.proofs.TestLaws.{both_true, first_true, second_true, at_most_of}
-use Rattle.vyrd_text.proofs.HeaderLaws.{made}
-use Rattle.vyrd_text.proofs.PartLaws.{one_before_space}
 
 -- the text of a header of version 3
 abbrev pub own_text : ℕ → ℕ → List ℕ

@@ -1,3 +1,4 @@
+mod Prelude
 pub mod NameLaws
 pub mod EntryLaws
 pub mod QuickLaws

@@ -1,28 +1,17 @@
 -- No line with more than 200 bytes spells anything.
-use Rattle.std.proofs.Common.{◌≡◌, ℕ, suc, zero, ◌<◌, ◌≤◌, ◌^◌, Bool, true, false, cond, ◌&&◌, List}
-use Rattle.std.proofs.Common.{[], ◌∷◌, map, take, length, Option, Some, None, refl, ap, sym, ◌∙◌}
-use Rattle.std.proofs.Common.{arith, length-append}
-use Rattle.std.specs.Prelude.{nat_lt, nat_le, codes, decimal, drop, Err}
+use Rattle.vyrd_own_log.proofs.Prelude
+use Prelude.{◌≡◌, ℕ, suc, zero, ◌<◌, ◌≤◌, ◌^◌, Bool, true, false, cond, ◌&&◌, List, [], ◌∷◌, map}
+use Prelude.{take, length, Option, Some, None, refl, ap, sym, ◌∙◌, arith, length-append, nat_lt}
+use Prelude.{nat_le, codes, decimal, drop, Err, bytes_eq, bytes_eq-Decides, Header, Kind, Call}
+use Prelude.{Return, Write, Commit, BlockOpen, BlockClose, BlockCommit, Entry, SpecificationLine}
+use Prelude.{are_padded, Written, own_name, own_fields, is_own_kind, own_entry_in, is_note}
+use Prelude.{own_header_in, first_true, second_true, below_of, is_below, isnt_below, IsOf}
 use Rattle.std.specs.List.{join_with_byte}
-use Rattle.std.specs.Str.{bytes_eq}
-use Rattle.std.proofs.lemmas.Slice.Eq.{bytes_eq-Decides}
-use Rattle.vyrd_base.specs.declared.header.Header.{Header}
-use Rattle.vyrd_base.specs.declared.log.Kind.{Kind}
-use Rattle.vyrd_base.specs.declared.log.Kind.TheVariants.{Call, Return, Write, Commit, BlockOpen}
-use Rattle.vyrd_base.specs.declared.log.Kind.TheVariants.{BlockClose, BlockCommit}
-use Rattle.vyrd_base.specs.declared.log.Entry.{Entry}
-use Rattle.vyrd_base.specs.declared.own.line.SpecificationLine.{SpecificationLine}
 use Rattle.vyrd_base.specs.declared.own.line.SpecificationLine.TheVariants as told
 use Rattle.vyrd_base.specs.declared.own.rule.SpecificationRule.TheVariants.{TooMany, TooLong}
-use Rattle.vyrd_base.specs.Subjects.{are_padded}
-use Rattle.vyrd_base.specs.Own.Programs.{Written}
-use Rattle.vyrd_base.specs.Own.Entries.{own_name, own_fields, is_own_kind, own_entry_in}
-use Rattle.vyrd_base.specs.Own.Reader.{SoFar, line_read, column, read_next}
 use Rattle.vyrd_base.specs.Own.Reader as reader
-use Rattle.vyrd_base.specs.Own.Log.{is_note, own_header_in}
+use Rattle.vyrd_base.specs.Own.Reader.{column, SoFar, line_read, read_next}
 use Rattle.vyrd_base.proofs.LongLines.{spaced_length, short_number, short_value}
-use Rattle.vyrd_base.proofs.TestLaws.{first_true, second_true, below_of, is_below, isnt_below}
-use Rattle.vyrd_own_log.specs.Spelled.{IsOf}
 use Rattle.vyrd_own_log.proofs.NameLaws.{named_is}
 use Rattle.vyrd_own_log.proofs.HeaderLaws.{header_sound, few_words, few_callers}
 use Rattle.vyrd_own_log.proofs.EntryLaws.{AllCallable, entry_sound, below_most, called_fields}

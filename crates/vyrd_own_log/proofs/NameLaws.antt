@@ -1,21 +1,11 @@
 -- The method that a name finds, and what stands between the spaces of a line.
-use Rattle.std.proofs.Common.{◌≡◌, ℕ, suc, zero, ◌+◌, ◌-◌, ◌<◌, ◌≤◌, Bool, true, false, cond, not}
-use Rattle.std.proofs.Common.{◌&&◌, List, [], ◌∷◌, ◌++◌, length, take, drop, get_or, Option, Some}
-use Rattle.std.proofs.Common.{None, refl, ap, sym, ◌∙◌, arith}
-use Rattle.std.specs.Prelude.{◌==◌, nat_le, slice_get}
-use Rattle.std.specs.List.{list_all, slice_split}
-use Rattle.std.specs.Option.{option_map_or}
-use Rattle.std.specs.Str.{bytes_eq}
-use Rattle.std.proofs.lemmas.List.{append-nil, append_cancel_left, take_all, take-append-drop}
-use Rattle.std.proofs.lemmas.List.{drop_more, take_rest}
-use Rattle.std.proofs.lemmas.Slice.Eq.{bytes_eq-Decides}
-use Rattle.vyrd_base.specs.declared.own.method.OwnMethod.{OwnMethod}
-use Rattle.vyrd_base.specs.Own.Programs.{Method}
-use Rattle.vyrd_base.specs.Own.Entries.{own_method, named_from}
-use Rattle.vyrd_base.proofs.SplitLaws.{lacks, split_at, split_whole}
-use Rattle.vyrd_base.proofs.TestLaws.{both_true, first_true, second_true, at_most_of, same_of}
-use Rattle.vyrd_text.specs.Fields.{after_field}
-use Rattle.vyrd_own_log.specs.Callable.{is_callable}
+use Rattle.vyrd_own_log.proofs.Prelude
+use Prelude.{◌≡◌, ℕ, suc, zero, ◌+◌, ◌-◌, ◌<◌, ◌≤◌, Bool, true, false, cond, not, ◌&&◌, List, []}
+use Prelude.{◌∷◌, ◌++◌, length, take, drop, get_or, Option, Some, None, refl, ap, sym, ◌∙◌, arith}
+use Prelude.{◌==◌, nat_le, slice_get, list_all, slice_split, option_map_or, bytes_eq, append-nil}
+use Prelude.{append_cancel_left, take_all, take-append-drop, drop_more, take_rest, bytes_eq-Decides}
+use Prelude.{OwnMethod, Method, own_method, named_from, lacks, split_at, split_whole, both_true}
+use Prelude.{first_true, second_true, at_most_of, same_of, after_field, is_callable}
 
 -- the name of a method by its place
 abbrev pub name_in : List Method → ℕ → List ℕ

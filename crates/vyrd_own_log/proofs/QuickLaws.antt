@@ -1,26 +1,14 @@
 -- Entries that are read where they lie, by a specification whose methods can be called.
-use Rattle.std.proofs.Common.{◌≡◌, ℕ, ◌+◌, ◌<◌, ◌^◌, Bool, true, false, cond, List, ◌∷◌, ◌++◌}
-use Rattle.std.proofs.Common.{get_or, Option, Some, None, refl, ap, sym, ◌∙◌, append_assoc}
-use Rattle.std.specs.Prelude.{codes, decimal, IfSome}
-use Rattle.std.specs.Str.{bytes_eq}
-use Rattle.std.proofs.lemmas.Slice.Eq.{bytes_eq-Decides}
+use Rattle.vyrd_own_log.proofs.Prelude
+use Prelude.{◌≡◌, ℕ, ◌+◌, ◌<◌, ◌^◌, Bool, true, false, cond, List, ◌∷◌, ◌++◌, get_or, Option, Some}
+use Prelude.{None, refl, ap, sym, ◌∙◌, append_assoc, codes, decimal, IfSome, bytes_eq}
+use Prelude.{bytes_eq-Decides, OwnMethod, Args, Own, Kind, Call, Return, Write, Commit, BlockOpen}
+use Prelude.{BlockClose, BlockCommit, own_call, Method, Written, own_method, named_from, bytes_same}
+use Prelude.{both_true, is_below, after_field, own_kind_text, own_args, IsOwnEntryAtFront}
 use denote.Ref.{Bor}
-use Rattle.vyrd_base.specs.declared.own.method.OwnMethod.{OwnMethod}
-use Rattle.vyrd_base.specs.declared.subject.Args.{Args}
 use Rattle.vyrd_base.specs.declared.subject.Subject.{Subject}
-use Rattle.vyrd_base.specs.declared.subject.Subject.TheVariants.{Own}
-use Rattle.vyrd_base.specs.declared.log.Kind.{Kind}
-use Rattle.vyrd_base.specs.declared.log.Kind.TheVariants.{Call, Return, Write, Commit, BlockOpen}
-use Rattle.vyrd_base.specs.declared.log.Kind.TheVariants.{BlockClose, BlockCommit}
-use Rattle.vyrd_base.specs.Subjects.{own_call}
-use Rattle.vyrd_base.specs.Own.Programs.{Method, Written}
-use Rattle.vyrd_base.specs.Own.Entries.{own_method, named_from}
-use Rattle.vyrd_base.proofs.SplitLaws.{bytes_same}
-use Rattle.vyrd_base.proofs.TestLaws.{both_true, is_below}
-use Rattle.vyrd_text.specs.Fields.{after_field}
 use Rattle.vyrd_text.specs.Quick.{IsKindAtFront}
-use Rattle.vyrd_own_log.specs.Spelled.{own_kind_text, own_args}
-use Rattle.vyrd_own_log.specs.Quick.{AreOwnArgsAtFront, IsOwnKindAtFront, IsOwnEntryAtFront}
+use Rattle.vyrd_own_log.specs.Quick.{AreOwnArgsAtFront, IsOwnKindAtFront}
 use Rattle.vyrd_own_log.proofs.NameLaws.{named_is}
 use Rattle.vyrd_own_log.proofs.EntryLaws.{AllCallable, own_line_is, call_read}
 

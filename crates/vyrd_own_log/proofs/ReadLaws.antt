@@ -1,33 +1,16 @@
 -- What a reader that has been fed bytes says of them.
-use Rattle.std.proofs.Common.{◌≡◌, ℕ, ◌+◌, ◌-◌, ◌≤◌, Bool, true, false, List, [], ◌∷◌, ◌++◌, length}
-use Rattle.std.proofs.Common.{Option, Some, None, Result, refl, ap, sym, ◌∙◌, subst, arith}
-use Rattle.std.proofs.Common.{append_assoc}
-use Rattle.std.specs.Prelude.{◌==◌, nat_lt, OnOk, is_some, option_map}
-use Rattle.std.specs.Result.{is_err}
+use Rattle.vyrd_own_log.proofs.Prelude
+use Prelude.{◌≡◌, ℕ, ◌+◌, ◌-◌, ◌≤◌, Bool, true, false, List, [], ◌∷◌, ◌++◌, length, Option, Some}
+use Prelude.{None, Result, refl, ap, sym, ◌∙◌, subst, arith, append_assoc, ◌==◌, nat_lt, OnOk}
+use Prelude.{is_some, option_map, is_err, fault_of, below_of, is_below, not_below_of, isnt_below}
+use Prelude.{option_or, append-nil, Entry, Rule, TextFault, has_any, own_reading, cut, split_whole}
+use Prelude.{most_lines, IsAnswer, UnlessMemory, Found, LineState, input_to, known, unless_faulty}
+use Prelude.{reads_on, has_ended, broken, own_step, Brought, nothing_brought, brought_then}
+use Prelude.{brought_by, lines_of, starts_of, entries_of, numbers_of, with_read, rest_if, rest_rule}
+use Prelude.{end_fault, fault_at_end, OwnReaderKept, ReaderState, fresh_kept, so_far, whole}
+use Prelude.{HasReached, brought_in, HasRead, is_one_line, IsSound, IsTaken, IsFed, IsGrownBy}
 use Rattle.vyrd_own_log.specs.declared.fault.LineFault.{LineFault}
-use Rattle.vyrd_own_log.specs.StateView.{fault_of}
-use Rattle.vyrd_base.proofs.TestLaws.{below_of, is_below, not_below_of, isnt_below}
-use Rattle.std.specs.Option.{option_or}
-use Rattle.std.proofs.lemmas.List.{append-nil}
-use Rattle.vyrd_base.specs.declared.log.Entry.{Entry}
-use Rattle.vyrd_base.specs.declared.verdict.Rule.{Rule}
-use Rattle.vyrd_base.specs.Reading.{TextFault, has_any}
-use Rattle.vyrd_base.specs.Own.Log.{own_reading}
-use Rattle.vyrd_base.proofs.SplitLaws.{cut, split_whole}
-use Rattle.vyrd_base.specs.Limits.{most_lines}
 use Rattle.vyrd_text.specs.declared.fault.TextFault as fault
-use Rattle.vyrd_text.specs.Answered.{IsAnswer, UnlessMemory}
-use Rattle.vyrd_own_log.specs.declared.stage.Found.{Found}
-use Rattle.vyrd_own_log.specs.States.{LineState, input_to, known, unless_faulty, reads_on}
-use Rattle.vyrd_own_log.specs.States.{has_ended}
-use Rattle.vyrd_own_log.specs.Steps.{broken, own_step, Brought, nothing_brought, brought_then}
-use Rattle.vyrd_own_log.specs.Steps.{brought_by, lines_of, starts_of, entries_of, numbers_of}
-use Rattle.vyrd_own_log.specs.Steps.{with_read}
-use Rattle.vyrd_own_log.specs.Rests.{rest_if, rest_rule, end_fault, fault_at_end}
-use Rattle.vyrd_own_log.specs.Readers.{OwnReaderKept, ReaderState, fresh_kept, so_far, whole}
-use Rattle.vyrd_own_log.specs.Readers.{HasReached}
-use Rattle.vyrd_own_log.specs.Readers.{brought_in, HasRead, is_one_line, IsSound, IsTaken, IsFed}
-use Rattle.vyrd_own_log.specs.Readers.{IsGrownBy}
 use Rattle.vyrd_own_log.proofs.RestLaws.{rest_whole}
 use Rattle.vyrd_own_log.proofs.ReaderLaws.{and_nothing, taken_then, empty_taken, broken_taken}
 use Rattle.vyrd_own_log.proofs.ReaderLaws.{line_taken, line_sound, read_now}

@@ -1,24 +1,12 @@
 -- How a reader goes on.
-use Rattle.std.proofs.Common.{◌≡◌, ℕ, Bool, true, false, cond, not, List, [], ◌∷◌, ◌++◌, Option}
-use Rattle.std.proofs.Common.{Some, None, refl, ap, sym, ◌∙◌, append_assoc}
-use Rattle.std.specs.Prelude.{◌==◌}
-use Rattle.std.specs.List.{onto_first}
-use Rattle.std.proofs.lemmas.Bool.{not-true}
-use Rattle.std.proofs.lemmas.List.{append-nil}
-use Rattle.vyrd_base.specs.declared.log.StartWord.{StartWord}
-use Rattle.vyrd_base.specs.declared.verdict.Rule.{Rule}
-use Rattle.vyrd_base.specs.Reading.{TextFault, fault_on}
-use Rattle.vyrd_base.specs.Own.Reader.{SoFar, nothing_read, read_next, read_lines}
-use Rattle.vyrd_base.specs.Own.Log.{OwnReading, own_reading}
-use Rattle.vyrd_base.proofs.SplitLaws.{cut, lacks, lacks-append, split_at, split_whole}
-use Rattle.vyrd_base.proofs.TestLaws.{first_true, second_true}
-use Rattle.vyrd_text.proofs.AheadLaws.{parts_of}
-use Rattle.vyrd_own_log.specs.declared.stage.Found.{Found}
-use Rattle.vyrd_own_log.specs.States.{LineState, input_to, known, unless_faulty, reads_on}
-use Rattle.vyrd_own_log.specs.Steps.{broken, own_step, Brought, nothing_brought, brought_then}
-use Rattle.vyrd_own_log.specs.Steps.{brought_by, with_read}
-use Rattle.vyrd_own_log.specs.Rests.{rest_rule}
-use Rattle.vyrd_own_log.specs.Readers.{OwnReaderKept, goes_on, HasReached, IsSound, IsTaken}
+use Rattle.vyrd_own_log.proofs.Prelude
+use Prelude.{◌≡◌, ℕ, Bool, true, false, cond, not, List, [], ◌∷◌, ◌++◌, Option, Some, None, refl}
+use Prelude.{ap, sym, ◌∙◌, append_assoc, ◌==◌, onto_first, not-true, append-nil, StartWord, Rule}
+use Prelude.{TextFault, fault_on, SoFar, nothing_read, read_next, read_lines, OwnReading}
+use Prelude.{own_reading, cut, lacks, lacks-append, split_at, split_whole, first_true, second_true}
+use Prelude.{parts_of, Found, LineState, input_to, known, unless_faulty, reads_on, broken, own_step}
+use Prelude.{Brought, nothing_brought, brought_then, brought_by, with_read, rest_rule}
+use Prelude.{OwnReaderKept, goes_on, HasReached, IsSound, IsTaken}
 use Rattle.vyrd_own_log.proofs.EntryLaws.{AllCallable}
 use Rattle.vyrd_own_log.proofs.StepLaws.{step_goes}
 use Rattle.vyrd_own_log.proofs.SteadyLaws.{IsStep, step_is}

@@ -1,23 +1,16 @@
 -- What the bytes after the last line feed are to a reader.
-use Rattle.std.proofs.Common.{◌≡◌, ℕ, ◌<◌, Bool, true, false, cond, ◌&&◌, ◌||◌, List, [], ◌∷◌, ◌++◌}
-use Rattle.std.proofs.Common.{length, Option, Some, None, refl, ap, ◌∙◌, arith, length-append}
-use Rattle.std.specs.Prelude.{nat_lt}
-use Rattle.std.proofs.Math.Bool.{and-false}
-use Rattle.vyrd_base.specs.declared.verdict.Rule.{Rule}
-use Rattle.vyrd_base.specs.declared.verdict.Rule.TheVariants.{TooManyLines, AfterEnd, BadEntry}
-use Rattle.vyrd_base.specs.declared.verdict.Rule.TheVariants.{NoLineFeed, NoEnd}
-use Rattle.vyrd_base.specs.Shape.{◌breaks◌, first_broken}
-use Rattle.vyrd_base.specs.Reading.{has_any, fault_on}
+use Rattle.vyrd_own_log.proofs.Prelude
+use Prelude.{◌≡◌, ℕ, ◌<◌, Bool, true, false, cond, ◌&&◌, ◌||◌, List, [], ◌∷◌, ◌++◌, length, Option}
+use Prelude.{Some, None, refl, ap, ◌∙◌, arith, length-append, nat_lt, and-false, Rule, TooManyLines}
+use Prelude.{◌breaks◌, first_broken, has_any, fault_on, is_below, below_of, Stage, LineState}
+use Prelude.{input_to, has_ended, lines_on, known, IsFirst, broken, header_step, specification_step}
+use Prelude.{entry_step, stage_step, own_step, rest_if, rest_rule, end_fault}
+use Rattle.vyrd_base.specs.declared.verdict.Rule.TheVariants.{AfterEnd, BadEntry, NoLineFeed, NoEnd}
 use Rattle.vyrd_base.proofs.LongLines.{long_start, long_isnt_end}
-use Rattle.vyrd_base.proofs.TestLaws.{is_below, below_of}
-use Rattle.vyrd_own_log.specs.declared.stage.Stage.{Stage}
 use Rattle.vyrd_own_log.specs.declared.stage.Stage.TheVariants.{Header, Specification, Starts}
 use Rattle.vyrd_own_log.specs.declared.stage.Stage.TheVariants.{Entries, End}
 use Rattle.vyrd_base.specs.declared.header.Header as headers
-use Rattle.vyrd_own_log.specs.States.{LineState, input_to, has_ended, lines_on, known, IsFirst}
-use Rattle.vyrd_own_log.specs.Steps.{broken, header_step, specification_step, entry_step}
-use Rattle.vyrd_own_log.specs.Steps.{stage_step, own_step}
-use Rattle.vyrd_own_log.specs.Rests.{bad_at, rest_if, rest_rule, end_fault}
+use Rattle.vyrd_own_log.specs.Rests.{bad_at}
 use Rattle.vyrd_own_log.proofs.EntryLaws.{AllCallable}
 use Rattle.vyrd_own_log.proofs.LongLaws.{long_entry, long_header, long_next, long_note}
 

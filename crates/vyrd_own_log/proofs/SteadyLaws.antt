@@ -1,31 +1,16 @@
 -- What stays true of a reader over a whole line.
-use Rattle.std.proofs.Common.{◌≡◌, ℕ, ◌+◌, ◌≤◌, Bool, true, false, cond, List, [], Option, Some}
-use Rattle.std.proofs.Common.{None, refl, ap, sym, ◌∙◌, arith}
-use Rattle.std.specs.Prelude.{nat_lt, is_some}
-use Rattle.std.specs.Str.{bytes_eq}
+use Rattle.vyrd_own_log.proofs.Prelude
+use Prelude.{◌≡◌, ℕ, ◌+◌, ◌≤◌, Bool, true, false, cond, List, [], Option, Some, None, refl, ap, sym}
+use Prelude.{◌∙◌, arith, nat_lt, is_some, bytes_eq, SpecificationLine, Entry, StartWord, Rule}
+use Prelude.{end_line, start_rule, start_in, SoFar, read_next, read_lines, own_entry_in, is_note}
+use Prelude.{own_header_in, not_below_of, Stage, Found, are_callable, LineState, IsFirst, IsSteady}
+use Prelude.{next, broken, header_step, specification_step, spelled_step, entry_step, word_step}
+use Prelude.{start_step, starts_step, stage_step, own_step, lines_of}
 use Rattle.vyrd_base.specs.declared.header.Header as headers
-use Rattle.vyrd_base.specs.declared.own.line.SpecificationLine.{SpecificationLine}
 use Rattle.vyrd_base.specs.declared.own.line.SpecificationLine.TheVariants as told
-use Rattle.vyrd_base.specs.declared.log.Entry.{Entry}
-use Rattle.vyrd_base.specs.declared.log.StartWord.{StartWord}
-use Rattle.vyrd_base.specs.declared.verdict.Rule.{Rule}
 use Rattle.vyrd_base.specs.declared.verdict.Rule.TheVariants as rules
-use Rattle.vyrd_base.specs.Spelling.{end_line}
-use Rattle.vyrd_base.specs.Starts.{start_rule}
-use Rattle.vyrd_base.specs.Lines.{start_in}
-use Rattle.vyrd_base.specs.Own.Reader.{SoFar, read_next, read_lines}
-use Rattle.vyrd_base.specs.Own.Entries.{own_entry_in}
-use Rattle.vyrd_base.specs.Own.Log.{is_note, own_header_in}
-use Rattle.vyrd_base.proofs.TestLaws.{not_below_of}
-use Rattle.vyrd_own_log.specs.declared.stage.Stage.{Stage}
 use Rattle.vyrd_own_log.specs.declared.stage.Stage.TheVariants as stages
-use Rattle.vyrd_own_log.specs.declared.stage.Found.{Found}
 use Rattle.vyrd_own_log.specs.declared.stage.Found.TheVariants as found
-use Rattle.vyrd_own_log.specs.Callable.{are_callable}
-use Rattle.vyrd_own_log.specs.States.{LineState, IsFirst, IsSteady}
-use Rattle.vyrd_own_log.specs.Steps.{next, broken, header_step, specification_step, spelled_step}
-use Rattle.vyrd_own_log.specs.Steps.{entry_step, word_step, start_step, starts_step, stage_step}
-use Rattle.vyrd_own_log.specs.Steps.{own_step, lines_of}
 use Rattle.vyrd_own_log.proofs.StepLaws.{Keeps, next_keeps}
 use Rattle.vyrd_own_log.proofs.CallableLaws.{next_callable}
 

@@ -1,39 +1,21 @@
 -- A step over a whole line is what the definition makes of the line.
-use Rattle.std.proofs.Common.{◌≡◌, ℕ, ◌+◌, ◌≤◌, Bool, true, false, cond, not, ◌&&◌, ◌||◌, List, []}
-use Rattle.std.proofs.Common.{◌∷◌, Option, Some, None, refl, ap, sym}
-use Rattle.std.specs.Prelude.{nat_lt, nat_le, codes, Ok, Err}
-use Rattle.std.specs.Str.{bytes_eq}
+use Rattle.vyrd_own_log.proofs.Prelude
+use Prelude.{◌≡◌, ℕ, ◌+◌, ◌≤◌, Bool, true, false, cond, not, ◌&&◌, ◌||◌, List, [], ◌∷◌, Option}
+use Prelude.{Some, None, refl, ap, sym, nat_lt, nat_le, codes, Ok, Err, bytes_eq, SpecificationLine}
+use Prelude.{SpecificationRule, Entry, StartWord, Rule, ◌breaks◌, first_broken, end_line}
+use Prelude.{start_rule, start_in, TextFault, Input, has_any, after_end_rule, Line, Taken, SoFar}
+use Prelude.{nothing_read, unfinished, line_read, ended_with, read_next, own_entry_in, OwnReading}
+use Prelude.{own_stopped, own_ended, is_note, own_entry_before, entries_read, own_start_before}
+use Prelude.{own_starts_read, line_before, specification_read, own_header_in, isnt_below, Stage}
+use Prelude.{Found, LineState, input_to, headed, reads_on, IsFirst, next, broken, header_step}
+use Prelude.{specification_step, spelled_step, word_step, own_step, brought_by, with_read}
 use Rattle.vyrd_base.specs.declared.header.Header as headers
-use Rattle.vyrd_base.specs.declared.own.line.SpecificationLine.{SpecificationLine}
 use Rattle.vyrd_base.specs.declared.own.line.SpecificationLine.TheVariants as told
-use Rattle.vyrd_base.specs.declared.own.rule.SpecificationRule.{SpecificationRule}
 use Rattle.vyrd_base.specs.declared.own.rule.SpecificationRule.TheVariants as refusals
-use Rattle.vyrd_base.specs.declared.log.Entry.{Entry}
-use Rattle.vyrd_base.specs.declared.log.StartWord.{StartWord}
-use Rattle.vyrd_base.specs.declared.verdict.Rule.{Rule}
 use Rattle.vyrd_base.specs.declared.verdict.Rule.TheVariants as rules
-use Rattle.vyrd_base.specs.Shape.{◌breaks◌, first_broken}
-use Rattle.vyrd_base.specs.Spelling.{end_line}
-use Rattle.vyrd_base.specs.Starts.{start_rule}
-use Rattle.vyrd_base.specs.Lines.{start_in}
-use Rattle.vyrd_base.specs.Reading.{TextFault, Input, has_any, after_end_rule}
-use Rattle.vyrd_base.specs.Own.Lines.{Line}
-use Rattle.vyrd_base.specs.Own.Reading.{Taken}
-use Rattle.vyrd_base.specs.Own.Reader.{SoFar, nothing_read, unfinished, line_read, ended_with}
-use Rattle.vyrd_base.specs.Own.Reader.{read_next}
 use Rattle.vyrd_base.specs.Own.Reader as reader
-use Rattle.vyrd_base.specs.Own.Entries.{own_entry_in}
-use Rattle.vyrd_base.specs.Own.Log.{OwnReading, own_stopped, own_ended, is_note, own_entry_before}
-use Rattle.vyrd_base.specs.Own.Log.{entries_read, own_start_before, own_starts_read, line_before}
-use Rattle.vyrd_base.specs.Own.Log.{specification_read, own_header_in}
-use Rattle.vyrd_base.proofs.TestLaws.{isnt_below}
-use Rattle.vyrd_own_log.specs.declared.stage.Stage.{Stage}
 use Rattle.vyrd_own_log.specs.declared.stage.Stage.TheVariants as stages
-use Rattle.vyrd_own_log.specs.declared.stage.Found.{Found}
 use Rattle.vyrd_own_log.specs.declared.stage.Found.TheVariants as found
-use Rattle.vyrd_own_log.specs.States.{LineState, input_to, headed, reads_on, IsFirst}
-use Rattle.vyrd_own_log.specs.Steps.{next, broken, header_step, specification_step, spelled_step}
-use Rattle.vyrd_own_log.specs.Steps.{word_step, own_step, brought_by, with_read}
 
 -- What a line is leaves what was read, unless the line was taken in.
 abbrev pub Keeps : SoFar → SpecificationLine → SoFar → Type 0

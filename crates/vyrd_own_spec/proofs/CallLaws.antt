@@ -1,23 +1,12 @@
 -- What is said of a call by its number.
-use Rattle.std.proofs.Common.{◌≡◌, ℕ, zero, suc, ◌<◌, ◌≤◌, List, [], ◌∷◌, Option, Some, None, refl}
-use Rattle.std.proofs.Common.{ap}
-use Rattle.std.proofs.Common.{sym, arith, length, take, Bool}
-use Rattle.std.specs.Prelude.{map, option_map, option_and_then, slice_get, slice_index_or}
-use Rattle.std.specs.Prelude.{if◌then◌else◌}
-use Rattle.std.specs.Option.{is_some}
-use Rattle.std.proofs.lemmas.List.{length-take}
-use Rattle.vyrd_base.specs.States.{State}
-use Rattle.vyrd_base.specs.Subjects.{own_number}
-use Rattle.vyrd_base.specs.Rules.{given}
+use Rattle.vyrd_own_spec.proofs.Prelude
+use Prelude.{◌≡◌, ℕ, zero, suc, ◌<◌, ◌≤◌, List, [], ◌∷◌, Option, Some, None, refl, ap, sym, arith}
+use Prelude.{length, take, Bool, map, option_map, option_and_then, slice_get, slice_index_or}
+use Prelude.{if◌then◌else◌, is_some, length-take, State, own_number, given, Args, Effect, Method}
+use Prelude.{Written, own_method, own_next, with_effects, effects_of, next_of, answer_of, method_of}
+use Prelude.{own_effects, effects_by, next_by, answer_by}
 use Rattle.vyrd_base.specs.declared.subject.Method as declared
-use Rattle.vyrd_base.specs.declared.subject.Args.{Args}
-use Rattle.vyrd_base.specs.declared.own.effect.Effect.{Effect}
-use Rattle.vyrd_base.specs.Own.Programs.{Method, Written}
-use Rattle.vyrd_base.specs.Own.OwnRules.{own_method, own_next}
-use Rattle.vyrd_base.specs.Own.Steps.{with_effects, effects_of, next_of, answer_of}
 use Rattle.vyrd_own.specs.declared.program.Method as program
-use Rattle.vyrd_own.specs.Layout.{method_of}
-use Rattle.vyrd_own_spec.specs.Touched.{own_effects, effects_by, next_by, answer_by}
 
 module _ (w : Written) (args : Args) (reply : ℕ) (s : State) where
   next_of_method : (i : ℕ) (o : Option Method)

@@ -1,32 +1,16 @@
 -- How many keys a step touches, and how many it shows then.
-use Rattle.std.proofs.Common.{◌≡◌, ℕ, zero, suc, ◌+◌, ◌*◌, ◌≤◌, Bool, true, false, cond, List, []}
-use Rattle.std.proofs.Common.{◌∷◌, length, map, Option, Some, arith}
-use Rattle.std.specs.Prelude.{filter, find, option_map, option_and_then, slice_get}
-use Rattle.std.proofs.lemmas.Option.{same_Some, none-some}
-use Rattle.std.specs.List.{list_any}
-use Rattle.std.specs.FinMap.{put}
-use Rattle.std.specs.FinMap.Entries.{by_order}
-use Rattle.std.specs.declared.cmp.Ordering.{Ordering}
-use Rattle.std.specs.declared.cmp.Ordering.TheVariants.{Less, Equal, Greater}
-use Rattle.std.specs.Ordering.{nat_cmp}
-use Rattle.std.proofs.Math.Nat.{le-max_left, le-max_right}
-use Rattle.std.proofs.lemmas.List.{length-append, length-map}
-use Rattle.vyrd_base.specs.Amounts.{Amounts, with_amount}
-use Rattle.vyrd_base.specs.States.{State}
-use Rattle.vyrd_base.specs.Rules.{given}
+use Rattle.vyrd_own_spec.proofs.Prelude
+use Prelude.{◌≡◌, ℕ, zero, suc, ◌+◌, ◌*◌, ◌≤◌, Bool, true, false, cond, List, [], ◌∷◌, length, map}
+use Prelude.{Option, Some, arith, filter, find, option_map, option_and_then, slice_get, same_Some}
+use Prelude.{none-some, list_any, put, by_order, Ordering, Less, Equal, Greater, nat_cmp}
+use Prelude.{le-max_left, le-max_right, length-append, length-map, Amounts, with_amount, State}
+use Prelude.{given, Args, Effect, holds, value, Case, Method, Written, own_method, with_effect}
+use Prelude.{with_effects, shown_keys, is_clearing, effects_of, allowed_effects, effect_of, most_of}
+use Prelude.{line_count, most_effects, touched_by, effects_by}
 use Rattle.vyrd_base.specs.declared.subject.Method as declared
-use Rattle.vyrd_base.specs.declared.subject.Args.{Args}
-use Rattle.vyrd_base.specs.declared.own.effect.Effect.{Effect}
 use Rattle.vyrd_base.specs.declared.own.effect.Effect.TheVariants.{SetShown, SetHidden, SetRegister}
 use Rattle.vyrd_base.specs.declared.own.effect.Effect.TheVariants.{PutLast, PutFirst, TakeFirst}
 use Rattle.vyrd_base.specs.declared.own.effect.Effect.TheVariants.{TakeLast, Empty, EmptyShown}
-use Rattle.vyrd_base.specs.Own.Expressions.{holds, value}
-use Rattle.vyrd_base.specs.Own.Programs.{Case, Method, Written}
-use Rattle.vyrd_base.specs.Own.OwnRules.{own_method}
-use Rattle.vyrd_base.specs.Own.Steps.{with_effect, with_effects, shown_keys, is_clearing}
-use Rattle.vyrd_base.specs.Own.Steps.{effects_of, allowed_effects, effect_of}
-use Rattle.vyrd_own_spec.specs.Effects.{most_of, line_count, most_effects}
-use Rattle.vyrd_own_spec.specs.Touched.{touched_by, effects_by}
 
 -- one key more at most
 put_one : (k v : ℕ) (s : Amounts) → length (put nat_cmp k v s) ≤ suc (length s)

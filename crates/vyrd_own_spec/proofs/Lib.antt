@@ -1,3 +1,4 @@
+mod Prelude
 pub mod CallLaws
 pub mod TouchLaws
 pub mod EffectCounts

@@ -1,11 +1,6 @@
 -- How many parts there are, and how wide they are.
-use Rattle.std.proofs.Common.{◌≡◌, ℕ, ◌/◌, ◌≤◌, Bool, cond, length, arith}
-use Rattle.std.specs.Prelude.{max}
-use Rattle.vyrd_base.specs.declared.header.Header.{Header}
-use Rattle.vyrd_base.proofs.HeaderLaws.{most_size}
-use Rattle.vyrd_base.specs.Own.Programs.{Written}
-use Rattle.vyrd_own_spec.specs.Small.{IsSmall}
-use Rattle.vyrd_own_spec.specs.Parts.{width_of, AreFew}
+use Rattle.vyrd_own_spec.proofs.Prelude.{◌≡◌, ℕ, ◌/◌, ◌≤◌, Bool, cond, length, arith, max, Header}
+use Rattle.vyrd_own_spec.proofs.Prelude.{most_size, Written, IsSmall, width_of, AreFew}
 
 narrow_by : (b : Bool) (words : ℕ) → words ≤ 16 → cond b 1 words ≤ 16
 narrow_by b words low = search arith

@@ -1,15 +1,15 @@
 -- What the lines of a specification spell is within its limits.
-use Rattle.std.proofs.Common.{◌≡◌, ℕ, zero, suc, ◌+◌, ◌<◌, ◌≤◌, Bool, true, false, cond, List, []}
-use Rattle.std.proofs.Common.{◌∷◌, ◌++◌, Option, Some, None, Ok, Err, refl, ◌∙◌, sym, subst, arith}
-use Rattle.std.proofs.Common.{length, length-append}
-use Rattle.std.specs.Prelude.{nat_le, codes, slice_get, ◌||◌}
+use Rattle.vyrd_own_spec.proofs.Prelude
+use Prelude.{◌≡◌, ℕ, zero, suc, ◌+◌, ◌<◌, ◌≤◌, Bool, true, false, cond, List, [], ◌∷◌, ◌++◌, Option}
+use Prelude.{Some, None, Ok, refl, ◌∙◌, sym, subst, arith, length, length-append, slice_get, ◌||◌}
+use Prelude.{second_true, Method, Written, written_in, same_Some, IsSmall}
+use Rattle.std.proofs.Common.{Err}
+use Rattle.std.specs.Prelude.{nat_le, codes}
 use Rattle.std.specs.Str.{bytes_eq}
-use Rattle.vyrd_base.proofs.TestLaws.{at_most_of, second_true}
-use Rattle.vyrd_base.specs.Own.Programs.{Method, Written}
+use Rattle.vyrd_base.proofs.TestLaws.{at_most_of}
 use Rattle.vyrd_base.specs.Own.Lines.{Inner, naming, answering, allowing, changing, Line, remark}
 use Rattle.vyrd_base.specs.Own.Lines.{constant, register, list, holds, hidden, part, shows, method}
-use Rattle.vyrd_base.specs.Own.Lines.{inner}
-use Rattle.vyrd_base.specs.Own.Lines.{with_inner, change_last, with_line, has_any}
+use Rattle.vyrd_base.specs.Own.Lines.{inner, with_inner, change_last, with_line, has_any}
 use Rattle.vyrd_base.specs.Own.Reading.{Taken, and_then, after, if_after, word_of}
 use Rattle.vyrd_base.specs.Own.Pieces.{taken_with, ended}
 use Rattle.vyrd_base.specs.Own.Names.{is_known, is_among, new_name}
@@ -20,13 +20,11 @@ use Rattle.vyrd_base.specs.Own.Methods.{answer_read, allow_read, inner_read}
 use Rattle.vyrd_base.specs.Own.Changes.{case_line_read, if_line, within_read}
 use Rattle.vyrd_base.specs.Own.Reader.{of_method, method_line_read, or_method, line_read, SoFar}
 use Rattle.vyrd_base.specs.Own.Reader.{nothing_read, unfinished, ended_with, told, read_next}
-use Rattle.vyrd_base.specs.Own.Reader.{read_lines, written_in}
+use Rattle.vyrd_base.specs.Own.Reader.{read_lines}
 use Rattle.vyrd_base.specs.declared.own.last.Last.{Last}
 use Rattle.vyrd_base.specs.declared.own.line.SpecificationLine.{SpecificationLine}
 use Rattle.vyrd_base.specs.declared.own.rule.SpecificationRule.{SpecificationRule}
 use Rattle.std.proofs.lemmas.Bool.Decides.{nat_tests}
-use Rattle.std.proofs.lemmas.Option.{same_Some}
-use Rattle.vyrd_own_spec.specs.Small.{IsSmall}
 
 -- ---- what keeps a specification within its limits
 

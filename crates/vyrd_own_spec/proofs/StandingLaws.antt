@@ -1,17 +1,14 @@
 -- The state for which the words at the start stand, by the rules of a specification.
-use Rattle.std.proofs.Common.{◌≡◌, ℕ, Bool, true, false, not, List, Option, Some, None, refl, ap}
-use Rattle.std.proofs.Common.{◌∙◌, sym}
+use Rattle.vyrd_own_spec.proofs.Prelude.{◌≡◌, ℕ, Bool, true, false, not, List, Option, Some, None}
+use Rattle.vyrd_own_spec.proofs.Prelude.{refl, ap, ◌∙◌, sym, Header, State, written_in}
 use Rattle.std.specs.Prelude.{is_none, IfSome, if◌then◌else◌}
-use Rattle.vyrd_base.specs.declared.header.Header.{Header}
 use Rattle.vyrd_base.specs.declared.subject.Subject.{Subject}
 use Rattle.vyrd_base.specs.declared.subject.Subject.TheVariants.{Own}
 use Rattle.vyrd_base.specs.declared.log.StartWord.{StartWord}
 use Rattle.vyrd_base.specs.Layout.{plain_words, plain_words_of}
 use Rattle.vyrd_base.specs.Starts.{words_at_start, state_at_start}
-use Rattle.vyrd_base.specs.States.{State}
 use Rattle.vyrd_base.specs.Rules.{own, rules_by}
 use Rattle.vyrd_base.specs.Own.OwnRules.{own_start, may_stand}
-use Rattle.vyrd_base.specs.Own.Reader.{written_in}
 
 -- all words of a header of the user's own are plain, and there are as many as its size
 pub own_plain : (h : Header) → h.subject ≡ Own → plain_words h ≡ h.size

@@ -1,30 +1,23 @@
 -- Sums of what places give, one place after the other.
-use Rattle.std.proofs.Common.{◌≡◌, ℕ, zero, suc, ◌+◌, ◌-◌, ◌*◌, ◌/◌, ◌<◌, ◌≤◌, ◌^◌, Bool, true}
-use Rattle.std.proofs.Common.{false, cond, List, [], ◌∷◌, map, length, Some, refl, ap, ◌∙◌, sym}
-use Rattle.std.proofs.Common.{subst, arith}
-use Rattle.std.specs.Prelude.{nat_lt, filter, unwrap_or}
-use Rattle.std.specs.Ordering.{nat_cmp, eq_by_cmp}
-use Rattle.std.specs.declared.cmp.Ordering.TheVariants.{Less, Equal, Greater}
-use Rattle.std.specs.FinMap.Entries.{find, put, by_order}
-use Rattle.vyrd_base.proofs.TestLaws.{both_true, first_true, second_true, is_below, below_of}
-use Rattle.vyrd_base.proofs.TestLaws.{same_of}
-use Rattle.vyrd_base.specs.Amounts.{Amounts, amount_of, with_amount, plus_amount, given, part_given}
-use Rattle.vyrd_base.specs.Amounts.{collected}
+use Rattle.vyrd_own_spec.proofs.Prelude
+use Prelude.{◌≡◌, ℕ, zero, suc, ◌+◌, ◌*◌, ◌/◌, ◌<◌, ◌≤◌, Bool, true, false, cond, List, [], ◌∷◌}
+use Prelude.{map, length, Some, refl, ap, ◌∙◌, sym, subst, arith, nat_cmp, Less, Equal, Greater}
+use Prelude.{by_order, second_true, Amounts, amount_of, with_amount, same_amounts, Written, pair_at}
+use Prelude.{State, own_view, is_whole, IsSmall, width_of, own_gives, AreFew, are_low, HasSums}
+use Rattle.std.proofs.Common.{◌-◌, ◌^◌}
+use Rattle.std.specs.Prelude.{nat_lt, slice_range, filter, unwrap_or}
+use Rattle.std.specs.Ordering.{eq_by_cmp}
+use Rattle.std.specs.FinMap.Entries.{find, put}
+use Rattle.vyrd_base.proofs.TestLaws.{both_true, first_true, is_below, below_of, same_of}
+use Rattle.vyrd_base.specs.Amounts.{plus_amount, given, part_given, collected}
 use Rattle.vyrd_base.specs.Places.{numbers_below}
-use Rattle.vyrd_base.proofs.AmountLaws.{IsAmounts-with_amount, same_amounts}
+use Rattle.vyrd_base.proofs.AmountLaws.{IsAmounts-with_amount}
 use Rattle.vyrd_base.proofs.SumLaws.{amount_of-plus, amount_of-collected, IsAmounts-collected}
 use Rattle.vyrd_base.proofs.SumLaws.{own_part}
-use Rattle.std.specs.Prelude.{slice_range}
-use Rattle.vyrd_base.specs.Own.Programs.{Written}
-use Rattle.vyrd_view.specs.Decoded.{pair_at}
 use Rattle.vyrd_view.specs.Laws.Sums.{given_map_push}
-use Rattle.vyrd_base.specs.States.{State}
 use Rattle.vyrd_base.specs.Own.Steps.{start_of}
-use Rattle.vyrd_base.specs.Own.OwnRules.{own_view, is_whole}
-use Rattle.vyrd_own_spec.specs.Small.{IsSmall}
-use Rattle.vyrd_own_spec.specs.Parts.{width_of, own_gives, AreFew, IsWhole}
+use Rattle.vyrd_own_spec.specs.Parts.{IsWhole}
 use Rattle.vyrd_own_spec.specs.Laws.Parts.{own_shown}
-use Rattle.vyrd_own_spec.specs.Sums.{are_low, HasSums}
 
 -- amounts that are low stay so with one that is
 low_filter : (p : ℕ × ℕ → Bool) (s : Amounts) → are_low s ≡ true → are_low (filter p s) ≡ true

@@ -1,26 +1,14 @@
 -- A step leaves the keys that it doesn't touch.
-use Rattle.std.proofs.Common.{◌≡◌, ℕ, Bool, true, false, cond, List, [], ◌∷◌, Some, refl, ap, ◌∙◌}
-use Rattle.std.proofs.Common.{sym}
-use Rattle.std.specs.Prelude.{◌||◌, ◌==◌, unwrap_or, length}
-use Rattle.std.specs.List.{list_any}
+use Rattle.vyrd_own_spec.proofs.Prelude
+use Prelude.{◌≡◌, ℕ, Bool, true, false, cond, List, [], ◌∷◌, Some, refl, ap, ◌∙◌, sym, ◌||◌, ◌==◌}
+use Prelude.{unwrap_or, length, list_any, nat_cmp, Amounts, IsAmounts, amount_of, keys_of}
+use Prelude.{amount_of-with_amount, same_amounts, flipped, unsigned_tied, length-set}
+use Prelude.{list_any-append, formed_after, with_formed, with_amounts, State, Effect, with_effect}
+use Prelude.{with_effects, shown_keys, is_clearing, is_touched, with_touched, touched_by}
 use Rattle.std.specs.FinMap.{find}
-use Rattle.std.specs.Ordering.{nat_cmp}
-use Rattle.vyrd_base.specs.Amounts.{Amounts, IsAmounts, amount_of, keys_of}
-use Rattle.vyrd_base.proofs.AmountLaws.{amount_of-with_amount, same_amounts}
-use Rattle.vyrd_base.proofs.TestLaws.{flipped}
-use Rattle.std.specs.Cmp.{unsigned_tied}
-use Rattle.std.proofs.lemmas.List.{length-set}
-use Rattle.std.proofs.lemmas.List.Folds.{list_any-append}
-use Rattle.vyrd_spec.proofs.FormedLaws.{formed_after}
-use Rattle.vyrd_spec.proofs.StepMeets.{with_formed, with_amounts}
-use Rattle.vyrd_base.specs.States.{State}
-use Rattle.vyrd_base.specs.declared.own.effect.Effect.{Effect}
 use Rattle.vyrd_base.specs.declared.own.effect.Effect.TheVariants.{SetShown, SetHidden, SetRegister}
 use Rattle.vyrd_base.specs.declared.own.effect.Effect.TheVariants.{PutLast, PutFirst, TakeFirst}
 use Rattle.vyrd_base.specs.declared.own.effect.Effect.TheVariants.{TakeLast, Empty, EmptyShown}
-use Rattle.vyrd_base.specs.Own.Steps.{with_effect, with_effects, shown_keys, is_clearing}
-use Rattle.vyrd_spec.specs.Touching.{is_touched, with_touched}
-use Rattle.vyrd_own_spec.specs.Touched.{touched_by}
 
 left_false : (a b : Bool) → (a || b) ≡ false → a ≡ false
 left_false false b e = refl

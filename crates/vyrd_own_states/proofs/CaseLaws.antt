@@ -1,14 +1,8 @@
 -- What each case is worth if a reply is refused.
-use Rattle.std.proofs.Common.{◌≡◌, ℕ, Bool, true, false, not, cond, ◌&&◌, List, [], ◌∷◌, ◌++◌}
-use Rattle.std.proofs.Common.{Option}
-use Rattle.std.proofs.Common.{Some, None, refl}
-use Rattle.std.specs.Prelude.{◌==◌, find, option_map}
-use Rattle.std.specs.List.{list_all}
-use Rattle.vyrd_base.specs.declared.own.effect.Effect.{Effect}
-use Rattle.vyrd_base.specs.States.{State}
-use Rattle.vyrd_base.specs.Own.Expressions.{holds, value}
-use Rattle.vyrd_base.specs.Own.Programs.{Case, Method, Written}
-use Rattle.vyrd_base.specs.Own.Steps.{at_hand, next_of, with_effects}
+use Rattle.vyrd_own_states.proofs.Prelude.{◌≡◌, ℕ, Bool, true, false, not, cond, ◌&&◌, List, []}
+use Rattle.vyrd_own_states.proofs.Prelude.{◌∷◌, ◌++◌, Option, Some, None, refl, ◌==◌, find}
+use Rattle.vyrd_own_states.proofs.Prelude.{option_map, list_all, Effect, State, holds, value, Case}
+use Rattle.vyrd_own_states.proofs.Prelude.{Method, Written, at_hand, next_of, with_effects}
 
 -- none of them holds if there is none of which something is said
 none_holds : {A : Type 0} (s : State) (values : List ℕ) (f : Case → A) (cases : List Case)

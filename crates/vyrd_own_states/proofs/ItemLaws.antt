@@ -1,9 +1,6 @@
 -- Items that are put one behind the other.
+use Rattle.vyrd_own_states.proofs.Prelude.{map-append, numbers_below, numbers_below-push, Item}
 use Rattle.std.proofs.Common.{◌≡◌, ℕ, ◌+◌, List, [], ◌∷◌, ◌++◌, map, ap, ◌∙◌, sym, append_assoc}
-use Rattle.std.proofs.lemmas.List.{map-append}
-use Rattle.vyrd_base.specs.Places.{numbers_below}
-use Rattle.vyrd_base.proofs.PlaceLaws.{numbers_below-push}
-use Rattle.vyrd_witness.specs.declared.item.Item.{Item}
 
 -- the item of one number more
 pub item_more : (f : ℕ → Item) (n : ℕ) (first before after : List Item) (item : Item)

@@ -1,3 +1,4 @@
+mod Prelude
 pub mod BeginLaws
 pub mod CaseLaws
 pub mod ItemLaws

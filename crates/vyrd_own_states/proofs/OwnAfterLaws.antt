@@ -1,11 +1,7 @@
 -- What own words show after one of them has changed, of all whole parts.
-use Rattle.std.proofs.Common.{◌≡◌, ℕ, ◌<◌, ◌≤◌, List, length-set, set, take}
-use Rattle.std.proofs.lemmas.List.{take-set-le}
-use Rattle.std.proofs.Math.Seq.{take-set-lt}
-use Rattle.vyrd_base.specs.Amounts.{amount_of}
-use Rattle.vyrd_base.specs.Own.OwnRules.{own_view}
-use Rattle.vyrd_base.specs.Own.Programs.{Written}
-use Rattle.vyrd_base.specs.Rules.{Charter, rules_by}
+use Rattle.vyrd_own_states.proofs.Prelude.{◌≡◌, ℕ, ◌<◌, ◌≤◌, List, length-set, set, take}
+use Rattle.vyrd_own_states.proofs.Prelude.{take-set-le, take-set-lt, amount_of, own_view, Written}
+use Rattle.vyrd_own_states.proofs.Prelude.{Charter, rules_by}
 use Rattle.vyrd_own_states.proofs.OwnShownLaws.{AreWhole, whole_seen}
 
 module _ {p : Written} {charter : Charter} {words : List ℕ} {whole : ℕ}

@@ -1,23 +1,11 @@
 -- What the parts of own words give, each by its number.
-use Rattle.std.proofs.Common.{◌≡◌, ℕ, ◌*◌, ◌/◌, ◌<◌, Bool, true, false, cond, List, [], ◌∷◌, ◌++◌}
-use Rattle.std.proofs.Common.{length, take, refl, ap, ◌∙◌, sym, arith}
-use Rattle.std.specs.Prelude.{◌==◌, flat_map, slice_index_or}
-use Rattle.vyrd_base.specs.declared.header.Header.{Header}
-use Rattle.vyrd_base.specs.declared.subject.Subject.TheVariants.{Own}
-use Rattle.vyrd_base.specs.Amounts.{given}
-use Rattle.vyrd_base.specs.Layout.{plain_words}
-use Rattle.vyrd_base.specs.Own.Programs.{Written}
-use Rattle.vyrd_base.specs.Own.Reader.{written_in}
-use Rattle.vyrd_base.specs.Own.Steps.{part_gives, part_words}
-use Rattle.vyrd_base.specs.Places.{numbers_below}
-use Rattle.vyrd_base.specs.Rules.{Charter, own, rules_by}
+use Rattle.vyrd_own_states.proofs.Prelude
+use Prelude.{◌≡◌, ℕ, ◌*◌, ◌/◌, ◌<◌, Bool, true, false, cond, List, [], ◌∷◌, ◌++◌, length, take}
+use Prelude.{refl, ap, ◌∙◌, sym, arith, ◌==◌, flat_map, slice_index_or, Header, Own, given}
+use Prelude.{plain_words, Written, written_in, part_gives, part_words, numbers_below, Charter, own}
+use Prelude.{rules_by, part_within, width_of, own_gives, AreFew, all_given, none_given, few_gives}
+use Prelude.{numbered, given_parts, parts_by_number, told, given_numbered, own_pairs, part_pairs}
 use Rattle.vyrd_view.specs.Decoded.{words_of}
-use Rattle.vyrd_view.proofs.DecodedLaws.{part_within}
-use Rattle.vyrd_own_spec.specs.Parts.{width_of, own_gives, AreFew}
-use Rattle.vyrd_own_spec.specs.Laws.Parts.{all_given, none_given, few_gives}
-use Rattle.vyrd_witness.specs.Given.{numbered, given_parts, parts_by_number, told}
-use Rattle.vyrd_witness.proofs.GivenLaws.{given_numbered}
-use Rattle.vyrd_own_states.specs.PartPairs.{own_pairs, part_pairs}
 use Rattle.vyrd_own_states.proofs.OwnShownLaws.{flat_alike, part_kept}
 
 -- parts that give nothing

@@ -1,22 +1,10 @@
 -- The words of all whole parts show what all words show.
-use Rattle.std.proofs.Common.{◌≡◌, ℕ, zero, suc, ◌+◌, ◌-◌, ◌*◌, ◌/◌, ◌<◌, ◌≤◌, List, ◌++◌, length}
-use Rattle.std.proofs.Common.{take, drop, refl, ap, ◌∙◌, sym, arith}
-use Rattle.std.specs.Prelude.{flat_map}
-use Rattle.std.proofs.lemmas.List.{drop-take, take-take, length-take}
-use Rattle.std.proofs.lemmas.Nat.{div-mul-add}
-use Rattle.std.proofs.Math.Nat.{div-add-mod}
-use Rattle.vyrd_base.specs.declared.header.Header.{Header}
-use Rattle.vyrd_base.specs.declared.subject.Subject.TheVariants.{Own}
-use Rattle.vyrd_base.specs.Amounts.{collected}
-use Rattle.vyrd_base.specs.Layout.{plain_words}
-use Rattle.vyrd_base.specs.Places.{numbers_from, numbers_below}
-use Rattle.vyrd_base.specs.Own.OwnRules.{own_view}
-use Rattle.vyrd_base.specs.Own.Programs.{Written}
-use Rattle.vyrd_base.specs.Own.Reader.{written_in}
-use Rattle.vyrd_base.specs.Own.Steps.{part_gives, part_words, view_of}
-use Rattle.vyrd_base.specs.Rules.{Charter, own, rules_by}
-use Rattle.vyrd_base.proofs.TestLaws.{apart_of}
-use Rattle.vyrd_own_spec.specs.Parts.{width_of}
+use Rattle.vyrd_own_states.proofs.Prelude
+use Prelude.{◌≡◌, ℕ, zero, suc, ◌+◌, ◌-◌, ◌*◌, ◌/◌, ◌<◌, ◌≤◌, List, ◌++◌, length, take, drop, refl}
+use Prelude.{ap, ◌∙◌, sym, arith, flat_map, drop-take, take-take, length-take, div-mul-add}
+use Prelude.{div-add-mod, Header, Own, collected, plain_words, numbers_from, numbers_below}
+use Prelude.{own_view, Written, written_in, part_gives, part_words, view_of, Charter, own, rules_by}
+use Prelude.{apart_of, width_of}
 
 -- ---- words behind the last whole part
 

@@ -1,13 +1,10 @@
 -- What the pairs of parts give to a key, one place and one part after the other.
-use Rattle.std.proofs.Common.{◌≡◌, ℕ, ◌+◌, ◌*◌, ◌<◌, List, map, get_or, arith}
-use Rattle.std.specs.Prelude.{◌≢◌, flat_map, slice_range}
-use Rattle.vyrd_base.specs.Amounts.{Amounts, amount_of, collected, given}
-use Rattle.vyrd_base.specs.Places.{numbers_below}
-use Rattle.vyrd_base.proofs.PlaceLaws.{map_alike}
+use Rattle.vyrd_own_states.proofs.Prelude.{◌≡◌, ℕ, ◌+◌, ◌*◌, ◌<◌, List, map, get_or, arith, ◌≢◌}
+use Rattle.vyrd_own_states.proofs.Prelude.{flat_map, slice_range, Amounts, amount_of, collected}
+use Rattle.vyrd_own_states.proofs.Prelude.{given, numbers_below, map_alike, pairs_in, part_pairs}
 use Rattle.vyrd_base.proofs.SumLaws.{own_part, other_part, amount_of-collected}
 use Rattle.vyrd_view.specs.Decoded.{Gives, pairs_by}
 use Rattle.vyrd_view.specs.Laws.Sums.{given_map_push, given_flat_push, places_give}
-use Rattle.vyrd_own_states.specs.PartPairs.{pairs_in, part_pairs}
 
 -- ---- one place more
 

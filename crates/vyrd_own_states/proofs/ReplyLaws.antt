@@ -1,15 +1,12 @@
 -- What is said of a refused reply, by what is known of its call and of the state.
-use Rattle.std.proofs.Common.{◌≡◌, ℕ, List, Some}
-use Rattle.vyrd_base.specs.declared.header.Header.{Header}
+use Rattle.vyrd_own_states.proofs.Prelude.{◌≡◌, ℕ, List, Some, Header, StartWord, Written, own}
+use Rattle.vyrd_own_states.proofs.Prelude.{State, own_refused_items}
 use Rattle.vyrd_base.specs.declared.log.Entry.{Entry}
-use Rattle.vyrd_base.specs.declared.log.StartWord.{StartWord}
 use Rattle.vyrd_base.specs.Callers.{Called}
-use Rattle.vyrd_base.specs.Own.Programs.{Written}
-use Rattle.vyrd_base.specs.Rules.{own, own_rules}
-use Rattle.vyrd_base.specs.States.{State}
+use Rattle.vyrd_base.specs.Rules.{own_rules}
 use Rattle.vyrd_states.specs.Known.{state_then}
 use Rattle.vyrd_states.specs.Replies.{called_at}
-use Rattle.vyrd_own_states.specs.OwnReplies.{own_refused_items, own_reply_items}
+use Rattle.vyrd_own_states.specs.OwnReplies.{own_reply_items}
 
 module _ (h : Header) (w : Written) (starting : List StartWord) (front : List Entry)
     (at reply : ℕ) where

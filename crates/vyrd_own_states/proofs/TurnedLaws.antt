@@ -1,17 +1,10 @@
 -- What words show after one of them has changed: only what its part gives can be other than before.
-use Rattle.std.proofs.Common.{◌≡◌, ◌≢◌, ℕ, ◌+◌, ◌-◌, ◌*◌, ◌/◌, ◌<◌, ◌≤◌, List, length, length-set}
-use Rattle.std.proofs.Common.{set, take, drop, ap, ◌∙◌, arith}
-use Rattle.std.specs.Prelude.{flat_map, slice_range}
-use Rattle.std.proofs.lemmas.List.{drop-set-lt, drop-set-add, take-set-le}
-use Rattle.std.proofs.Math.Seq.{take-set-lt}
-use Rattle.std.proofs.Math.Nat.{mod-add-div', mod-lt}
-use Rattle.vyrd_base.specs.Amounts.{Amounts, amount_of, collected, given}
-use Rattle.vyrd_base.specs.Places.{numbers_below}
-use Rattle.vyrd_base.proofs.TestLaws.{below_of, not_below_of}
+use Rattle.vyrd_own_states.proofs.Prelude
+use Prelude.{◌≡◌, ◌≢◌, ℕ, ◌+◌, ◌-◌, ◌*◌, ◌/◌, ◌<◌, ◌≤◌, List, length, length-set, set, take, drop}
+use Prelude.{ap, ◌∙◌, arith, flat_map, slice_range, drop-set-lt, drop-set-add, take-set-le}
+use Prelude.{take-set-lt, mod-add-div', mod-lt, Amounts, amount_of, collected, given, numbers_below}
+use Prelude.{below_of, not_below_of, part_of_within, one_apart, own_pairs, part_pairs}
 use Rattle.vyrd_view.specs.Decoded.{Gives, words_of, pairs_by}
-use Rattle.vyrd_view.proofs.DecodedLaws.{part_of_within}
-use Rattle.vyrd_witness.proofs.PartLaws.{one_apart}
-use Rattle.vyrd_own_states.specs.PartPairs.{own_pairs, part_pairs}
 use Rattle.vyrd_own_states.proofs.PairLaws.{all_parts}
 
 -- ---- the words of a part

@@ -1,11 +1,8 @@
 -- What one more node adds.
-use Rattle.std.proofs.Common.{◌≡◌, ℕ, ◌+◌, ◌<◌, List, [], ◌∷◌, ◌++◌, length, refl, ap, ◌∙◌, sym}
-use Rattle.std.proofs.Common.{arith, suc, zero, length-append}
-use Rattle.std.specs.Prelude.{◌-◌}
+use Rattle.vyrd_own_text.proofs.Prelude.{◌≡◌, ℕ, ◌+◌, ◌<◌, List, [], ◌∷◌, ◌++◌, length, refl, ap}
+use Rattle.vyrd_own_text.proofs.Prelude.{◌∙◌, sym, arith, suc, zero, length-append, ◌-◌, Expr, Adds}
 use Rattle.vyrd_own.specs.declared.node.Node.{Node}
-use Rattle.vyrd_base.specs.Own.Expressions.{Expr}
-use Rattle.vyrd_own.specs.Nodes.{earlier, expr_at, exprs_from, exprs_of, expr_of}
-use Rattle.vyrd_own_text.specs.Growth.{Adds}
+use Rattle.vyrd_own.specs.Nodes.{expr_at, exprs_from, earlier, exprs_of, expr_of}
 
 from-snoc : (exprs : List Expr) (nodes : List Node) (node : Node)
     → exprs_from exprs (nodes ++ node ∷ []) ≡ exprs_from exprs nodes

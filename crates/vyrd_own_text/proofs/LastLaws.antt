@@ -1,17 +1,13 @@
 -- The last of a list, changed.
-use Rattle.std.proofs.Common.{◌≡◌, ℕ, List, [], ◌∷◌, ◌++◌, length, Some, refl, ap, ◌∙◌}
-use Rattle.std.proofs.Common.{arith, length-append}
+use Rattle.vyrd_own_text.proofs.Prelude.{◌≡◌, ℕ, List, [], ◌∷◌, ◌++◌, length, Some, refl, ap, ◌∙◌}
+use Rattle.vyrd_own_text.proofs.Prelude.{arith, length-append, Taken, Change, Method, Written}
+use Rattle.vyrd_own_text.proofs.Prelude.{Inner, inner, holding, with_change, with_line, taken_with}
+use Rattle.vyrd_own_text.proofs.Prelude.{last_in, inner_read, within_read, took_as}
 use Rattle.std.specs.Prelude.{slice_get}
 use Rattle.vyrd_own_text.specs.declared.took.Took.{Took}
-use Rattle.vyrd_base.specs.Own.Reading.{Taken}
-use Rattle.vyrd_base.specs.Own.Programs.{Change, Case, Method, Written}
-use Rattle.vyrd_base.specs.Own.Lines.{Inner, inner, holding, with_change, with_inner, with_line}
-use Rattle.vyrd_base.specs.Own.Lines.{change_last}
-use Rattle.vyrd_base.specs.Own.Pieces.{taken_with}
-use Rattle.vyrd_base.specs.Own.Methods.{last_in, inner_read}
-use Rattle.vyrd_base.specs.Own.Changes.{within_read}
+use Rattle.vyrd_base.specs.Own.Programs.{Case}
+use Rattle.vyrd_base.specs.Own.Lines.{with_inner, change_last}
 use Rattle.vyrd_base.specs.Own.Reader.{of_method, method_line_read}
-use Rattle.vyrd_own_text.specs.Meaning.{took_as}
 
 pub holding_last : (n : ℕ) (xs : List (List ℕ)) (x : List ℕ) → holding n (xs ++ x ∷ []) ≡ xs
     ++ (x ++ n ∷ []) ∷ []

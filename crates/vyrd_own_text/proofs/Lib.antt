@@ -1,3 +1,4 @@
+mod Prelude
 pub mod GrowthLaws
 pub mod TextLaws
 pub mod WholeLaws

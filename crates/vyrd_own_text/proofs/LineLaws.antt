@@ -1,35 +1,28 @@
 -- What is read as a line is its one spelling.
-use Rattle.std.proofs.Common.{◌≡◌, ℕ, Bool, true, false, cond, List, ◌++◌, length}
-use Rattle.std.proofs.Common.{Option, Some, None, refl, ap, ◌∙◌, sym, append_assoc}
-use Rattle.std.specs.Prelude.{codes, decimal, Ok, not, nat_lt, nat_le, ◌||◌, ◌&&◌, ◌==◌}
-use Rattle.std.proofs.lemmas.List.{append-nil}
-use Rattle.std.specs.Str.{bytes_eq}
-use Rattle.std.proofs.lemmas.Slice.Eq.{bytes_eq-Decides}
-use Rattle.vyrd_base.specs.Own.Expressions.{Expr}
+use Rattle.vyrd_own_text.proofs.Prelude
+use Prelude.{◌≡◌, ℕ, Bool, true, false, cond, List, ◌++◌, length, Option, Some, None, refl, ap, ◌∙◌}
+use Prelude.{sym, append_assoc, codes, decimal, Ok, nat_lt, ◌||◌, ◌&&◌, ◌==◌, append-nil, bytes_eq}
+use Prelude.{bytes_eq-Decides, Expr, Scope, name_at, spelled, Taken, and_then, word_of, number_in}
+use Prelude.{Change, Method, Written, Inner, is_known, new_name, taken_with, last_number}
+use Prelude.{named_number, two_numbers, last_read, two_read, last_name, named_value, ended, last_in}
+use Prelude.{named_expr, named_method, inner_read, change_read, within_read, words_text}
+use Rattle.std.specs.Prelude.{not, nat_le}
 use Rattle.vyrd_base.specs.declared.own.last.Last.{Last}
-use Rattle.vyrd_base.specs.Own.Spelling.{Scope, name_at, spelled}
-use Rattle.vyrd_base.specs.Own.Reading.{Taken, and_then, word_of, number_in}
 use Rattle.vyrd_base.specs.Own.Programs as programs
 use Rattle.vyrd_base.specs.Own.Lines as lines
-use Rattle.vyrd_base.specs.Own.Programs.{Change, Method, Written}
-use Rattle.vyrd_base.specs.Own.Lines.{Inner, Line, has_any}
-use Rattle.vyrd_base.specs.Own.Names.{is_known, new_name}
-use Rattle.vyrd_base.specs.Own.Pieces.{taken_with, last_number, named_number, two_numbers}
-use Rattle.vyrd_base.specs.Own.Pieces.{last_read, two_read, last_name, named_value, ended}
+use Rattle.vyrd_base.specs.Own.Lines.{Line, has_any}
 use Rattle.vyrd_base.specs.Own.Outer.{is_list, is_part, is_past_constants, part_of, part_scope}
 use Rattle.vyrd_base.specs.Own.Outer.{outer_read}
-use Rattle.vyrd_base.specs.Own.Methods.{last_in, is_closed, is_unfinished, method_read}
-use Rattle.vyrd_base.specs.Own.Methods.{named_expr, named_method, inner_read}
-use Rattle.vyrd_base.specs.Own.Changes.{plain_read, change_read, case_line_read, changes_in}
-use Rattle.vyrd_base.specs.Own.Changes.{if_line, within_read}
+use Rattle.vyrd_base.specs.Own.Methods.{is_closed, is_unfinished, method_read}
+use Rattle.vyrd_base.specs.Own.Changes.{plain_read, case_line_read, changes_in, if_line}
 use Rattle.vyrd_base.specs.Own.Reader.{is_remark, of_method, method_line_read, or_method, line_read}
-use Rattle.vyrd_own_text.specs.LineSpelling.{change_text, in_case, in_method, inner_text}
-use Rattle.vyrd_own_text.specs.LineSpelling.{last_text, words_text, line_text}
+use Rattle.vyrd_own_text.specs.LineSpelling.{change_text, in_case, in_method, inner_text, last_text}
+use Rattle.vyrd_own_text.specs.LineSpelling.{line_text}
 use Rattle.vyrd_own_text.proofs.PieceLaws.{after_or, taken_inv, then_inv, past, kept, ended_is}
 use Rattle.vyrd_own_text.proofs.PieceLaws.{number_decimal, last_number_is, new_name_is}
 use Rattle.vyrd_own_text.proofs.PieceLaws.{named_number_is, two_numbers_is, last_read_is}
-use Rattle.vyrd_own_text.proofs.PieceLaws.{two_read_is, last_name_is, named_value_is}
-use Rattle.vyrd_own_text.proofs.PieceLaws.{named_expr_is, named_method_is}
+use Rattle.vyrd_own_text.proofs.PieceLaws.{two_read_is, last_name_is, named_value_is, named_expr_is}
+use Rattle.vyrd_own_text.proofs.PieceLaws.{named_method_is}
 
 four : (a b c d : List ℕ) → a ++ ((b ++ c) ++ d) ≡ ((a ++ b) ++ c) ++ d
 four a b c d = simp append_assoc

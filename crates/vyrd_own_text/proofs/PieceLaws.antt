@@ -1,24 +1,16 @@
 -- What is read as a piece of a line is its spelling.
-use Rattle.std.proofs.Common.{◌≡◌, ℕ, Bool, true, false, cond, List, [], ◌∷◌, ◌++◌, Option, Some}
-use Rattle.std.proofs.Common.{None, refl, ap, ◌∙◌, sym, zero, suc, append_assoc}
-use Rattle.std.specs.Prelude.{codes, decimal, Ok, Err, nat_lt, ◌&&◌, ◌||◌}
-use Rattle.std.specs.Str.{bytes_eq}
-use Rattle.std.specs.Str.Parse.{digits_value}
-use Rattle.std.proofs.lemmas.List.{append-nil}
-use Rattle.std.proofs.lemmas.Slice.Eq.{bytes_eq-Decides}
-use Rattle.vyrd_base.specs.Own.Expressions.{Expr, most}
-use Rattle.vyrd_base.specs.declared.own.rule.SpecificationRule.{SpecificationRule}
+use Rattle.vyrd_own_text.proofs.Prelude
+use Prelude.{◌≡◌, ℕ, Bool, true, false, cond, List, [], ◌∷◌, ◌++◌, Option, Some, None, refl, ap}
+use Prelude.{◌∙◌, sym, zero, suc, append_assoc, codes, decimal, Ok, Err, nat_lt, ◌&&◌, ◌||◌}
+use Prelude.{bytes_eq, digits_value, append-nil, bytes_eq-Decides, Expr, most, SpecificationRule}
+use Prelude.{Scope, name_at, spelled, Taken, Found, and_then, after, if_after, word_of, after_word}
+use Prelude.{number_in, name_read, expr_read, Method, Written, is_known, new_name, last_number}
+use Prelude.{taken_with, named_number, ended, two_numbers, last_read, two_read, last_name}
+use Prelude.{named_value, is_method, named_method, named_expr, words_text}
 use Rattle.vyrd_base.specs.declared.own.rule.SpecificationRule.TheVariants as rules
-use Rattle.vyrd_base.specs.Own.Spelling.{Scope, name_at, spelled}
-use Rattle.vyrd_base.specs.Own.Reading.{Taken, Found, and_then, after, if_after, word_of}
-use Rattle.vyrd_base.specs.Own.Reading.{after_word, number_in, name_read, expr_read}
-use Rattle.vyrd_base.specs.Own.Programs.{Method, Written}
-use Rattle.vyrd_base.specs.Own.Names.{is_name, is_among, is_known, new_name}
-use Rattle.vyrd_base.specs.Own.Pieces.{number_found, last_number, taken_with, named_number, ended}
-use Rattle.vyrd_base.specs.Own.Pieces.{two_numbers, last_read, two_read, last_name, named_value}
-use Rattle.vyrd_base.specs.Own.Methods.{method_scope, parameters_read, is_method, named_method}
-use Rattle.vyrd_base.specs.Own.Methods.{named_expr}
-use Rattle.vyrd_own_text.specs.LineSpelling.{words_text}
+use Rattle.vyrd_base.specs.Own.Names.{is_name, is_among}
+use Rattle.vyrd_base.specs.Own.Pieces.{number_found}
+use Rattle.vyrd_base.specs.Own.Methods.{method_scope, parameters_read}
 use Rattle.vyrd_own_text.proofs.SoundLaws.{after_sound, word_splits, name_inv, expr_sound}
 
 -- where a word stands, and where it doesn't

@@ -1,25 +1,20 @@
 -- What is read as an expression is its spelling.
-use Rattle.std.proofs.Common.{◌≡◌, ℕ, Bool, true, false, cond, List, [], ◌∷◌, ◌++◌, Option, Some}
-use Rattle.std.proofs.Common.{None, refl, ap, ◌∙◌, sym, arith, suc, zero, append_assoc}
-use Rattle.std.specs.Prelude.{codes, decimal, slice_index_or, Result, Ok, Err, nat_lt, ◌&&◌, ◌==◌}
-use Rattle.std.specs.Prelude.{◌+◌}
-use Rattle.std.specs.Str.{bytes_eq}
-use Rattle.std.specs.Str.Parse.{digits_value}
-use Rattle.std.proofs.lemmas.Bool.Decides.{nat_tests}
-use Rattle.std.proofs.lemmas.Slice.Eq.{bytes_eq-Decides}
+use Rattle.vyrd_own_text.proofs.Prelude
+use Prelude.{◌≡◌, ℕ, Bool, true, false, cond, List, [], ◌∷◌, ◌++◌, Option, Some, None, refl, ap}
+use Prelude.{◌∙◌, sym, arith, suc, zero, append_assoc, codes, decimal, Result, Ok, Err, nat_lt}
+use Prelude.{◌&&◌, ◌==◌, ◌+◌, bytes_eq, digits_value, nat_tests, bytes_eq-Decides, Expr, shown}
+use Prelude.{hidden, most, Scope, name_at, spelled, SpecificationRule, Found, and_then, after}
+use Prelude.{word_of, after_word, number_in, place_from, of_state, name_read, atom_read, op_among}
+use Prelude.{one_read, if_after, round_read, whole_read, expr_read}
+use Rattle.std.specs.Prelude.{slice_index_or}
 use Rattle.vyrd_base.specs.declared.own.op.Op.{Op}
-use Rattle.vyrd_base.specs.Own.Expressions.{Expr, number, at, count, shown, hidden, least, greatest}
-use Rattle.vyrd_base.specs.Own.Expressions.{first, last, size, negation, infix_of, choice, most}
-use Rattle.vyrd_base.specs.Own.Spelling.{Scope, op_word, number_word, name_at, spelled}
-use Rattle.vyrd_base.specs.declared.own.rule.SpecificationRule.{SpecificationRule}
+use Rattle.vyrd_base.specs.Own.Expressions.{number, at, count, least, greatest, first, last, size}
+use Rattle.vyrd_base.specs.Own.Expressions.{negation, infix_of, choice}
+use Rattle.vyrd_base.specs.Own.Spelling.{op_word, number_word}
 use Rattle.vyrd_base.specs.declared.own.rule.SpecificationRule.TheVariants.{StateIsRead}
-use Rattle.vyrd_base.specs.Own.Reading.{Found, and_then, made, after, ended_by}
-use Rattle.vyrd_base.specs.Own.Reading.{is_word_byte, word_of, after_word, number_in, place_from}
-use Rattle.vyrd_base.specs.Own.Reading.{place_in, unknown, of_state, placed}
-use Rattle.vyrd_base.specs.Own.Reading.{name_read, number_or, all_ops, atom_read, op_among}
-use Rattle.vyrd_base.specs.Own.Reading.{op_read, one_read, list_read, second_read, infix_read}
-use Rattle.vyrd_base.specs.Own.Reading.{else_read, then_read, choice_read, if_after, round_read}
-use Rattle.vyrd_base.specs.Own.Reading.{whole_read, expr_read}
+use Rattle.vyrd_base.specs.Own.Reading.{made, ended_by, is_word_byte, place_in, unknown, placed}
+use Rattle.vyrd_base.specs.Own.Reading.{number_or, all_ops, op_read, list_read, second_read}
+use Rattle.vyrd_base.specs.Own.Reading.{infix_read, else_read, then_read, choice_read}
 
 pub after_sound : (word text rest : List ℕ) → after word text ≡ Some rest → text ≡ word ++ rest
 unfolding after

@@ -1,14 +1,8 @@
 -- The pieces of a line.
-use Rattle.std.proofs.Common.{◌≡◌, ℕ, ◌<◌, Bool, true, false, cond, List, [], ◌∷◌, ◌++◌, Some, None}
-use Rattle.std.proofs.Common.{refl, ap, ◌∙◌, sym, arith}
-use Rattle.std.specs.Prelude.{nat_lt, decimal, ◌==◌, ◌&&◌}
-use Rattle.std.specs.Str.{bytes_eq}
-use Rattle.std.specs.Str.Parse.{digits_value}
-use Rattle.std.proofs.lemmas.Bool.Decides.{nat_tests}
-use Rattle.std.proofs.lemmas.Slice.Eq.{bytes_eq-Decides}
-use Rattle.vyrd_base.proofs.SplitLaws.{number_of_decimal}
-use Rattle.vyrd_base.specs.Own.Expressions.{most}
-use Rattle.vyrd_base.specs.Own.Reading.{after, number_in}
+use Rattle.vyrd_own_text.proofs.Prelude
+use Prelude.{◌≡◌, ℕ, ◌<◌, Bool, true, false, cond, List, [], ◌∷◌, ◌++◌, Some, None, refl, ap, ◌∙◌}
+use Prelude.{sym, arith, nat_lt, decimal, ◌==◌, ◌&&◌, bytes_eq, digits_value, nat_tests}
+use Prelude.{bytes_eq-Decides, number_of_decimal, most, after, number_in}
 
 same_test : (c : ℕ) → (c == c) ≡ true
 same_test c = grind (arith, nat_tests)

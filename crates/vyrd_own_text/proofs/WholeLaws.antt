@@ -1,13 +1,8 @@
 -- What an expression is read as, by how it begins.
-use Rattle.std.proofs.Common.{◌≡◌, ◌≢◌, ℕ, List, Option, Some, None, Result, refl, ap, ◌∙◌, sym}
-use Rattle.std.proofs.Common.{subst, arith}
-use Rattle.std.specs.Prelude.{codes, ◌-◌, IfOk}
-use Rattle.vyrd_base.specs.Own.Expressions.{Expr, shown, hidden}
-use Rattle.vyrd_own_text.specs.declared.expression.Read.{Read}
-use Rattle.vyrd_own_text.specs.Growth.{read_as}
-use Rattle.vyrd_base.specs.Own.Spelling.{Scope}
-use Rattle.vyrd_base.specs.Own.Reading.{Found, after, whole_read, expr_read, if_after, of_state}
-use Rattle.vyrd_base.specs.Own.Reading.{one_read, round_read, atom_read}
+use Rattle.vyrd_own_text.proofs.Prelude
+use Prelude.{◌≡◌, ◌≢◌, ℕ, List, Option, Some, None, Result, refl, ap, ◌∙◌, sym, subst, arith, codes}
+use Prelude.{◌-◌, IfOk, Expr, shown, hidden, Read, read_as, Scope, Found, after, whole_read}
+use Prelude.{expr_read, if_after, of_state, one_read, round_read, atom_read}
 
 pub expr_whole : (s : Scope) (n : ℕ) (text : List ℕ) → n ≢ 0 → expr_read s n text
     ≡ whole_read (expr_read s (n - 1)) s text

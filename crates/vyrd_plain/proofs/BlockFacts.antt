@@ -1,29 +1,19 @@
 -- How the open blocks, and the effects before a place, change with one more entry.
-use Rattle.std.proofs.Common.{◌≡◌, ℕ, ◌+◌, ◌<◌, true, false, ◌&&◌, List, [], ◌∷◌, ◌++◌, length}
-use Rattle.std.proofs.Common.{take, drop, replicate, set, Option, Some, None, slice_get, refl, ap}
-use Rattle.std.proofs.Common.{◌∙◌, sym, arith, length-append}
-use Rattle.std.specs.Prelude.{◌==◌, unwrap_or}
+use Rattle.vyrd_plain.proofs.Prelude
+use Prelude.{◌≡◌, ℕ, ◌+◌, ◌<◌, true, false, ◌&&◌, List, [], ◌∷◌, ◌++◌, length, take, drop}
+use Prelude.{replicate, set, Option, Some, None, slice_get, refl, ap, ◌∙◌, sym, arith, ◌==◌}
+use Prelude.{drop-append-le, length-take, slice_get_within, Header, Kind, Commit, BlockOpen, Entry}
+use Prelude.{newest_first, has_block, plain_words, entry, by_same, own_answer, same_number}
+use Prelude.{apart_of, Block, written_by, writes_in, IsOpenBlock, IsBlockOf, HasEffects, place_of}
+use Prelude.{take_one_more, slice_get-set_same, slice_get-set_other}
+use Rattle.std.proofs.Common.{length-append}
+use Rattle.std.specs.Prelude.{unwrap_or}
 use Rattle.std.proofs.Math.Seq.{drop-append_seam}
-use Rattle.std.proofs.lemmas.List.{drop-append-le, length-take}
-use Rattle.std.proofs.lemmas.Option.{slice_get_within}
-use Rattle.vyrd_base.specs.declared.header.Header.{Header}
-use Rattle.vyrd_base.specs.declared.log.Kind.{Kind}
-use Rattle.vyrd_base.specs.declared.log.Kind.TheVariants.{Commit, BlockOpen}
-use Rattle.vyrd_base.specs.declared.log.Entry.{Entry}
-use Rattle.vyrd_base.specs.Places.{newest_first}
-use Rattle.vyrd_base.specs.Callers.{open_or_close, has_block, commit_or_open}
-use Rattle.vyrd_base.specs.Callers.{has_inner_commit}
-use Rattle.vyrd_base.specs.Layout.{plain_words}
-use Rattle.vyrd_base.specs.Words.{with_write, block_writes, effects_at, effects, words_at}
+use Rattle.vyrd_base.specs.Callers.{open_or_close, commit_or_open, has_inner_commit}
+use Rattle.vyrd_base.specs.Words.{with_write, effects, block_writes, effects_at, words_at}
 use Rattle.vyrd_base.proofs.PlaceLaws.{newest_first-push}
-use Rattle.vyrd_base.proofs.BlockLaws.{entry, by_same, own_answer, other_answer, no_answer}
-use Rattle.vyrd_base.proofs.BlockLaws.{own_writes, other_writes, own_block}
-use Rattle.vyrd_base.proofs.TestLaws.{same_number, apart_of}
-use Rattle.vyrd_plain.specs.declared.effects.Block.{Block}
-use Rattle.vyrd_plain.specs.OpenBlocks.{written_by, writes_in, IsOpenBlock, IsBlockOf, committed}
-use Rattle.vyrd_plain.specs.OpenBlocks.{block_after, HasEffects}
-use Rattle.vyrd_base.specs.Entries.{place_of}
-use Rattle.vyrd_base.proofs.ListLaws.{take_one_more, slice_get-set_same, slice_get-set_other}
+use Rattle.vyrd_base.proofs.BlockLaws.{other_answer, no_answer, own_writes, other_writes, own_block}
+use Rattle.vyrd_plain.specs.OpenBlocks.{committed, block_after}
 use Rattle.vyrd_plain.proofs.StepLaws.{next_is}
 use Rattle.vyrd_plain.proofs.EffectFacts.{writes_in-append, drop_here, words_without, none_there}
 

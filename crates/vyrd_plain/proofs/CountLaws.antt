@@ -1,25 +1,12 @@
 -- How the numbers of commits and of returns without a commit grow, entry by entry.
-use Rattle.std.proofs.Common.{◌≡◌, ℕ, suc, ◌+◌, ◌<◌, Bool, true, false, cond, ◌&&◌, List, ◌∷◌}
-use Rattle.std.proofs.Common.{length, take, drop, get_or, set, Some, None, slice_get, ap}
-use Rattle.std.proofs.Common.{subst, ◌∙◌, sym, arith, drop-cons}
-use Rattle.std.specs.Prelude.{count_by}
-use Rattle.std.specs.Prelude.{not}
-use Rattle.std.proofs.lemmas.List.Sums.{sum_by-cons}
-use Rattle.std.proofs.lemmas.Option.{slice_get_within}
-use Rattle.vyrd_base.specs.declared.header.Header.{Header}
-use Rattle.vyrd_base.specs.declared.log.Kind.{Kind}
-use Rattle.vyrd_base.specs.declared.log.Kind.TheVariants.{Call, Return, Write, Commit, BlockOpen}
-use Rattle.vyrd_base.specs.declared.log.Kind.TheVariants.{BlockClose, BlockCommit}
-use Rattle.vyrd_base.specs.declared.log.Entry.{Entry}
-use Rattle.vyrd_base.specs.Places.{places_after, newest_first}
-use Rattle.vyrd_base.specs.Callers.{has_committed, commit_or_call}
-use Rattle.vyrd_base.specs.Verdicts.{is_return, observer_returns}
-use Rattle.vyrd_base.proofs.BlockLaws.{entry, by_same}
-use Rattle.vyrd_plain.specs.Committed.{committed_after, AreCommitted}
-use Rattle.vyrd_base.proofs.FrontLaws.{newest_next}
-use Rattle.vyrd_base.proofs.CommittedLaws.{committed-other, committed-quiet, committed-own}
-use Rattle.vyrd_base.proofs.ListLaws.{slice_get-set_same, slice_get-set_other}
-use Rattle.vyrd_base.proofs.TestLaws.{apart_of}
+use Rattle.vyrd_plain.proofs.Prelude
+use Prelude.{◌≡◌, ℕ, suc, ◌+◌, ◌<◌, Bool, true, false, cond, ◌&&◌, List, ◌∷◌, length, take, drop}
+use Prelude.{get_or, set, Some, None, slice_get, ap, subst, ◌∙◌, sym, arith, drop-cons, count_by}
+use Prelude.{not, sum_by-cons, slice_get_within, Header, Kind, Call, Return, Write, Commit}
+use Prelude.{BlockOpen, BlockClose, BlockCommit, Entry, places_after, newest_first, has_committed}
+use Prelude.{commit_or_call, is_return, observer_returns, entry, by_same, committed_after}
+use Prelude.{AreCommitted, newest_next, committed-other, committed-quiet, committed-own}
+use Prelude.{slice_get-set_same, slice_get-set_other, apart_of}
 
 -- a call, a commit or a return tells of its caller whether it has committed then
 changed : (h : Header) (c : ℕ) (kind : Kind) (earlier : List Entry) (committed : List Bool)

@@ -1,33 +1,14 @@
 -- How the writes of a block, and the words, are found entry by entry.
-use Rattle.std.proofs.Common.{◌≡◌, ◌⊎◌, ℕ, zero, suc, ◌+◌, ◌<◌, ◌≤◌, Bool, true, false}
-use Rattle.std.proofs.Common.{cond, List, [], ◌∷◌, ◌++◌, length, take, drop, replicate, Option}
-use Rattle.std.proofs.Common.{Some, None, slice_get, refl, ap, subst, ◌∙◌, sym, arith, append-nil}
-use Rattle.std.proofs.Common.{append_assoc, drop-cons}
-use Rattle.std.specs.Prelude.{◌≢◌, ◌==◌, slice_set, option_map}
-use Rattle.std.proofs.lemmas.List.{drop-append-le, length-take}
-use Rattle.std.specs.Option.{option_map_or}
-use Rattle.std.proofs.Math.Seq.{take-add}
-use Rattle.std.proofs.lemmas.Option.{slice_get_within, get_or_from_slice_get}
-use Rattle.vyrd_base.specs.declared.header.Header.{Header}
-use Rattle.vyrd_base.specs.declared.log.Kind.{Kind}
-use Rattle.vyrd_base.specs.declared.log.Kind.TheVariants.{Call, Return, Write, Commit, BlockOpen}
-use Rattle.vyrd_base.specs.declared.log.Kind.TheVariants.{BlockClose, BlockCommit}
-use Rattle.vyrd_base.specs.declared.log.Entry.{Entry}
-use Rattle.vyrd_base.specs.Places.{newest_first}
-use Rattle.vyrd_base.specs.Shape.{broken_rule}
-use Rattle.vyrd_base.specs.Front.{first_break}
-use Rattle.vyrd_base.specs.Callers.{has_block}
-use Rattle.vyrd_base.specs.Layout.{plain_words}
-use Rattle.vyrd_base.specs.Words.{block_writes, ahead_at, writes_ahead, effects_at, words_with}
-use Rattle.vyrd_base.proofs.TestLaws.{same_of, is_same, isnt_same}
-use Rattle.vyrd_base.proofs.BlockLaws.{entry}
-use Rattle.vyrd_base.proofs.ShadowLaws.{close_kept, block_commit_kept}
-use Rattle.vyrd_plain.specs.declared.effects.Block.{Block}
-use Rattle.vyrd_plain.specs.OpenBlocks.{written_by, writes_in, IsOpenBlock}
-use Rattle.vyrd_base.proofs.KeptLaws.{rules_at, write_kept}
-use Rattle.vyrd_base.proofs.ListLaws.{take_one_more}
-use Rattle.vyrd_base.proofs.EffectWords.{one_write}
-use Rattle.vyrd_base.proofs.NoStart.{zeros_from}
+use Rattle.vyrd_plain.proofs.Prelude
+use Prelude.{◌≡◌, ◌⊎◌, ℕ, zero, suc, ◌+◌, ◌<◌, ◌≤◌, Bool, true, false, cond, List, [], ◌∷◌, ◌++◌}
+use Prelude.{length, take, drop, replicate, Option, Some, None, slice_get, refl, ap, subst, ◌∙◌}
+use Prelude.{sym, arith, append-nil, append_assoc, drop-cons, ◌≢◌, ◌==◌, slice_set, option_map}
+use Prelude.{drop-append-le, length-take, option_map_or, take-add, slice_get_within}
+use Prelude.{get_or_from_slice_get, Header, Kind, Call, Return, Write, Commit, BlockOpen}
+use Prelude.{BlockClose, BlockCommit, Entry, newest_first, broken_rule, first_break, has_block}
+use Prelude.{plain_words, block_writes, ahead_at, writes_ahead, effects_at, words_with, same_of}
+use Prelude.{is_same, isnt_same, entry, close_kept, block_commit_kept, Block, written_by, writes_in}
+use Prelude.{IsOpenBlock, rules_at, write_kept, take_one_more, one_write, zeros_from}
 
 -- the writes among two lists of entries, one after the other
 pub writes_in-append : (c : ℕ) (xs ys : List Entry)

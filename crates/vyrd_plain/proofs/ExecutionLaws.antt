@@ -1,17 +1,9 @@
 -- How what is kept of a caller's execution changes with one more entry.
-use Rattle.std.proofs.Common.{◌≡◌, ℕ, true, ◌||◌, List, [], ◌∷◌, ◌++◌, Option, Some, None, ap, ◌∙◌}
-use Rattle.std.proofs.Common.{sym}
-use Rattle.std.specs.List.{list_any}
+use Rattle.vyrd_plain.proofs.Prelude
+use Prelude.{◌≡◌, ℕ, true, ◌||◌, List, [], ◌∷◌, ◌++◌, Option, Some, None, ap, ◌∙◌, sym, list_any}
+use Prelude.{or-false, Entry, open_call, has_committed, State, next_reply, states_since_call}
+use Prelude.{Execution, answers, seeing, with_commit, IsExecution, IsOpen, Rules}
 use Rattle.std.proofs.lemmas.List.Folds.{list_any-append}
-use Rattle.std.proofs.Math.Bool.{or-false}
-use Rattle.vyrd_base.specs.declared.log.Entry.{Entry}
-use Rattle.vyrd_base.specs.Callers.{open_call, has_committed}
-use Rattle.vyrd_base.specs.States.{State}
-use Rattle.vyrd_base.specs.Commits.{next_reply}
-use Rattle.vyrd_base.specs.Faults.{states_since_call}
-use Rattle.vyrd_plain.specs.declared.execution.Execution.{Execution}
-use Rattle.vyrd_plain.specs.Executions.{answers, seeing, with_commit, IsExecution, IsOpen}
-use Rattle.vyrd_base.specs.Rules.{Rules}
 
 -- what is kept stays where the entry changes none of it
 pub execution_stays : (r : Rules) (states : List State) (c : ℕ) (e : Entry)

@@ -1,49 +1,21 @@
 -- What the entry at a place leads to, by what is kept there.
-use Rattle.std.proofs.Common.{◌≡◌, ◌⊎◌, inl, inr, ℕ, ◌+◌, Bool, true, false, cond, ◌&&◌, ◌||◌, not}
-use Rattle.std.proofs.Common.{List, [], ◌∷◌, take, drop, set, Option, Some, None, Result, slice_get}
-use Rattle.std.proofs.Common.{refl, ap, subst, ◌∙◌, sym}
-use Rattle.std.specs.Prelude.{◌==◌, option_map, option_and_then}
-use Rattle.std.specs.List.{list_any}
-use Rattle.std.specs.Result.{IfOk}
-use Rattle.vyrd_base.specs.declared.subject.Method.{Method}
-use Rattle.vyrd_base.specs.declared.subject.Args.{Args}
-use Rattle.vyrd_base.specs.declared.log.Kind.{Kind}
-use Rattle.vyrd_base.specs.declared.log.Kind.TheVariants.{Call, Return, Write, BlockOpen}
-use Rattle.vyrd_base.specs.declared.log.Kind.TheVariants.{BlockClose}
-use Rattle.vyrd_base.specs.declared.log.Entry.{Entry}
-use Rattle.vyrd_base.specs.declared.log.StartWord.{StartWord}
-use Rattle.vyrd_base.specs.declared.verdict.Why.{Why}
-use Rattle.vyrd_base.specs.declared.verdict.Why.TheVariants.{Reply, View, Observer}
-use Rattle.vyrd_base.specs.Places.{Place, newest_first}
-use Rattle.vyrd_base.specs.Callers.{Called, open_call, has_committed}
-use Rattle.vyrd_base.specs.Subjects.{is_observer, must_commit}
-use Rattle.vyrd_base.specs.Shape.{broken_rule}
-use Rattle.vyrd_base.specs.Amounts.{Amounts, first_difference}
-use Rattle.vyrd_base.specs.States.{State}
-use Rattle.vyrd_base.specs.Words.{words_at}
-use Rattle.vyrd_base.specs.Commits.{returned, next_reply, committed_at, commits_after}
-use Rattle.vyrd_base.specs.Commits.{once_returned, state_after}
-use Rattle.vyrd_base.specs.Faults.{step_fault, commit_fault, fault_of_commit, states_since_call}
-use Rattle.vyrd_base.specs.Faults.{observer_fault, fault_at}
-use Rattle.vyrd_base.specs.Verdicts.{states_along}
-use Rattle.vyrd_base.proofs.BlockLaws.{entry, own_answer}
-use Rattle.vyrd_plain.specs.declared.execution.Execution.{Execution}
-use Rattle.vyrd_plain.specs.declared.outcome.Outcome.{Outcome}
-use Rattle.vyrd_plain.specs.declared.outcome.Outcome.TheVariants.{Goes, Faults, Ends}
-use Rattle.vyrd_plain.specs.Executions.{answers, begun, IsExecution}
-use Rattle.vyrd_plain.specs.Tracking.{Tracks}
-use Rattle.vyrd_base.specs.Entries.{place_of}
-use Rattle.vyrd_plain.specs.Outcomes.{CommitGives, PlaceGives, return_outcome}
+use Rattle.vyrd_plain.proofs.Prelude
+use Prelude.{◌≡◌, ◌⊎◌, inl, inr, ℕ, ◌+◌, Bool, true, false, cond, ◌&&◌, ◌||◌, not, List, [], ◌∷◌}
+use Prelude.{take, drop, set, Option, Some, None, Result, slice_get, refl, ap, subst, ◌∙◌, sym}
+use Prelude.{◌==◌, option_map, option_and_then, list_any, IfOk, Method, Args, Kind, Call, Return}
+use Prelude.{Write, BlockOpen, BlockClose, Entry, StartWord, Why, Reply, View, Observer, Place}
+use Prelude.{newest_first, Called, open_call, has_committed, is_observer, must_commit, broken_rule}
+use Prelude.{Amounts, first_difference, State, words_at, returned, next_reply, committed_at}
+use Prelude.{commits_after, once_returned, state_after, step_fault, commit_fault, fault_of_commit}
+use Prelude.{states_since_call, observer_fault, fault_at, states_along, entry, own_answer}
+use Prelude.{Execution, Outcome, Goes, Faults, Ends, answers, begun, IsExecution, Tracks, place_of}
+use Prelude.{CommitGives, PlaceGives, return_outcome, next_reply-quiet, state_here, ending-commit}
+use Prelude.{commit_kept, block_commit_runs, return_free, IfOk-weaker, Rules}
 use Rattle.vyrd_base.proofs.CommitLaws.{Commits, alone, with_block, commits_is, commits_called}
 use Rattle.vyrd_base.proofs.CommitLaws.{commits_inside, commits_unreturned, commits_uncalled}
 use Rattle.vyrd_base.proofs.CommitLaws.{fault_of_commit_kind}
-use Rattle.vyrd_base.proofs.StateLaws.{next_reply-quiet, state_here, ending-commit}
-use Rattle.vyrd_base.proofs.KeptLaws.{commit_kept, block_commit_runs}
-use Rattle.vyrd_base.proofs.CommittedLaws.{return_free}
 use Rattle.vyrd_plain.proofs.StepLaws.{IsAt, Leads, call_allowed, called_is, leads_for}
-use Rattle.std.proofs.lemmas.Result.{IfOk-weaker}
 use Rattle.vyrd_plain.proofs.TrackingLaws.{tracks_inside, tracks_call, tracks_return, tracks_commit}
-use Rattle.vyrd_base.specs.Rules.{Rules}
 
 -- what is called in the execution
 abbrev pub called_in : Execution → Called

@@ -1,3 +1,4 @@
+mod Prelude
 pub mod ExecutionLaws
 pub mod TrackingLaws
 pub mod EffectFacts

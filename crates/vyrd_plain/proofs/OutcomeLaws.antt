@@ -1,11 +1,6 @@
 -- What a commit leads to, by what its steps answered.
-use Rattle.std.proofs.Common.{◌≡◌, ℕ, Option, Some, None, subst}
-use Rattle.vyrd_base.specs.declared.verdict.Why.TheVariants.{Reply, View}
-use Rattle.vyrd_base.specs.Amounts.{Amounts, first_difference}
-use Rattle.vyrd_base.specs.States.{State}
-use Rattle.vyrd_plain.specs.declared.execution.Execution.{Execution}
-use Rattle.vyrd_plain.specs.Outcomes.{CommitFaults}
-use Rattle.vyrd_base.specs.Rules.{Rules}
+use Rattle.vyrd_plain.proofs.Prelude.{◌≡◌, ℕ, Option, Some, None, subst, Reply, View, Amounts}
+use Rattle.vyrd_plain.proofs.Prelude.{first_difference, State, Execution, CommitFaults, Rules}
 
 -- what is known of the execution at a place holds for every execution there
 pub for_execution : (P : Execution → Type 0) (o : Option (Option Execution)) (x y : Execution)

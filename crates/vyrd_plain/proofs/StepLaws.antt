@@ -1,45 +1,16 @@
 -- What a judge that tracks a front up to a place may do with the entry there.
-use Rattle.std.proofs.Common.{◌≡◌, ℕ, zero, suc, ◌+◌, ◌<◌, ◌≤◌, true, List, [], ◌∷◌, length, take}
-use Rattle.std.proofs.Common.{drop, get_or, replicate, Option, Some, None, slice_get, refl, ap}
-use Rattle.std.proofs.Common.{subst, ◌∙◌, sym, arith, drop-cons}
-use Rattle.std.proofs.lemmas.List.{length-take}
+use Rattle.vyrd_plain.proofs.Prelude
+use Prelude.{◌≡◌, ℕ, zero, suc, ◌+◌, ◌<◌, ◌≤◌, true, List, [], ◌∷◌, length, take, drop, get_or}
+use Prelude.{replicate, Option, Some, None, slice_get, refl, ap, subst, ◌∙◌, sym, arith, drop-cons}
+use Prelude.{length-take, slice_get_within, get_or_from_slice_get, option_map, option_or, same_Some}
+use Prelude.{length-newest_first, Method, Args, Kind, Call, Return, Entry, Why, Verdict, Violation}
+use Prelude.{places_after, newest_first, first_answer, Called, open_call, broken_rule, first_break}
+use Prelude.{State, commits, commit_count, fault_at, line_of, violation_at, states_along}
+use Prelude.{first_fault, entry, no_fault_beyond, caller_kept, Execution, has_method, place_of}
+use Prelude.{IsExecution, IsOpen, AreAllowed, Tracks, Outcome, PlaceGives, newest_next}
+use Prelude.{line_without, rules_at, call_kept, return_kept, Rules, state_at_start}
 use Rattle.std.proofs.Math.ListN.{drop_of_length-le}
-use Rattle.std.proofs.lemmas.Option.{slice_get_within, get_or_from_slice_get}
-use Rattle.std.specs.Prelude.{option_map}
-use Rattle.std.specs.Option.{option_or}
-use Rattle.std.proofs.lemmas.Option.{same_Some}
-use Rattle.vyrd_base.proofs.PlaceLaws.{length-newest_first}
-use Rattle.vyrd_base.specs.declared.subject.Method.{Method}
-use Rattle.vyrd_base.specs.declared.subject.Args.{Args}
-use Rattle.vyrd_base.specs.declared.log.Kind.{Kind}
-use Rattle.vyrd_base.specs.declared.log.Kind.TheVariants.{Call, Return}
-use Rattle.vyrd_base.specs.declared.log.Entry.{Entry}
-use Rattle.vyrd_base.specs.declared.verdict.Why.{Why}
-use Rattle.vyrd_base.specs.declared.verdict.Verdict.{Verdict}
-use Rattle.vyrd_base.specs.declared.verdict.Verdict.TheVariants.{Violation}
-use Rattle.vyrd_base.specs.Places.{places_after, newest_first, first_answer}
-use Rattle.vyrd_base.specs.Callers.{Called, open_call}
-use Rattle.vyrd_base.specs.Shape.{broken_rule}
-use Rattle.vyrd_base.specs.Front.{first_break}
-use Rattle.vyrd_base.specs.States.{State}
-use Rattle.vyrd_base.specs.Commits.{commits, commit_count}
-use Rattle.vyrd_base.specs.Faults.{fault_at}
-use Rattle.vyrd_base.specs.Verdicts.{line_of, violation_at, states_along, first_fault}
-use Rattle.vyrd_base.proofs.BlockLaws.{entry}
-use Rattle.vyrd_base.proofs.Lasting.{no_fault_beyond}
-use Rattle.vyrd_base.proofs.ShadowLaws.{caller_kept}
-use Rattle.vyrd_plain.specs.declared.execution.Execution.{Execution}
-use Rattle.vyrd_base.specs.Entries.{has_method, place_of}
-use Rattle.vyrd_plain.specs.Executions.{IsExecution, IsOpen, AreAllowed}
-use Rattle.vyrd_plain.specs.Tracking.{Tracks}
-use Rattle.vyrd_plain.specs.declared.outcome.Outcome.{Outcome}
-use Rattle.vyrd_plain.specs.Outcomes.{PlaceGives}
-use Rattle.vyrd_base.proofs.FrontLaws.{newest_next}
-use Rattle.vyrd_base.proofs.VerdictParts.{line_without}
 use Rattle.vyrd_plain.proofs.EffectFacts.{none_there}
-use Rattle.vyrd_base.proofs.KeptLaws.{rules_at, call_kept, return_kept}
-use Rattle.vyrd_base.specs.Rules.{Rules}
-use Rattle.vyrd_base.specs.Starts.{state_at_start}
 
 -- a caller that is in an execution
 pub running_at : (r : Rules) (states : List State) (earlier later : List Entry) (state : State)

@@ -1,35 +1,21 @@
 -- What tracks a front up to a place tracks it up to the next one, entry by entry.
-use Rattle.std.proofs.Common.{◌≡◌, ℕ, ◌+◌, true, false, List, [], ◌∷◌, map, drop, set, Option, Some}
-use Rattle.std.proofs.Common.{None, slice_get, refl, ap, subst, ◌∙◌, sym}
-use Rattle.std.specs.Prelude.{◌==◌, option_map}
+use Rattle.vyrd_plain.proofs.Prelude
+use Prelude.{◌≡◌, ℕ, ◌+◌, true, false, List, [], ◌∷◌, map, drop, set, Option, Some, None, slice_get}
+use Prelude.{refl, ap, subst, ◌∙◌, sym, ◌==◌, option_map, list_any, or-false, Method, Args, Kind}
+use Prelude.{Call, Return, Entry, Called, commit_or_call, State, returned, next_reply, committed_at}
+use Prelude.{commits_after, state_after, commit_count, states_since_call, entry, by_same}
+use Prelude.{own_answer, same_number, apart_of, Execution, has_method, answers, seeing, with_commit}
+use Prelude.{IsExecution, IsOpen, Tracks, slice_get-set_same, slice_get-set_other, state_here}
+use Prelude.{next_reply-quiet, committed-other, committed-quiet, committed-own, Rules}
 use Rattle.std.specs.Option.{option_flatten}
-use Rattle.std.specs.List.{list_any}
-use Rattle.std.proofs.lemmas.Option.{slice_get_within, slice_get-map}
-use Rattle.std.proofs.Math.Bool.{or-false}
-use Rattle.vyrd_base.specs.declared.subject.Method.{Method}
-use Rattle.vyrd_base.specs.declared.subject.Args.{Args}
-use Rattle.vyrd_base.specs.declared.log.Kind.{Kind}
-use Rattle.vyrd_base.specs.declared.log.Kind.TheVariants.{Call, Return}
-use Rattle.vyrd_base.specs.declared.log.Entry.{Entry}
-use Rattle.vyrd_base.specs.Callers.{Called, call_or_return, commit_or_call, is_call}
-use Rattle.vyrd_base.specs.States.{State}
-use Rattle.vyrd_base.specs.Commits.{is_commit, returned, next_reply, Committed, committed_at}
-use Rattle.vyrd_base.specs.Commits.{commits_after, state_after, states_from, commit_count}
-use Rattle.vyrd_base.specs.Faults.{states_since_call}
-use Rattle.vyrd_base.proofs.BlockLaws.{entry, by_same, own_answer, open_call-quiet}
-use Rattle.vyrd_base.proofs.TestLaws.{same_number, apart_of}
-use Rattle.vyrd_plain.specs.declared.execution.Execution.{Execution}
-use Rattle.vyrd_base.specs.Entries.{has_method}
-use Rattle.vyrd_plain.specs.Executions.{answers, seeing, with_commit, IsExecution, IsOpen}
-use Rattle.vyrd_plain.specs.Tracking.{Tracks}
-use Rattle.vyrd_base.proofs.ListLaws.{slice_get-set_same, slice_get-set_other}
-use Rattle.vyrd_base.proofs.StateLaws.{state_here, going-quiet, going-commit, open_call-other}
-use Rattle.vyrd_base.proofs.StateLaws.{next_reply-other, before_call-other, next_reply-quiet}
-use Rattle.vyrd_base.proofs.StateLaws.{before_call-quiet, count-commit, window-quiet, window-commit}
-use Rattle.vyrd_base.proofs.StateLaws.{window-call}
-use Rattle.vyrd_base.proofs.CommittedLaws.{committed-other, committed-quiet, committed-own}
+use Rattle.std.proofs.lemmas.Option.{slice_get-map, slice_get_within}
+use Rattle.vyrd_base.specs.Callers.{call_or_return, is_call}
+use Rattle.vyrd_base.specs.Commits.{is_commit, Committed, states_from}
+use Rattle.vyrd_base.proofs.BlockLaws.{open_call-quiet}
+use Rattle.vyrd_base.proofs.StateLaws.{going-quiet, going-commit, open_call-other, next_reply-other}
+use Rattle.vyrd_base.proofs.StateLaws.{before_call-other, before_call-quiet, count-commit}
+use Rattle.vyrd_base.proofs.StateLaws.{window-quiet, window-commit, window-call}
 use Rattle.vyrd_plain.proofs.ExecutionLaws.{execution_stays, execution_sees, execution_commits}
-use Rattle.vyrd_base.specs.Rules.{Rules}
 
 -- an entry inside its caller's execution that isn't its commit
 pub tracks_inside : (r : Rules) (states : List State) (c : ℕ) (kind : Kind)

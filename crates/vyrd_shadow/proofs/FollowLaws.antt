@@ -1,35 +1,29 @@
 -- How what is kept goes on with one more entry.
-use Rattle.std.proofs.Common.{◌≡◌, ℕ, suc, zero, ◌+◌, ◌<◌, Bool, true, false, List, [], ◌∷◌}
-use Rattle.std.proofs.Common.{length, map, Option, Some, None, refl, ap, ◌∙◌, sym, subst}
-use Rattle.std.proofs.Common.{arith, get_or, set, get_or-set_other, get_or-set_same}
-use Rattle.std.specs.Prelude.{◌==◌, unwrap_or, is_some, replicate}
+use Rattle.vyrd_shadow.proofs.Prelude
+use Prelude.{◌≡◌, ℕ, suc, zero, ◌+◌, ◌<◌, Bool, true, false, List, [], ◌∷◌, length, Option, Some}
+use Prelude.{None, refl, ap, ◌∙◌, sym, subst, arith, get_or, set, get_or-set_other, get_or-set_same}
+use Prelude.{◌==◌, unwrap_or, is_some, replicate, Header, Write, BlockOpen, BlockClose, BlockCommit}
+use Prelude.{Entry, StartWord, plain_words, has_block, broken_rule, block_writes, given_to, entry}
+use Prelude.{by_same, with_writes, with_kept, first_written, ShadowKept, HasFollowed, is_open}
+use Rattle.std.proofs.Common.{map}
 use Rattle.std.proofs.lemmas.List.{length-replicate}
-use Rattle.vyrd_base.specs.declared.header.Header.{Header}
 use Rattle.vyrd_base.specs.declared.subject.Method.{Method}
 use Rattle.vyrd_base.specs.declared.subject.Args.{Args}
 use Rattle.vyrd_base.specs.declared.log.Kind.{Kind}
-use Rattle.vyrd_base.specs.declared.log.Kind.TheVariants.{Call, Return, Write, Commit, BlockOpen}
-use Rattle.vyrd_base.specs.declared.log.Kind.TheVariants.{BlockClose, BlockCommit}
-use Rattle.vyrd_base.specs.declared.log.Entry.{Entry}
-use Rattle.vyrd_base.specs.declared.log.StartWord.{StartWord}
-use Rattle.vyrd_base.specs.Places.{first_answer, numbers_from}
-use Rattle.vyrd_base.specs.Layout.{plain_words}
-use Rattle.vyrd_base.specs.Callers.{open_or_close, has_block}
-use Rattle.vyrd_base.specs.Shape.{broken_rule}
+use Rattle.vyrd_base.specs.declared.log.Kind.TheVariants.{Call, Return, Commit}
+use Rattle.vyrd_base.specs.Places.{numbers_from, first_answer}
+use Rattle.vyrd_base.specs.Callers.{open_or_close}
 use Rattle.vyrd_base.specs.Starts.{words_at_start}
-use Rattle.vyrd_base.specs.Words.{with_write, block_writes, effects_at, given_to}
-use Rattle.vyrd_base.specs.Words.{words_after}
+use Rattle.vyrd_base.specs.Words.{with_write, effects_at, words_after}
 use Rattle.vyrd_base.specs.BlockEnds.{ended_effects_at}
 use Rattle.vyrd_base.specs.Front.{WellFormed}
 use Rattle.vyrd_base.proofs.EffectLaws.{ends_block}
 use Rattle.vyrd_base.proofs.SettledWords.{settled_value, words_settled, same_here}
 use Rattle.vyrd_base.proofs.PlaceLaws.{first_answer-append, at_map}
 use Rattle.vyrd_base.proofs.WordLaws.{words_after-write, words_after-quiet}
-use Rattle.vyrd_base.proofs.BlockLaws.{entry, by_same, other_answer, no_answer, other_writes}
-use Rattle.vyrd_base.proofs.BlockLaws.{own_block, own_writes}
+use Rattle.vyrd_base.proofs.BlockLaws.{other_answer, no_answer, other_writes, own_block, own_writes}
 use Rattle.vyrd_base.proofs.ListLaws.{zeros}
-use Rattle.vyrd_shadow.specs.Blocks.{with_writes, with_kept, first_written}
-use Rattle.vyrd_shadow.specs.Following.{ShadowKept, HasFollowed, is_open, kept_writes, words_of}
+use Rattle.vyrd_shadow.specs.Following.{kept_writes, words_of}
 use Rattle.vyrd_shadow.proofs.KeptWrites.{value_kept, words_kept, AllOnce, once_written}
 use Rattle.vyrd_shadow.proofs.KeptWrites.{length-with_writes, value_with, differs}
 

@@ -1,18 +1,10 @@
 -- What a block keeps, with one more write, and what its writes do to the words.
-use Rattle.std.proofs.Common.{◌≡◌, ◌≢◌, ℕ, suc, zero, ◌^◌, ◌<◌, Bool, true, false, cond, ◌||◌, List}
-use Rattle.std.proofs.Common.{[], ◌∷◌, ◌++◌, length, Option, Some, None, refl, ap, ◌∙◌, arith}
-use Rattle.std.proofs.Common.{get_or, set, get_or-set_other, get_or-set_same, length-set}
-use Rattle.std.specs.Prelude.{◌==◌, unwrap_or}
-use Rattle.std.specs.Option.{option_or}
-use Rattle.std.specs.List.{list_any, All}
-use Rattle.std.specs.Map.{keys_of}
-use Rattle.std.proofs.lemmas.Bool.Decides.{nat_tests}
-use Rattle.std.proofs.lemmas.List.Folds.{list_any-append}
-use Rattle.std.proofs.lemmas.List.Elements.{All-nil, All-cons}
-use Rattle.vyrd_base.specs.Places.{first_answer}
-use Rattle.vyrd_base.specs.Words.{given_to}
-use Rattle.vyrd_base.proofs.TestLaws.{same_of, flipped, neither_true}
-use Rattle.vyrd_shadow.specs.Blocks.{with_writes, with_word, with_kept, first_written, AreInRange}
+use Rattle.vyrd_shadow.proofs.Prelude
+use Prelude.{◌≡◌, ◌≢◌, ℕ, suc, zero, ◌^◌, ◌<◌, Bool, true, false, cond, ◌||◌, List, [], ◌∷◌, ◌++◌}
+use Prelude.{length, Option, Some, None, refl, ap, ◌∙◌, arith, get_or, set, get_or-set_other}
+use Prelude.{get_or-set_same, length-set, ◌==◌, unwrap_or, option_or, list_any, All, keys_of}
+use Prelude.{nat_tests, list_any-append, All-nil, All-cons, first_answer, given_to, same_of}
+use Prelude.{flipped, neither_true, with_writes, with_word, with_kept, first_written, AreInRange}
 
 pub differs : (k d : ℕ) → (k == d) ≡ false → d ≢ k
 differs k d e = grind (arith, nat_tests)

@@ -1,3 +1,4 @@
+mod Prelude
 pub mod WriteLaws
 pub mod FollowLaws
 pub mod KeptWrites

@@ -1,26 +1,17 @@
 -- Where the writes stand that blocks keep.
-use Rattle.std.proofs.Common.{◌≡◌, ℕ, suc, zero, ◌+◌, ◌<◌, Bool, true, false, cond, ◌||◌, List, []}
-use Rattle.std.proofs.Common.{◌∷◌, ◌++◌, length, Option, Some, None, refl, ap, ◌∙◌, sym, subst}
-use Rattle.std.proofs.Common.{arith, get_or, set, get_or-set_other, get_or-set_same, length-set}
-use Rattle.std.proofs.Common.{length-append}
-use Rattle.std.specs.Prelude.{◌==◌, unwrap_or, is_some}
-use Rattle.std.specs.List.{list_any}
+use Rattle.vyrd_shadow.proofs.Prelude
+use Prelude.{◌≡◌, ℕ, suc, zero, ◌+◌, ◌<◌, Bool, true, false, cond, ◌||◌, List, [], ◌∷◌, ◌++◌}
+use Prelude.{length, Option, Some, None, refl, ap, ◌∙◌, sym, subst, arith, get_or, set}
+use Prelude.{get_or-set_other, get_or-set_same, length-set, length-append, ◌==◌, unwrap_or, is_some}
+use Prelude.{list_any, nat_tests, Write, Entry, StartWord, has_block, block_writes, broken_rule}
+use Prelude.{entry, by_same, same_of, with_kept, is_at, kept_by, ShadowKept, HasFollowed}
 use Rattle.std.proofs.Math.ListN.{get_or-append}
 use Rattle.std.proofs.Math.Seq.{get_or-append_seam}
-use Rattle.std.proofs.lemmas.Bool.Decides.{nat_tests}
-use Rattle.vyrd_base.specs.declared.log.Kind.TheVariants.{Write}
-use Rattle.vyrd_base.specs.declared.log.Entry.{Entry}
-use Rattle.vyrd_base.specs.declared.log.StartWord.{StartWord}
-use Rattle.vyrd_base.specs.Callers.{has_block}
-use Rattle.vyrd_base.specs.Words.{block_writes}
-use Rattle.vyrd_base.specs.Shape.{broken_rule}
-use Rattle.vyrd_base.proofs.BlockLaws.{entry, by_same}
 use Rattle.vyrd_base.proofs.EffectLaws.{never}
 use Rattle.vyrd_base.proofs.SettledWords.{is_to, some_to, holds_is}
 use Rattle.vyrd_base.proofs.ShadowLaws.{write_kept}
-use Rattle.vyrd_base.proofs.TestLaws.{first_true, second_true, same_of, same_number}
-use Rattle.vyrd_shadow.specs.Blocks.{with_kept, is_at, kept_by, IsFree, ArePlaced}
-use Rattle.vyrd_shadow.specs.Following.{ShadowKept, HasFollowed}
+use Rattle.vyrd_base.proofs.TestLaws.{first_true, second_true, same_number}
+use Rattle.vyrd_shadow.specs.Blocks.{IsFree, ArePlaced}
 use Rattle.vyrd_shadow.proofs.KeptWrites.{differs}
 
 -- a place is one of the block's

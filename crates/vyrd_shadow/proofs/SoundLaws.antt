@@ -1,18 +1,10 @@
 -- What stays true of the words, the blocks and the changed words.
-use Rattle.std.proofs.Common.{◌≡◌, ℕ, ◌+◌, ◌^◌, ◌<◌, ◌≤◌, ◌-◌, List, [], length, length-append}
-use Rattle.std.proofs.Common.{Option, Some, None, ◌∙◌, sym, subst, arith, get_or, set}
-use Rattle.std.proofs.Common.{get_or-set_other, get_or-set_same, length-set, take, drop, ◌++◌}
-use Rattle.std.specs.Prelude.{unwrap_or}
-use Rattle.std.specs.List.{All}
-use Rattle.std.specs.Map.{keys_of}
-use Rattle.std.proofs.Math.Seq.{take-append_seam}
-use Rattle.std.proofs.lemmas.List.{length-map}
-use Rattle.std.proofs.lemmas.List.Elements.{All-append}
+use Rattle.vyrd_shadow.proofs.Prelude
+use Prelude.{◌≡◌, ℕ, ◌+◌, ◌^◌, ◌<◌, ◌≤◌, ◌-◌, List, [], length, length-append, Option, Some, None}
+use Prelude.{◌∙◌, sym, subst, arith, get_or, set, get_or-set_other, get_or-set_same, length-set}
+use Prelude.{take, drop, ◌++◌, unwrap_or, All, keys_of, take-append_seam, length-map, All-append}
+use Prelude.{Header, plain_words, by_same, with_writes, with_kept, AreInRange, kept_count, IsSound}
 use Rattle.std.proofs.lemmas.List.Sums.{sum_by-set}
-use Rattle.vyrd_base.specs.declared.header.Header.{Header}
-use Rattle.vyrd_base.specs.Layout.{plain_words}
-use Rattle.vyrd_base.proofs.BlockLaws.{by_same}
-use Rattle.vyrd_shadow.specs.Blocks.{with_writes, with_kept, AreInRange, kept_count, IsSound}
 use Rattle.vyrd_shadow.proofs.KeptWrites.{differs, in_range_kept, length-with_writes, below_with}
 use Rattle.vyrd_shadow.proofs.KeptWrites.{keys_below}
 

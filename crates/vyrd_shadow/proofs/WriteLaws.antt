@@ -1,6 +1,5 @@
 -- The writes that are left, of those that take effect.
-use Rattle.std.proofs.Common.{◌≡◌, ℕ, List, [], ◌∷◌, ◌++◌, refl, set}
-use Rattle.vyrd_shadow.specs.Blocks.{with_writes}
+use Rattle.vyrd_shadow.proofs.Prelude.{◌≡◌, ℕ, List, [], ◌∷◌, ◌++◌, refl, set, with_writes}
 
 -- writes in two parts
 pub with_writes-append : (words : List ℕ) (xs ys : List (ℕ × ℕ)) → with_writes words (xs ++ ys)

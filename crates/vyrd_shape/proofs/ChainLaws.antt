@@ -1,19 +1,11 @@
 -- How the linked words of a holder change.
-use Rattle.std.proofs.Common.{◌≡◌, ◌≢◌, ℕ, suc, zero, ◌+◌, ◌-◌, ◌^◌, ◌<◌, ◌≤◌, Bool, true, false}
-use Rattle.std.proofs.Common.{cond, not, ◌&&◌, ◌||◌, List, [], ◌∷◌, length, map, refl, ap, ◌∙◌, sym}
-use Rattle.std.proofs.Common.{subst, arith, get_or, set, get_or-set_other, get_or-set_same}
-use Rattle.std.proofs.Common.{length-set}
-use Rattle.std.specs.Prelude.{◌==◌, replicate}
-use Rattle.std.proofs.lemmas.Bool.Decides.{nat_tests}
-use Rattle.std.proofs.lemmas.List.{map-set, set-get_or, length-replicate, length-map}
-use Rattle.std.proofs.lemmas.List.Sums.{sum_by-set}
-use Rattle.std.specs.List.{sum_by, list_any}
-use Rattle.vyrd_base.specs.Places.{numbers_from}
-use Rattle.vyrd_base.proofs.BlockLaws.{by_same}
-use Rattle.vyrd_base.proofs.ListLaws.{zeros}
+use Rattle.vyrd_shape.proofs.Prelude
+use Prelude.{◌≡◌, ◌≢◌, ℕ, suc, zero, ◌+◌, ◌-◌, ◌^◌, ◌<◌, ◌≤◌, Bool, true, false, cond, not, ◌&&◌}
+use Prelude.{◌||◌, List, [], ◌∷◌, length, map, refl, ap, ◌∙◌, sym, subst, arith, get_or, set}
+use Prelude.{get_or-set_other, get_or-set_same, length-set, ◌==◌, replicate, nat_tests, map-set}
+use Prelude.{set-get_or, length-replicate, length-map, sum_by-set, sum_by, list_any, numbers_from}
+use Prelude.{by_same, zeros, Holding, released, is_held_by_another, IsChain, IsLinked, AreLinked}
 use Rattle.std.proofs.Math.ListN.{get_or-map}
-use Rattle.vyrd_shape.specs.Holding.{Holding, released, is_held_by_another, IsChain, IsLinked}
-use Rattle.vyrd_shape.specs.Holding.{AreLinked}
 
 -- a value that the list doesn't have, it doesn't have after another value is written
 absent_set : (l : List ℕ) (w x q h : ℕ) → x ≢ h → get_or l q 0 ≢ h → get_or (set l w x) q 0 ≢ h

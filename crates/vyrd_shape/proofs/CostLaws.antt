@@ -1,9 +1,6 @@
 -- What is held, and what letting go of it costs.
-use Rattle.std.proofs.Common.{◌≡◌, ℕ, ◌+◌, ◌<◌, cond, List, length, arith, get_or}
-use Rattle.std.proofs.Common.{set}
-use Rattle.std.specs.Prelude.{◌==◌}
-use Rattle.std.proofs.lemmas.List.Sums.{sum_by-set}
-use Rattle.vyrd_shape.specs.Costs.{held_count}
+use Rattle.vyrd_shape.proofs.Prelude.{◌≡◌, ℕ, ◌+◌, ◌<◌, cond, List, length, arith, get_or, set}
+use Rattle.vyrd_shape.proofs.Prelude.{◌==◌, sum_by-set, held_count}
 
 -- whether it is held, as a number
 abbrev pub one_if_held : ℕ → ℕ

@@ -1,28 +1,21 @@
 -- Where a write last took effect on a word: what one more entry changes, and which words are
 -- passed.
-use Rattle.std.proofs.Common.{◌≡◌, ℕ, ◌+◌, ◌≤◌, Bool, true, false, cond, not, ◌&&◌, ◌||◌, List, []}
-use Rattle.std.proofs.Common.{◌∷◌, ◌++◌, length, Some, None, refl, ap, ◌∙◌, sym, arith}
-use Rattle.std.specs.Prelude.{◌==◌, nat_lt, is_some}
-use Rattle.std.specs.Option.{option_or}
+use Rattle.vyrd_shape.proofs.Prelude
+use Prelude.{◌≡◌, ℕ, ◌+◌, ◌≤◌, Bool, true, false, cond, not, ◌&&◌, ◌||◌, List, [], ◌∷◌, ◌++◌}
+use Prelude.{length, Some, None, refl, ap, ◌∙◌, sym, arith, ◌==◌, nat_lt, is_some, option_or}
+use Prelude.{Header, Kind, Call, Return, Write, Commit, BlockOpen, BlockClose, BlockCommit, Entry}
+use Prelude.{has_block, has_inner_commit, holds_word, broken_rule, is_lone_commit, WellFormed}
+use Prelude.{entry, by_same, is_below, isnt_below, last_effect, last_commit, takes_effect}
 use Rattle.std.proofs.lemmas.List.Folds.{list_any-append}
-use Rattle.vyrd_base.specs.declared.header.Header.{Header}
-use Rattle.vyrd_base.specs.declared.log.Kind.{Kind}
-use Rattle.vyrd_base.specs.declared.log.Kind.TheVariants.{Call, Return, Write, Commit, BlockOpen}
-use Rattle.vyrd_base.specs.declared.log.Kind.TheVariants.{BlockClose, BlockCommit}
-use Rattle.vyrd_base.specs.declared.log.Entry.{Entry}
 use Rattle.vyrd_base.specs.Places.{first_answer}
-use Rattle.vyrd_base.specs.Callers.{has_block, has_inner_commit, holds_word}
-use Rattle.vyrd_base.specs.Shape.{broken_rule}
 use Rattle.vyrd_base.specs.Words.{block_writes, effects_at, effects_of_others, given_to}
-use Rattle.vyrd_base.specs.Words.{is_lone_commit}
-use Rattle.vyrd_base.specs.Front.{WellFormed}
-use Rattle.vyrd_base.proofs.BlockLaws.{entry, by_same, wrote_is}
+use Rattle.vyrd_base.proofs.BlockLaws.{wrote_is}
 use Rattle.vyrd_base.proofs.EffectLaws.{SameEffects, MoreAtCommit, ends_block, same_after}
 use Rattle.vyrd_base.proofs.EffectLaws.{more_after, own_inner, other_inner, never}
 use Rattle.vyrd_base.proofs.EffectLaws.MoreAt.{at_commit, own, other}
 use Rattle.vyrd_base.proofs.ShadowLaws.{close_kept, block_commit_kept}
-use Rattle.vyrd_base.proofs.TestLaws.{same_number, is_same, is_below, isnt_below, first_true}
-use Rattle.vyrd_shape.specs.Stamps.{has_write, last_effect, last_commit, takes_effect}
+use Rattle.vyrd_base.proofs.TestLaws.{same_number, is_same, first_true}
+use Rattle.vyrd_shape.specs.Stamps.{has_write}
 use Rattle.vyrd_shape.proofs.StampLaws.{raised_if}
 
 -- stamps go up to how many entries there are

@@ -1,3 +1,4 @@
+mod Prelude
 pub mod ChainLaws
 pub mod RuleLaws
 pub mod ShapeLaws

@@ -1,28 +1,17 @@
 -- The stamps of commits and words stand in the order of the log, entry by entry.
-use Rattle.std.proofs.Common.{◌≡◌, ℕ, suc, zero, ◌+◌, ◌<◌, ◌≤◌, max, Bool, true, false, cond, ◌&&◌}
-use Rattle.std.proofs.Common.{◌||◌, List, [], ◌∷◌, length, None, refl, ap, ◌∙◌, sym, subst, arith}
-use Rattle.std.proofs.Common.{get_or, set, get_or-set_other, get_or-set_same}
-use Rattle.std.specs.Prelude.{◌==◌, nat_lt, replicate}
+use Rattle.vyrd_shape.proofs.Prelude
+use Prelude.{◌≡◌, ℕ, suc, zero, ◌+◌, ◌<◌, ◌≤◌, max, Bool, true, false, cond, ◌&&◌, ◌||◌, List, []}
+use Prelude.{◌∷◌, length, None, refl, ap, ◌∙◌, sym, subst, arith, get_or, set, get_or-set_other}
+use Prelude.{get_or-set_same, ◌==◌, nat_lt, replicate, Header, Kind, Call, Return, Write, Commit}
+use Prelude.{BlockOpen, BlockClose, BlockCommit, Entry, has_block, has_inner_commit, holds_word}
+use Prelude.{plain_words, broken_rule, is_lone_commit, WellFormed, entry, by_same, own_inner}
+use Prelude.{other_inner, never, zeros, apart_of, flipped, is_below, isnt_below, AreGiven}
+use Prelude.{AreOrdered, AreRaised, CommitStamps, SameOrder, effect_stamp, last_commit, last_effect}
+use Prelude.{rank, takes_effect}
 use Rattle.std.proofs.lemmas.List.Sums.{sum_by-cons, count_by-le-length}
 use Rattle.std.proofs.Math.Bool.{and-false}
-use Rattle.vyrd_base.specs.declared.header.Header.{Header}
-use Rattle.vyrd_base.specs.declared.log.Kind.{Kind}
-use Rattle.vyrd_base.specs.declared.log.Kind.TheVariants.{Call, Return, Write, Commit, BlockOpen}
-use Rattle.vyrd_base.specs.declared.log.Kind.TheVariants.{BlockClose, BlockCommit}
-use Rattle.vyrd_base.specs.declared.log.Entry.{Entry}
-use Rattle.vyrd_base.specs.Callers.{has_block, has_inner_commit, holds_word}
-use Rattle.vyrd_base.specs.Layout.{plain_words}
-use Rattle.vyrd_base.specs.Shape.{broken_rule}
-use Rattle.vyrd_base.specs.Words.{is_lone_commit}
-use Rattle.vyrd_base.specs.Front.{WellFormed}
-use Rattle.vyrd_base.proofs.BlockLaws.{entry, by_same}
-use Rattle.vyrd_base.proofs.EffectLaws.{own_inner, other_inner, never}
-use Rattle.vyrd_base.proofs.ListLaws.{zeros}
-use Rattle.vyrd_base.proofs.TestLaws.{apart_of, flipped, below_of, is_below, not_below_of}
-use Rattle.vyrd_base.proofs.TestLaws.{isnt_below}
-use Rattle.vyrd_shape.specs.Stamps.{AreGiven, AreOrdered, AreRaised, AreRanked, CommitStamps}
-use Rattle.vyrd_shape.specs.Stamps.{IsAdded, SameOrder, effect_stamp, last_commit, last_effect}
-use Rattle.vyrd_shape.specs.Stamps.{rank, takes_effect}
+use Rattle.vyrd_base.proofs.TestLaws.{below_of, not_below_of}
+use Rattle.vyrd_shape.specs.Stamps.{AreRanked, IsAdded}
 use Rattle.vyrd_shape.proofs.StampLaws.{raised_if}
 use Rattle.vyrd_shape.proofs.EffectStamps.{commit_here, commit_none, commit_other, effect_place}
 use Rattle.vyrd_shape.proofs.EffectStamps.{last_commit_low, last_effect_low, stamp_next}

@@ -1,17 +1,8 @@
 -- What is known of an entry that breaks no rule.
-use Rattle.std.proofs.Common.{◌≡◌, ℕ, ◌<◌, Bool, true, false, not, ◌&&◌, List, None, refl, arith}
-use Rattle.std.specs.Prelude.{◌==◌}
-use Rattle.std.specs.List.{list_any}
-use Rattle.vyrd_base.specs.declared.header.Header.{Header}
-use Rattle.vyrd_base.specs.declared.log.Kind.TheVariants.{Write}
-use Rattle.vyrd_base.specs.declared.log.Entry.{Entry}
-use Rattle.vyrd_base.specs.Places.{numbers_below}
-use Rattle.vyrd_base.specs.Callers.{holds_word}
-use Rattle.vyrd_base.specs.Shape.{checks_at, broken_rule, is_held_by_other}
-use Rattle.vyrd_base.specs.Words.{is_passed}
-use Rattle.vyrd_base.proofs.BlockLaws.{entry}
-use Rattle.vyrd_base.proofs.TestLaws.{neither_true}
-use Rattle.vyrd_base.proofs.ShadowLaws.{all_kept, held_false}
+use Rattle.vyrd_shape.proofs.Prelude.{◌≡◌, ℕ, ◌<◌, Bool, true, false, not, ◌&&◌, List, None, refl}
+use Rattle.vyrd_shape.proofs.Prelude.{arith, ◌==◌, list_any, Header, Write, Entry, numbers_below}
+use Rattle.vyrd_shape.proofs.Prelude.{holds_word, checks_at, broken_rule, is_held_by_other}
+use Rattle.vyrd_shape.proofs.Prelude.{is_passed, entry, neither_true, all_kept, held_false}
 use Rattle.vyrd_shape.proofs.ChainLaws.{any_number}
 
 no_such_number : (p : ℕ → Bool) (n d : ℕ) → list_any p (numbers_below n) ≡ false → d < n

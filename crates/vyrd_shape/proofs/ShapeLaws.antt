@@ -1,41 +1,16 @@
 -- How phases and holders go on with one more entry.
-use Rattle.std.proofs.Common.{◌≡◌, ◌≢◌, ℕ, suc, zero, ◌+◌, ◌-◌, ◌<◌, ◌≤◌, Bool, true, false, cond}
-use Rattle.std.proofs.Common.{◌&&◌, ◌||◌, List, [], ◌∷◌, length, map, Option, Some, None, refl, ap}
-use Rattle.std.proofs.Common.{◌∙◌, sym, subst, arith, get_or, set, slice_get, get_or-set_other}
-use Rattle.std.proofs.Common.{get_or-set_same}
-use Rattle.std.specs.Prelude.{◌==◌, nat_lt, option_map, is_some, is_none, replicate}
-use Rattle.std.specs.Option.{option_or}
-use Rattle.std.specs.Bool.{then_some}
-use Rattle.std.proofs.lemmas.Option.{get_or_from_slice_get}
-use Rattle.vyrd_base.specs.declared.verdict.Rule.TheVariants.{BlockRaced}
-use Rattle.std.specs.List.{list_any}
-use Rattle.std.proofs.lemmas.Bool.Decides.{nat_tests}
-use Rattle.vyrd_base.specs.declared.header.Header.{Header}
-use Rattle.vyrd_base.specs.declared.log.Kind.{Kind}
-use Rattle.vyrd_base.specs.declared.log.Kind.TheVariants.{Call, Return, Write, Commit, BlockOpen}
-use Rattle.vyrd_base.specs.declared.log.Kind.TheVariants.{BlockClose, BlockCommit}
-use Rattle.vyrd_base.specs.declared.log.Entry.{Entry}
-use Rattle.vyrd_base.specs.declared.verdict.Rule.{Rule}
-use Rattle.vyrd_base.specs.Places.{numbers_from}
-use Rattle.vyrd_base.specs.Layout.{plain_words}
-use Rattle.vyrd_base.specs.Callers.{Called, by_caller}
-use Rattle.vyrd_base.specs.Callers.{open_or_close, write_or_open, open_call}
-use Rattle.vyrd_base.specs.Callers.{has_block, has_inner_commit, holds_word}
-use Rattle.vyrd_base.specs.Shape.{broken_rule, is_held_by_other}
-use Rattle.vyrd_base.specs.Words.{is_passed}
-use Rattle.vyrd_base.specs.Verdicts.{is_call_open}
-use Rattle.vyrd_base.proofs.BlockLaws.{entry, by_same, other_answer, no_answer}
-use Rattle.vyrd_base.proofs.TestLaws.{flipped, same_of}
-use Rattle.vyrd_base.proofs.EffectLaws.{never}
-use Rattle.vyrd_base.proofs.ListLaws.{zeros, slice_get-set_same}
-use Rattle.vyrd_base.proofs.ShadowLaws.{holds_other, open_kept}
-use Rattle.vyrd_base.proofs.VersionWords.{no_inner_commit}
-use Rattle.vyrd_base.proofs.SettledWords.{own_holds}
-use Rattle.vyrd_shape.specs.declared.phase.Phase.{Phase}
-use Rattle.vyrd_shape.specs.Phases.{phase_of}
-use Rattle.vyrd_shape.specs.Holding.{Holding, released, is_held_by_another, holders_after}
-use Rattle.vyrd_shape.specs.Following.{ShapeKept, HasFollowed}
-use Rattle.vyrd_shape.specs.Stamps.{AreOrdered, CommitStamps, last_commit}
+use Rattle.vyrd_shape.proofs.Prelude
+use Prelude.{◌≡◌, ◌≢◌, ℕ, suc, zero, ◌+◌, ◌-◌, ◌<◌, ◌≤◌, Bool, true, false, cond, ◌&&◌, ◌||◌, List}
+use Prelude.{[], ◌∷◌, length, map, Option, Some, None, refl, ap, ◌∙◌, sym, subst, arith, get_or}
+use Prelude.{set, slice_get, get_or-set_other, get_or-set_same, ◌==◌, nat_lt, option_map, is_some}
+use Prelude.{is_none, replicate, option_or, then_some, get_or_from_slice_get, BlockRaced, list_any}
+use Prelude.{nat_tests, Header, Kind, Call, Return, Write, Commit, BlockOpen, BlockClose}
+use Prelude.{BlockCommit, Entry, Rule, numbers_from, plain_words, Called, by_caller, open_or_close}
+use Prelude.{write_or_open, open_call, has_block, has_inner_commit, holds_word, broken_rule}
+use Prelude.{is_held_by_other, is_passed, is_call_open, entry, by_same, other_answer, no_answer}
+use Prelude.{flipped, same_of, never, zeros, slice_get-set_same, holds_other, open_kept}
+use Prelude.{no_inner_commit, own_holds, Phase, phase_of, Holding, released, is_held_by_another}
+use Prelude.{holders_after, ShapeKept, HasFollowed, AreOrdered, CommitStamps, last_commit}
 use Rattle.vyrd_shape.proofs.EffectStamps.{passed_by_stamp}
 use Rattle.vyrd_shape.proofs.OrderLaws.{ordered_none}
 use Rattle.vyrd_shape.proofs.ChainLaws.{at_most_set, released_at, released_own, released_other}

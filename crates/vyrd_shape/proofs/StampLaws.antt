@@ -1,12 +1,8 @@
 -- How the stamps of words are raised.
-use Rattle.std.proofs.Common.{◌≡◌, ◌≢◌, ℕ, ◌<◌, max, Bool, true, false, cond, List, length, refl}
-use Rattle.std.proofs.Common.{ap, ◌∙◌, sym, subst, arith, get_or, set, get_or-set_other}
-use Rattle.std.proofs.Common.{get_or-set_same, length-set}
-use Rattle.std.specs.Prelude.{◌==◌}
-use Rattle.std.proofs.lemmas.Bool.Decides.{nat_tests}
-use Rattle.vyrd_base.proofs.BlockLaws.{by_same}
-use Rattle.vyrd_base.proofs.TestLaws.{apart_of, flipped}
-use Rattle.vyrd_shape.specs.Stamps.{AreRaised}
+use Rattle.vyrd_shape.proofs.Prelude.{◌≡◌, ◌≢◌, ℕ, ◌<◌, max, Bool, true, false, cond, List, length}
+use Rattle.vyrd_shape.proofs.Prelude.{refl, ap, ◌∙◌, sym, subst, arith, get_or, set}
+use Rattle.vyrd_shape.proofs.Prelude.{get_or-set_other, get_or-set_same, length-set, ◌==◌}
+use Rattle.vyrd_shape.proofs.Prelude.{nat_tests, by_same, apart_of, flipped, AreRaised}
 
 -- a stamp that is raised, or not
 abbrev pub raised_if : Bool → ℕ → ℕ → ℕ

@@ -1,10 +1,8 @@
 -- A step of one amount and back.
-use Rattle.std.proofs.Common.{◌≡◌, ◌≤◌, ℕ, ◌+◌, ◌-◌, Bool, cond, refl, ◌∙◌}
-use Rattle.std.proofs.Common.{arith}
-use Rattle.std.specs.Prelude.{◌==◌}
-use Rattle.vyrd_base.specs.Amounts.{Amounts, IsAmounts, amount_of, with_amount, plus_amount}
-use Rattle.vyrd_base.proofs.AmountLaws.{amount_of-with_amount, IsAmounts-with_amount, same_amounts}
-use Rattle.vyrd_base.proofs.TestLaws.{same_of, same_number}
+use Rattle.vyrd_spec.proofs.Prelude.{◌≡◌, ◌≤◌, ℕ, ◌+◌, ◌-◌, Bool, cond, refl, ◌∙◌, arith, ◌==◌}
+use Rattle.vyrd_spec.proofs.Prelude.{Amounts, IsAmounts, amount_of, with_amount, plus_amount}
+use Rattle.vyrd_spec.proofs.Prelude.{amount_of-with_amount, IsAmounts-with_amount, same_amounts}
+use Rattle.vyrd_spec.proofs.Prelude.{same_of, same_number}
 
 -- the amount that a key was given
 pub amount_given : (s : Amounts) (k a : ℕ) → amount_of (with_amount s k a) k ≡ a

@@ -1,22 +1,12 @@
 -- The steps of string buffers.
-use Rattle.std.proofs.Common.{◌≡◌, ◌≢◌, ℕ, ◌+◌, ◌^◌, ◌%◌, ◌<◌, ◌≤◌, Bool, true, false, cond, []}
-use Rattle.std.proofs.Common.{◌∷◌, Some, refl, ap, ◌∙◌, sym, arith}
-use Rattle.std.specs.Prelude.{◌==◌, nat_lt}
-use Rattle.std.proofs.Math.Nat.{mod-lt, one-le-pow, pow-le-pow_right}
-use Rattle.vyrd_base.specs.declared.buffers.BuffersMethod.{BuffersMethod}
-use Rattle.vyrd_base.specs.declared.buffers.BuffersMethod.TheVariants.{Append, AppendFrom, Cut}
-use Rattle.vyrd_base.specs.declared.buffers.BuffersMethod.TheVariants.{Length, Read}
-use Rattle.vyrd_base.specs.declared.subject.Args.{Args}
-use Rattle.vyrd_base.specs.Amounts.{Amounts, IsAmounts, amount_of, with_amount}
-use Rattle.vyrd_base.specs.Buffers.{buffers, text_length, has_room, joined, cut_to, after_append}
-use Rattle.vyrd_base.proofs.AmountLaws.{amount_of-with_amount, IsAmounts-with_amount, no_amounts}
-use Rattle.vyrd_base.proofs.TestLaws.{same_of, apart_of, same_number, below_of, is_below}
-use Rattle.vyrd_base.proofs.TestLaws.{is_at_most}
-use Rattle.vyrd_base.proofs.TestLaws.{not_below_of, isnt_below}
-use Rattle.vyrd_base.proofs.TextLaws.{length_at_most, joined_below, cut_below}
-use Rattle.vyrd_spec.specs.Bounds.{AreTexts}
-use Rattle.vyrd_spec.specs.Touching.{is_touched, CanChange}
-use Rattle.vyrd_spec.specs.Touching.Buffers.{touches}
+use Rattle.vyrd_spec.proofs.Prelude
+use Prelude.{◌≡◌, ◌≢◌, ℕ, ◌+◌, ◌^◌, ◌%◌, ◌<◌, ◌≤◌, Bool, true, false, cond, [], ◌∷◌, Some, refl, ap}
+use Prelude.{◌∙◌, sym, arith, ◌==◌, nat_lt, mod-lt, one-le-pow, pow-le-pow_right, BuffersMethod}
+use Prelude.{Append, AppendFrom, Cut, Length, Read, Args, Amounts, IsAmounts, amount_of}
+use Prelude.{with_amount, buffers, text_length, has_room, joined, cut_to, after_append}
+use Prelude.{amount_of-with_amount, IsAmounts-with_amount, no_amounts, same_of, apart_of}
+use Prelude.{same_number, below_of, is_below, is_at_most, not_below_of, isnt_below, length_at_most}
+use Prelude.{joined_below, cut_below, AreTexts, is_touched, CanChange, touches}
 use Rattle.vyrd_spec.proofs.StepLaws.{StepsWell, by_replies, other_key, or_false, same_amount}
 use Rattle.vyrd_spec.proofs.StepLaws.{of_first, set_amount, lone, lone_amount, lone_formed}
 use Rattle.vyrd_spec.proofs.StepLaws.{AllAmounts-with_amount}

@@ -1,9 +1,7 @@
 -- The texts that buffers of words show.
-use Rattle.std.proofs.Common.{◌≡◌, ℕ, ◌^◌, ◌<◌, ◌≤◌, Bool, true, List, [], ◌∷◌, arith}
-use Rattle.std.specs.Prelude.{nat_le}
-use Rattle.std.proofs.Math.Nat.{pow-le-pow_right}
-use Rattle.vyrd_base.specs.Buffers.{Buffer, buffer_at, buffer_parts, is_buffer, are_characters}
-use Rattle.vyrd_base.proofs.TestLaws.{at_most_of, first_true, second_true}
+use Rattle.vyrd_spec.proofs.Prelude.{◌≡◌, ℕ, ◌^◌, ◌<◌, ◌≤◌, Bool, true, List, [], ◌∷◌, arith}
+use Rattle.vyrd_spec.proofs.Prelude.{nat_le, pow-le-pow_right, at_most_of, first_true, second_true}
+use Rattle.vyrd_base.specs.Buffers.{are_characters, Buffer, buffer_at, buffer_parts, is_buffer}
 use Rattle.vyrd_base.proofs.TextLaws.{text_below}
 use Rattle.vyrd_spec.specs.Texts.{text_of_buffer}
 

@@ -1,13 +1,11 @@
 -- The steps of the cache.
-use Rattle.std.proofs.Common.{◌≡◌, ℕ, ◌+◌, ◌*◌, ◌^◌, ◌<◌, true, false, [], Some, refl, arith}
+use Rattle.vyrd_spec.proofs.Prelude.{◌≡◌, ℕ, ◌+◌, ◌*◌, ◌^◌, ◌<◌, true, false, [], Some, refl, arith}
+use Rattle.vyrd_spec.proofs.Prelude.{Args, Amounts, IsAmounts, amount_of, with_amount}
+use Rattle.vyrd_spec.proofs.Prelude.{IsAmounts-with_amount, no_amounts, AllAmounts, is_touched}
+use Rattle.vyrd_spec.proofs.Prelude.{CanChange}
 use Rattle.vyrd_base.specs.declared.cache.CacheMethod.{CacheMethod}
 use Rattle.vyrd_base.specs.declared.cache.CacheMethod.TheVariants.{Write, Flush, Evict, Read}
-use Rattle.vyrd_base.specs.declared.subject.Args.{Args}
-use Rattle.vyrd_base.specs.Amounts.{Amounts, IsAmounts, amount_of, with_amount}
 use Rattle.vyrd_base.specs.Cache.{cache}
-use Rattle.vyrd_base.proofs.AmountLaws.{IsAmounts-with_amount, no_amounts}
-use Rattle.vyrd_spec.specs.Bounds.{AllAmounts}
-use Rattle.vyrd_spec.specs.Touching.{is_touched, CanChange}
 use Rattle.vyrd_spec.specs.Touching.Cache.{touches}
 use Rattle.vyrd_spec.proofs.StepLaws.{StepsWell, by_replies, other_key, or_false, of_first}
 use Rattle.vyrd_spec.proofs.StepLaws.{set_amount, AllAmounts-with_amount}

@@ -1,8 +1,7 @@
 -- The pairs that chunks of words show.
-use Rattle.std.proofs.Common.{◌≡◌, ℕ, ◌^◌, ◌<◌, Bool, true, List, [], ◌∷◌, arith}
-use Rattle.vyrd_base.specs.Cache.{chunk_at, chunk_parts, pair_amount, is_sound_chunk}
-use Rattle.vyrd_base.proofs.TestLaws.{first_true, second_true, below_of}
-use Rattle.vyrd_spec.specs.Chunks.{shown_pair}
+use Rattle.vyrd_spec.proofs.Prelude.{◌≡◌, ℕ, ◌^◌, ◌<◌, Bool, true, List, [], ◌∷◌, arith, first_true}
+use Rattle.vyrd_spec.proofs.Prelude.{second_true, below_of, shown_pair}
+use Rattle.vyrd_base.specs.Cache.{pair_amount, chunk_at, chunk_parts, is_sound_chunk}
 
 -- whether a chunk of the words is sound, and the pair that it shows
 abbrev pub is_sound_at : List ℕ → ℕ → Bool

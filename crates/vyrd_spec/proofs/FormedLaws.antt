@@ -1,23 +1,17 @@
 -- What a state shows is amounts, whatever the rules are that it steps by: keys rise, and no amount
 -- is 0.
-use Rattle.std.proofs.Common.{◌≡◌, ℕ, List, [], ◌∷◌, Option, Some, None, refl, subst}
-use Rattle.std.proofs.lemmas.Option.{same_Some}
-use Rattle.std.specs.Prelude.{option_map, option_and_then}
-use Rattle.vyrd_base.specs.declared.subject.Method.{Method}
-use Rattle.vyrd_base.specs.declared.subject.Args.{Args}
+use Rattle.vyrd_spec.proofs.Prelude.{◌≡◌, ℕ, List, [], ◌∷◌, Option, Some, None, refl, subst}
+use Rattle.vyrd_spec.proofs.Prelude.{same_Some, option_map, Method, Args, IsAmounts, Written}
+use Rattle.vyrd_spec.proofs.Prelude.{written_in, State, IsAmounts-with_amount, no_amounts}
+use Rattle.std.specs.Prelude.{option_and_then}
 use Rattle.vyrd_base.specs.declared.own.effect.Effect.{Effect}
 use Rattle.vyrd_base.specs.declared.own.effect.Effect.TheVariants.{SetShown, SetHidden, SetRegister}
 use Rattle.vyrd_base.specs.declared.own.effect.Effect.TheVariants.{PutLast, PutFirst, TakeFirst}
 use Rattle.vyrd_base.specs.declared.own.effect.Effect.TheVariants.{TakeLast, Empty, EmptyShown}
-use Rattle.vyrd_base.specs.Amounts.{IsAmounts}
-use Rattle.vyrd_base.specs.Own.Programs.{Written}
 use Rattle.vyrd_base.specs.Own.OwnRules.{own_method, own_next}
-use Rattle.vyrd_base.specs.Own.Reader.{written_in}
 use Rattle.vyrd_base.specs.Own.Steps.{with_effect, with_effects, next_of}
 use Rattle.vyrd_base.specs.Rules.{Charter, built_in, own, rules_by, given}
-use Rattle.vyrd_base.specs.States.{State}
 use Rattle.vyrd_base.specs.Subjects.{own_number}
-use Rattle.vyrd_base.proofs.AmountLaws.{IsAmounts-with_amount, no_amounts}
 use Rattle.vyrd_spec.proofs.StepMeets.{next_state-formed}
 
 formed_effect : (s : State) (e : Effect) → IsAmounts s.shown → IsAmounts (with_effect s e).shown

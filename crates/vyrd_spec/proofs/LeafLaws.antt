@@ -1,20 +1,12 @@
 -- What the leaves of a tree give, entry by entry and node by node.
-use Rattle.std.proofs.Common.{◌≡◌, ◌≢◌, ℕ, suc, ◌+◌, ◌-◌, ◌*◌, ◌^◌, ◌<◌, ◌≤◌, min, Bool, true}
-use Rattle.std.proofs.Common.{false, cond, ◌||◌, List, [], ◌∷◌, refl, ap, ◌∙◌, sym}
-use Rattle.std.proofs.Common.{arith}
-use Rattle.std.specs.Prelude.{◌==◌, nat_le, flat_map, slice_index}
-use Rattle.std.specs.List.{list_all, list_any, AllByRecursion}
-use Rattle.vyrd_base.specs.Added.{added}
-use Rattle.vyrd_base.specs.Amounts.{Amounts, amount_of, plus_amount, collected}
-use Rattle.vyrd_base.specs.Tree.{level_of, count_of, bound_of, right_of, entries_of, entry_parts}
-use Rattle.vyrd_base.specs.Tree.{node_parts, damage, chain_parts_from, chain_parts}
-use Rattle.vyrd_base.specs.Tree.{last_of, low_of, is_leaf_entry}
-use Rattle.vyrd_base.proofs.AddedLaws.{added-append, added-collected}
-use Rattle.vyrd_base.proofs.PartLaws.{parts_after}
-use Rattle.vyrd_base.proofs.TestLaws.{first_true, second_true, below_of, isnt_same, isnt_at_most}
-use Rattle.vyrd_base.proofs.TestLaws.{is_same}
-use Rattle.vyrd_spec.specs.Bounds.{AllAmounts}
-use Rattle.vyrd_spec.specs.NodeKeys.{entry_at}
+use Rattle.vyrd_spec.proofs.Prelude
+use Prelude.{◌≡◌, ◌≢◌, ℕ, suc, ◌+◌, ◌-◌, ◌*◌, ◌^◌, ◌<◌, ◌≤◌, min, Bool, true, false, cond, ◌||◌}
+use Prelude.{List, [], ◌∷◌, refl, ap, ◌∙◌, sym, arith, ◌==◌, nat_le, flat_map, slice_index}
+use Prelude.{list_all, list_any, AllByRecursion, added, Amounts, amount_of, plus_amount, collected}
+use Prelude.{level_of, count_of, bound_of, right_of, entries_of, entry_parts, node_parts, damage}
+use Prelude.{chain_parts_from, chain_parts, last_of, low_of, is_leaf_entry, added-append}
+use Prelude.{added-collected, parts_after, first_true, second_true, below_of, isnt_same}
+use Prelude.{isnt_at_most, is_same, AllAmounts, entry_at}
 use Rattle.vyrd_spec.proofs.RowLaws.{each_passes}
 use Rattle.vyrd_spec.proofs.NodeLaws.{all_entries}
 use Rattle.vyrd_spec.proofs.StepLaws.{AllAmounts-with_amount}

@@ -1,3 +1,4 @@
+mod Prelude
 pub mod AmountSteps
 pub mod StepLaws
 pub mod MultisetSteps

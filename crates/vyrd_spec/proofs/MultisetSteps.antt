@@ -1,20 +1,11 @@
 -- The steps of the multiset.
-use Rattle.std.proofs.Common.{◌≡◌, ℕ, ◌+◌, ◌-◌, ◌^◌, ◌<◌, ◌≤◌, true, false, not, ◌||◌, [], Some}
-use Rattle.std.proofs.Common.{refl, ap, arith}
-use Rattle.std.specs.Prelude.{◌==◌, ◌≢◌}
-use Rattle.std.specs.Bool.{then_some}
-use Rattle.vyrd_base.specs.declared.multiset.MultisetMethod.{MultisetMethod}
+use Rattle.vyrd_spec.proofs.Prelude
+use Prelude.{◌≡◌, ℕ, ◌+◌, ◌-◌, ◌^◌, ◌<◌, ◌≤◌, true, false, not, ◌||◌, [], Some, refl, ap, arith}
+use Prelude.{◌==◌, ◌≢◌, then_some, MultisetMethod, Args, Amounts, IsAmounts, amount_of, is_present}
+use Prelude.{with_amount, plus_amount, multiset, IsAmounts-with_amount, no_amounts, amount_of-plus}
+use Prelude.{same_of, apart_of, neither_true, same_number, AllAmounts, is_touched, CanChange}
 use Rattle.vyrd_base.specs.declared.multiset.MultisetMethod.TheVariants.{Insert, InsertPair, Delete}
 use Rattle.vyrd_base.specs.declared.multiset.MultisetMethod.TheVariants.{Lookup}
-use Rattle.vyrd_base.specs.declared.subject.Args.{Args}
-use Rattle.vyrd_base.specs.Amounts.{Amounts, IsAmounts, amount_of, is_present, with_amount}
-use Rattle.vyrd_base.specs.Amounts.{plus_amount}
-use Rattle.vyrd_base.specs.Multiset.{multiset}
-use Rattle.vyrd_base.proofs.AmountLaws.{IsAmounts-with_amount, no_amounts}
-use Rattle.vyrd_base.proofs.SumLaws.{amount_of-plus}
-use Rattle.vyrd_base.proofs.TestLaws.{same_of, apart_of, neither_true, same_number}
-use Rattle.vyrd_spec.specs.Bounds.{AllAmounts}
-use Rattle.vyrd_spec.specs.Touching.{is_touched, CanChange}
 use Rattle.vyrd_spec.specs.Touching.Multiset.{touches}
 use Rattle.vyrd_spec.proofs.StepLaws.{StepsWell, by_replies, where_allowed, other_key, or_false}
 use Rattle.vyrd_spec.proofs.StepLaws.{of_first, set_amount, lone, lone_amount, lone_formed}

@@ -1,17 +1,11 @@
 -- The left neighbours of nodes, found one right link after another.
-use Rattle.std.proofs.Common.{◌≡◌, ℕ, ◌+◌, ◌<◌, ◌≤◌, Bool, true, false, cond, not, ◌&&◌, ◌||◌}
-use Rattle.std.proofs.Common.{List, length, map, get_or, set, length-set, get_or-set_same}
-use Rattle.std.proofs.Common.{get_or-set_other, Option, Some, None, refl, ap, ◌∙◌, sym, arith}
-use Rattle.std.specs.Prelude.{◌==◌, nat_lt, nat_le, find, count_by, is_some}
-use Rattle.std.specs.Option.{option_or}
-use Rattle.std.proofs.lemmas.List.{ext_get_or, get_or_past}
-use Rattle.vyrd_base.specs.Places.{numbers_below}
-use Rattle.vyrd_base.specs.Tree.{right_of}
-use Rattle.vyrd_base.specs.Tree.{nodes, leads_to, left_of}
-use Rattle.vyrd_base.proofs.TestLaws.{same_of, is_same, first_true, second_true, neither_true}
-use Rattle.vyrd_base.proofs.TestLaws.{is_at_most, isnt_at_most, below_of, not_below_of}
-use Rattle.vyrd_base.proofs.PlaceLaws.{element_below, length_below}
-use Rattle.vyrd_spec.specs.Neighbours.{have_one_left, has_left, with_left}
+use Rattle.vyrd_spec.proofs.Prelude
+use Prelude.{◌≡◌, ℕ, ◌+◌, ◌<◌, ◌≤◌, Bool, true, false, cond, not, ◌&&◌, ◌||◌, List, length, map}
+use Prelude.{get_or, set, length-set, get_or-set_same, get_or-set_other, Option, Some, None, refl}
+use Prelude.{ap, ◌∙◌, sym, arith, ◌==◌, nat_lt, nat_le, find, count_by, is_some, option_or}
+use Prelude.{ext_get_or, get_or_past, numbers_below, right_of, nodes, leads_to, left_of, same_of}
+use Prelude.{is_same, first_true, second_true, neither_true, is_at_most, isnt_at_most, below_of}
+use Prelude.{not_below_of, element_below, length_below, have_one_left, has_left, with_left}
 use Rattle.vyrd_spec.proofs.RowLaws.{one_fails, all_pass, count-push, count_grows, find-push}
 use Rattle.vyrd_spec.proofs.RowLaws.{none_found, some_found}
 

@@ -1,18 +1,14 @@
 -- What the tests of a tree's nodes come to, place by place.
-use Rattle.std.proofs.Common.{◌≡◌, ◌≢◌, ℕ, zero, suc, ◌+◌, ◌-◌, ◌<◌, ◌≤◌, min, Bool, true, false}
-use Rattle.std.proofs.Common.{◌&&◌, ◌||◌, List, ◌∷◌, length, map, get_or, Option, refl, ap, ◌∙◌}
-use Rattle.std.proofs.Common.{sym, arith}
-use Rattle.std.specs.Prelude.{◌==◌, nat_lt, nat_le, count_by, IfSome}
-use Rattle.std.specs.List.{list_all}
+use Rattle.vyrd_spec.proofs.Prelude
+use Prelude.{◌≡◌, ◌≢◌, ℕ, zero, suc, ◌+◌, ◌-◌, ◌<◌, ◌≤◌, min, Bool, true, false, ◌&&◌, ◌||◌, List}
+use Prelude.{◌∷◌, length, map, get_or, Option, refl, ap, ◌∙◌, sym, arith, ◌==◌, nat_lt, nat_le}
+use Prelude.{count_by, IfSome, list_all, numbers_from, numbers_below, level_of, count_of, right_of}
+use Prelude.{entries_of, nodes, leads_to, left_of, is_linked, has_sound_keys, is_same, isnt_same}
+use Prelude.{is_at_most, both_true, element_below, length_below, have_one_left}
 use Rattle.std.proofs.lemmas.List.Folds.{list_all-map}
 use Rattle.std.proofs.Math.Bool.{and-false}
-use Rattle.vyrd_base.specs.Places.{numbers_from, numbers_below}
-use Rattle.vyrd_base.specs.Tree.{level_of, count_of, right_of, entries_of}
-use Rattle.vyrd_base.specs.Tree.{nodes, leads_to, left_of, is_linked, rises, has_sound_keys}
-use Rattle.vyrd_base.proofs.TestLaws.{is_same, isnt_same, is_at_most, both_true}
-use Rattle.vyrd_base.proofs.PlaceLaws.{element_below, length_below}
-use Rattle.vyrd_spec.specs.Neighbours.{have_one_left}
-use Rattle.vyrd_spec.specs.NodeKeys.{key_at, entry_at, is_next_key, is_in_range, is_sound_key}
+use Rattle.vyrd_base.specs.Tree.{rises}
+use Rattle.vyrd_spec.specs.NodeKeys.{key_at, is_next_key, is_in_range, entry_at, is_sound_key}
 use Rattle.vyrd_spec.proofs.RowLaws.{each_passes, one_fails, found_below}
 
 pub left_at : (last : ℕ) (words : List ℕ) (lefts : List (Option ℕ)) (q : ℕ) (d : Option ℕ)

@@ -1,20 +1,12 @@
 -- The amounts of a row, key by key.
-use Rattle.std.proofs.Common.{◌≡◌, ◌≢◌, ℕ, zero, suc, ◌+◌, ◌<◌, ◌≤◌, Bool, true, false, cond, List}
-use Rattle.std.proofs.Common.{[], ◌∷◌, ◌++◌, length, map, get_or, set, replicate, refl, ap, ◌∙◌}
-use Rattle.std.proofs.Common.{sym, arith, get_or-set_same, get_or-set_other}
-use Rattle.std.specs.Prelude.{◌==◌, nat_lt}
-use Rattle.std.specs.List.{AllByRecursion}
-use Rattle.std.proofs.lemmas.List.{get_or_past}
-use Rattle.std.proofs.lemmas.List.Elements.{All-from_recursion}
-use Rattle.vyrd_base.specs.Places.{numbers_below}
-use Rattle.vyrd_base.specs.Amounts.{Amounts, IsAmounts, amount_of, with_amount, given, part_given}
-use Rattle.vyrd_base.proofs.AmountLaws.{amount_of-with_amount, IsAmounts-with_amount}
-use Rattle.vyrd_base.proofs.AmountLaws.{IsAmounts-push, same_amounts}
-use Rattle.vyrd_base.proofs.PlaceLaws.{numbers_below-push}
-use Rattle.vyrd_base.proofs.SumLaws.{given-append, amount_of-collected, given_amount}
-use Rattle.vyrd_base.proofs.TestLaws.{same_of, apart_of, below_of, not_below_of, is_below}
-use Rattle.vyrd_base.proofs.TestLaws.{isnt_below}
-use Rattle.vyrd_spec.specs.Rows.{row_amounts, row_formed}
+use Rattle.vyrd_spec.proofs.Prelude
+use Prelude.{◌≡◌, ◌≢◌, ℕ, zero, suc, ◌+◌, ◌<◌, ◌≤◌, Bool, true, false, cond, List, [], ◌∷◌, ◌++◌}
+use Prelude.{length, map, get_or, set, replicate, refl, ap, ◌∙◌, sym, arith, get_or-set_same}
+use Prelude.{get_or-set_other, ◌==◌, nat_lt, AllByRecursion, get_or_past, All-from_recursion}
+use Prelude.{numbers_below, Amounts, IsAmounts, amount_of, with_amount, given, part_given}
+use Prelude.{amount_of-with_amount, IsAmounts-with_amount, IsAmounts-push, same_amounts}
+use Prelude.{numbers_below-push, given-append, amount_of-collected, given_amount, same_of, apart_of}
+use Prelude.{below_of, not_below_of, is_below, isnt_below, row_amounts, row_formed}
 
 abbrev numbered : (ℕ → ℕ) → ℕ → List (ℕ × ℕ)
 numbered f n = map {B = ℕ × ℕ} (λ h. (h, f h)) (numbers_below n)

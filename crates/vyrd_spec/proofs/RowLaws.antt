@@ -1,15 +1,12 @@
 -- Tests of the numbers in a row, and what is given by each of them.
-use Rattle.std.proofs.Common.{◌≡◌, ◌≢◌, ℕ, zero, suc, ◌+◌, ◌-◌, ◌<◌, ◌≤◌, Bool, true, false, cond}
-use Rattle.std.proofs.Common.{◌&&◌, List, [], ◌∷◌, ◌++◌, map, Option, Some, None, refl, ap, ◌∙◌}
-use Rattle.std.proofs.Common.{arith}
-use Rattle.std.specs.Prelude.{◌==◌, find, count_by, is_some}
-use Rattle.std.specs.Option.{option_or}
-use Rattle.std.specs.List.{list_all}
+use Rattle.vyrd_spec.proofs.Prelude.{◌≡◌, ◌≢◌, ℕ, zero, suc, ◌+◌, ◌-◌, ◌<◌, ◌≤◌, Bool, true, false}
+use Rattle.vyrd_spec.proofs.Prelude.{cond, ◌&&◌, List, [], ◌∷◌, ◌++◌, map, Option, Some, None, refl}
+use Rattle.vyrd_spec.proofs.Prelude.{ap, ◌∙◌, arith, ◌==◌, find, count_by, is_some, option_or}
+use Rattle.vyrd_spec.proofs.Prelude.{list_all, numbers_from, numbers_below, numbers_below-push}
+use Rattle.vyrd_spec.proofs.Prelude.{both_true, same_of, apart_of}
 use Rattle.std.proofs.lemmas.List.Folds.{list_all-append, find-append}
 use Rattle.std.proofs.lemmas.List.Sums.{sum_by-append}
-use Rattle.vyrd_base.specs.Places.{numbers_from, numbers_below}
-use Rattle.vyrd_base.proofs.PlaceLaws.{numbers_below-push, pass_all}
-use Rattle.vyrd_base.proofs.TestLaws.{both_true, same_of, apart_of}
+use Rattle.vyrd_base.proofs.PlaceLaws.{pass_all}
 
 -- one number more that passes
 pub passes_more : (p : ℕ → Bool) (n : ℕ) → list_all p (numbers_below n) ≡ true → p n ≡ true

@@ -1,48 +1,21 @@
 -- By any rules that a charter names what is shown is amounts; a state shows at the start no more
 -- keys
 -- than the words for which it stands; and words show no more than the charter says.
-use Rattle.std.proofs.Common.{◌≡◌, ℕ, zero, suc, ◌+◌, ◌*◌, ◌/◌, ◌≤◌, Bool, true, false, cond}
-use Rattle.std.proofs.Common.{List, [], ◌∷◌, ◌++◌, map, length, Some, None, refl, ap, subst}
-use Rattle.std.proofs.Common.{◌∙◌, sym, arith, length-append}
-use Rattle.std.specs.Prelude.{◌==◌, ◌||◌, not, nat_le, filter, flat_map, option_map, T}
-use Rattle.std.specs.Bool.{then_some}
-use Rattle.std.specs.List.{list_any}
-use Rattle.std.specs.Ordering.{nat_cmp}
-use Rattle.std.specs.FinMap.Entries.{put, is_sorted, length-put}
-use Rattle.std.proofs.Math.Nat.{div-le_self}
-use Rattle.std.proofs.lemmas.Cmp.{nat_cmp_total}
-use Rattle.std.proofs.lemmas.List.Sums.{count_by-le-length, length-filter}
-use Rattle.std.proofs.lemmas.Nat.{mul-le}
-use Rattle.std.proofs.lemmas.Option.{same_Some}
-use Rattle.vyrd_base.specs.declared.header.Header.{Header}
-use Rattle.vyrd_base.specs.declared.subject.Method.{Method}
-use Rattle.vyrd_base.specs.declared.subject.Args.{Args}
-use Rattle.vyrd_base.specs.declared.subject.Subject.{Subject}
-use Rattle.vyrd_base.specs.declared.subject.Subject.TheVariants.{Multiset, Cache, Tree, Buffers}
-use Rattle.vyrd_base.specs.declared.subject.Subject.TheVariants.{Own}
-use Rattle.vyrd_base.specs.Amounts.{Amounts, IsAmounts, amount_of, collected}
-use Rattle.vyrd_base.specs.Amounts.{with_amount}
-use Rattle.vyrd_base.specs.Buffers.{Buffer, buffer_at, buffer_parts}
-use Rattle.vyrd_base.specs.Cache.{Chunk, chunk_at, chunk_parts}
-use Rattle.vyrd_base.specs.Layout.{plain_words, plain_words_of}
-use Rattle.vyrd_base.specs.Multiset.{slot_parts}
-use Rattle.vyrd_base.specs.Own.OwnRules.{own_view, own_shown, own_start}
-use Rattle.vyrd_base.specs.Own.Programs.{Written}
-use Rattle.vyrd_base.specs.Own.Reader.{written_in}
+use Rattle.vyrd_spec.proofs.Prelude
+use Prelude.{◌≡◌, ℕ, zero, suc, ◌+◌, ◌*◌, ◌/◌, ◌≤◌, Bool, true, false, cond, List, [], ◌∷◌, ◌++◌}
+use Prelude.{map, length, Some, None, refl, ap, subst, ◌∙◌, sym, arith, length-append, ◌==◌, ◌||◌}
+use Prelude.{not, nat_le, filter, flat_map, option_map, T, then_some, list_any, nat_cmp, put}
+use Prelude.{is_sorted, length-put, div-le_self, nat_cmp_total, count_by-le-length, length-filter}
+use Prelude.{mul-le, same_Some, Header, Method, Args, Subject, Multiset, Cache, Tree, Buffers, Own}
+use Prelude.{Amounts, IsAmounts, amount_of, collected, with_amount, Buffer, buffer_at, buffer_parts}
+use Prelude.{Chunk, chunk_at, chunk_parts, plain_words, plain_words_of, slot_parts, own_view}
+use Prelude.{own_shown, own_start, Written, written_in, numbers_from, numbers_below, is_sound}
+use Prelude.{State, showing, right_of, entry_parts, node_parts, damage, chain_parts_from, parts_of}
+use Prelude.{view_of_words, no_amounts, length-mapped, IsAmounts-collected, most_shown}
 use Rattle.vyrd_base.specs.Own.Steps.{part_gives, part_words, view_of}
-use Rattle.vyrd_base.specs.Places.{numbers_from, numbers_below}
-use Rattle.vyrd_base.specs.Represented.{is_sound}
 use Rattle.vyrd_base.specs.Rules.{Rules, Charter, built_in, own, rules_by}
-use Rattle.vyrd_base.specs.States.{State, showing}
-use Rattle.vyrd_base.specs.Tree.{right_of, entry_parts, node_parts, damage}
-use Rattle.vyrd_base.specs.Tree.{chain_parts_from}
-use Rattle.vyrd_base.specs.Views.{parts_of, view_of_words}
-use Rattle.vyrd_base.proofs.AmountLaws.{no_amounts}
-use Rattle.vyrd_base.proofs.PlaceLaws.{length-mapped}
 use Rattle.vyrd_base.proofs.StartLaws.{with_free_locks}
-use Rattle.vyrd_base.proofs.SumLaws.{IsAmounts-collected}
 use Rattle.vyrd_spec.proofs.FormedLaws.{formed_next}
-use Rattle.vyrd_spec.specs.Shown.{most_shown}
 
 -- What holds of the rules that a charter names: steps leave amounts, and what is shown is amounts.
 pub record AreFormed (r : Rules) : Type 0 where

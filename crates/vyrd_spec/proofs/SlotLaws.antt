@@ -1,15 +1,9 @@
 -- What the slots of a multiset give.
-use Rattle.std.proofs.Common.{◌≡◌, ◌≢◌, ℕ, ◌+◌, ◌*◌, ◌^◌, ◌<◌, ◌≤◌, Bool, true, false, List, length}
-use Rattle.std.proofs.Common.{refl, arith}
-use Rattle.std.specs.Prelude.{nat_lt, flat_map, slice_index, All}
-use Rattle.std.proofs.lemmas.List.{get_or_past}
-use Rattle.vyrd_base.specs.Places.{numbers_below}
-use Rattle.vyrd_base.specs.Amounts.{Amounts, amount_of, collected, given}
-use Rattle.vyrd_base.specs.Multiset.{slot_parts}
-use Rattle.vyrd_base.proofs.SumLaws.{given_nothing, amount_of-collected}
-use Rattle.vyrd_base.proofs.PartLaws.{slots_at_most}
-use Rattle.vyrd_base.proofs.TestLaws.{below_of, not_below_of, isnt_same}
-use Rattle.vyrd_spec.specs.Bounds.{AllAmounts, most_after}
+use Rattle.vyrd_spec.proofs.Prelude
+use Prelude.{◌≡◌, ◌≢◌, ℕ, ◌+◌, ◌*◌, ◌^◌, ◌<◌, ◌≤◌, Bool, true, false, List, length, refl, arith}
+use Prelude.{nat_lt, flat_map, slice_index, All, get_or_past, numbers_below, Amounts, amount_of}
+use Prelude.{collected, given, slot_parts, given_nothing, amount_of-collected, slots_at_most}
+use Prelude.{below_of, not_below_of, isnt_same, AllAmounts, most_after}
 
 -- a word, and 0 past the words
 small_word : (words : List ℕ) (i : ℕ) → All (λ word. word < 2 ^ 63) words

@@ -1,18 +1,10 @@
 -- The row of what words show, where each part of them is sound.
-use Rattle.std.proofs.Common.{◌≡◌, ℕ, zero, suc, ◌+◌, ◌^◌, ◌<◌, ◌≤◌, Bool, true, false, List, []}
-use Rattle.std.proofs.Common.{◌∷◌, ◌++◌, length, map, get_or, Some, None, refl, ap, ◌∙◌, sym, subst}
-use Rattle.std.proofs.Common.{arith}
-use Rattle.std.specs.Prelude.{◌≢◌, nat_lt, flat_map}
-use Rattle.std.specs.Bool.{then_some}
-use Rattle.std.specs.List.{list_all}
-use Rattle.std.proofs.lemmas.List.{get_or_past}
-use Rattle.vyrd_base.specs.Places.{numbers_from, numbers_below}
-use Rattle.vyrd_base.specs.Amounts.{amount_of, collected}
-use Rattle.vyrd_base.proofs.PlaceLaws.{map_alike, element_below, length_below}
-use Rattle.vyrd_base.proofs.TestLaws.{first_true, second_true, below_of, not_below_of}
-use Rattle.vyrd_base.proofs.TestLaws.{then_some_true, then_some_false}
-use Rattle.vyrd_spec.specs.Bounds.{AllAmounts}
-use Rattle.vyrd_spec.specs.Rows.{row_amounts, sound_row}
+use Rattle.vyrd_spec.proofs.Prelude
+use Prelude.{◌≡◌, ℕ, zero, suc, ◌+◌, ◌^◌, ◌<◌, ◌≤◌, Bool, true, false, List, [], ◌∷◌, ◌++◌, length}
+use Prelude.{map, get_or, Some, None, refl, ap, ◌∙◌, sym, subst, arith, ◌≢◌, nat_lt, flat_map}
+use Prelude.{then_some, list_all, get_or_past, numbers_from, numbers_below, amount_of, collected}
+use Prelude.{map_alike, element_below, length_below, first_true, second_true, below_of}
+use Prelude.{not_below_of, then_some_true, then_some_false, AllAmounts, row_amounts, sound_row}
 use Rattle.vyrd_spec.proofs.RowAmounts.{row_amount}
 use Rattle.vyrd_spec.proofs.RowLaws.{one_fails, each_passes, passes_more, map-push}
 

@@ -1,17 +1,8 @@
 -- When words stand for a state, and for which, of each subject.
-use Rattle.std.proofs.Common.{◌≡◌, ℕ, ◌+◌, ◌≤◌, true, false, ◌++◌, List, length, Some, None, ap}
-use Rattle.std.proofs.Common.{arith}
-use Rattle.std.specs.Prelude.{replicate, option_map}
-use Rattle.vyrd_base.specs.Subjects.{is_built_in}
-use Rattle.vyrd_base.specs.declared.header.Header.{Header}
-use Rattle.vyrd_base.specs.declared.subject.Subject.{Subject}
-use Rattle.vyrd_base.specs.Layout.{plain_words, lock_words}
-use Rattle.vyrd_base.specs.Amounts.{Amounts, collected}
-use Rattle.vyrd_base.specs.States.{showing}
-use Rattle.vyrd_base.specs.Views.{parts_of, view_of_words}
-use Rattle.vyrd_base.specs.Represented.{is_sound, state_of_words}
-use Rattle.vyrd_base.specs.Specification.{start}
-use Rattle.vyrd_base.proofs.HeaderLaws.{low_size}
+use Rattle.vyrd_spec.proofs.Prelude.{◌≡◌, ℕ, ◌+◌, ◌≤◌, true, false, ◌++◌, List, length, Some, None}
+use Rattle.vyrd_spec.proofs.Prelude.{ap, arith, replicate, option_map, is_built_in, Header, Subject}
+use Rattle.vyrd_spec.proofs.Prelude.{plain_words, lock_words, Amounts, collected, showing, parts_of}
+use Rattle.vyrd_spec.proofs.Prelude.{view_of_words, is_sound, state_of_words, start, low_size}
 use Rattle.vyrd_base.proofs.StartLaws.{with_free_locks, zeroed_words}
 
 -- words that aren't sound stand for no state

@@ -1,16 +1,11 @@
 -- What the steps of each structure keep of a state, and lemmas that serve all of them.
-use Rattle.std.proofs.Common.{◌≡◌, ℕ, zero, suc, Bool, true, false, cond, not, ◌||◌, List, []}
-use Rattle.std.proofs.Common.{Option, Some, None, refl, ap, ◌∙◌, sym, subst}
-use Rattle.std.specs.Prelude.{◌==◌, ◌≢◌, IfSome}
-use Rattle.std.specs.Bool.{then_some}
-use Rattle.std.proofs.lemmas.Option.{same_Some}
-use Rattle.vyrd_base.specs.declared.subject.Args.{Args}
-use Rattle.vyrd_base.specs.Amounts.{Amounts, IsAmounts, amount_of, with_amount, is_present}
+use Rattle.vyrd_spec.proofs.Prelude.{◌≡◌, ℕ, zero, suc, Bool, true, false, cond, not, ◌||◌, List}
+use Rattle.vyrd_spec.proofs.Prelude.{[], Option, Some, None, refl, ap, ◌∙◌, sym, subst, ◌==◌, ◌≢◌}
+use Rattle.vyrd_spec.proofs.Prelude.{IfSome, then_some, same_Some, Args, Amounts, IsAmounts}
+use Rattle.vyrd_spec.proofs.Prelude.{amount_of, with_amount, is_present, amount_of-with_amount}
+use Rattle.vyrd_spec.proofs.Prelude.{IsAmounts-with_amount, no_amounts, same_of, flipped}
+use Rattle.vyrd_spec.proofs.Prelude.{same_number, AllAmounts, is_touched, CanChange}
 use Rattle.vyrd_base.specs.Structures.{Structure, by_reply}
-use Rattle.vyrd_base.proofs.AmountLaws.{amount_of-with_amount, IsAmounts-with_amount, no_amounts}
-use Rattle.vyrd_base.proofs.TestLaws.{same_of, flipped, same_number}
-use Rattle.vyrd_spec.specs.Bounds.{AllAmounts}
-use Rattle.vyrd_spec.specs.Touching.{is_touched, CanChange}
 
 -- What every structure meets. A step leaves amounts, and the keys that its call doesn't touch; what
 -- is answered goes by the amount of the first argument's key alone; and each key that a call

@@ -1,18 +1,14 @@
 -- What the trait asks of a step, of the specifications that are built in: the touched keys, and the
 -- answers that stay.
-use Rattle.std.proofs.Common.{◌≡◌, ℕ, Bool, true, false, cond, ◌||◌, List, [], ◌∷◌, Some, refl, ap}
-use Rattle.std.proofs.Common.{◌∙◌, sym}
-use Rattle.std.specs.Prelude.{◌==◌}
-use Rattle.vyrd_base.specs.declared.subject.Method.{Method}
+use Rattle.vyrd_spec.proofs.Prelude
+use Prelude.{◌≡◌, ℕ, Bool, true, false, cond, ◌||◌, List, [], ◌∷◌, Some, refl, ap, ◌∙◌, sym, ◌==◌}
+use Prelude.{Method, Args, Amounts, IsAmounts, amount_of, with_amount, amount_of-with_amount}
+use Prelude.{IsAmounts-with_amount, same_amounts, same_of, flipped, same_number}
+use Rattle.vyrd_base.specs.declared.subject.Method.TheVariants.{OwnNever, OwnAtMostOnce, OwnOnce}
 use Rattle.vyrd_base.specs.declared.subject.Method.TheVariants.{Multiset as OfMultiset}
 use Rattle.vyrd_base.specs.declared.subject.Method.TheVariants.{Cache as OfCache, Tree as OfTree}
 use Rattle.vyrd_base.specs.declared.subject.Method.TheVariants.{Buffers as OfBuffers}
-use Rattle.vyrd_base.specs.declared.subject.Method.TheVariants.{OwnNever, OwnAtMostOnce, OwnOnce}
-use Rattle.vyrd_base.specs.declared.subject.Args.{Args}
-use Rattle.vyrd_base.specs.Amounts.{Amounts, IsAmounts, amount_of, with_amount}
 use Rattle.vyrd_base.specs.Specification.{next_state, answer_in}
-use Rattle.vyrd_base.proofs.AmountLaws.{amount_of-with_amount, IsAmounts-with_amount, same_amounts}
-use Rattle.vyrd_base.proofs.TestLaws.{same_of, flipped, same_number}
 use Rattle.vyrd_spec.specs.Touching.{touched_by, is_touched, with_touched, CanChange}
 use Rattle.vyrd_spec.proofs.MultisetSteps.{multiset_steps}
 use Rattle.vyrd_spec.proofs.CacheSteps.{cache_steps}

@@ -1,8 +1,6 @@
 -- The loops over a text and over a buffer's characters, one step at a time.
-use Rattle.std.proofs.Common.{ℕ, ◌+◌, ◌*◌, ◌^◌, ◌<◌, ◌≤◌}
-use Rattle.vyrd_base.specs.Buffers.{text_length}
-use Rattle.vyrd_base.proofs.TestLaws.{is_at_most}
-use Rattle.vyrd_base.proofs.TextLaws.{joined_below}
+use Rattle.vyrd_spec.proofs.Prelude.{ℕ, ◌+◌, ◌*◌, ◌^◌, ◌<◌, ◌≤◌, text_length, is_at_most}
+use Rattle.vyrd_spec.proofs.Prelude.{joined_below}
 
 -- what the sum of two texts stays below
 pub sum_below : (text more : ℕ) → text < 256 ^ 7 → more < 256 ^ 7 → text_length text

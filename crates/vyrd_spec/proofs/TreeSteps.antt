@@ -1,21 +1,13 @@
 -- The steps of the tree.
-use Rattle.std.proofs.Common.{◌≡◌, ℕ, ◌+◌, ◌^◌, ◌<◌, ◌≤◌, true, false, not, [], Some, refl, ap}
-use Rattle.std.proofs.Common.{arith}
-use Rattle.std.specs.Bool.{then_some}
-use Rattle.vyrd_base.specs.declared.tree.TreeMethod.{TreeMethod}
+use Rattle.vyrd_spec.proofs.Prelude
+use Prelude.{◌≡◌, ℕ, ◌+◌, ◌^◌, ◌<◌, ◌≤◌, true, false, not, [], Some, refl, ap, arith, then_some}
+use Prelude.{TreeMethod, Args, Amounts, IsAmounts, amount_of, is_present, with_amount, tree}
+use Prelude.{IsAmounts-with_amount, no_amounts, AllAmounts, is_touched, CanChange}
 use Rattle.vyrd_base.specs.declared.tree.TreeMethod.TheVariants.{Insert, Delete, Lookup}
-use Rattle.vyrd_base.specs.declared.subject.Args.{Args}
-use Rattle.vyrd_base.specs.Amounts.{Amounts, IsAmounts, amount_of, is_present, with_amount}
-use Rattle.vyrd_base.specs.Tree.{tree}
-use Rattle.vyrd_base.proofs.AmountLaws.{IsAmounts-with_amount, no_amounts}
-use Rattle.vyrd_spec.specs.Bounds.{AllAmounts}
-use Rattle.vyrd_spec.specs.Touching.{is_touched, CanChange}
 use Rattle.vyrd_spec.specs.Touching.Tree.{touches}
 use Rattle.vyrd_spec.proofs.StepLaws.{StepsWell, Stays, by_replies, where_allowed, other_key}
-use Rattle.vyrd_spec.proofs.StepLaws.{or_false}
-use Rattle.vyrd_spec.proofs.StepLaws.{of_first, set_amount, lone, lone_amount, lone_formed}
-use Rattle.vyrd_spec.proofs.StepLaws.{lone_present}
-use Rattle.vyrd_spec.proofs.StepLaws.{AllAmounts-with_amount}
+use Rattle.vyrd_spec.proofs.StepLaws.{or_false, of_first, set_amount, lone, lone_amount}
+use Rattle.vyrd_spec.proofs.StepLaws.{lone_formed, lone_present, AllAmounts-with_amount}
 
 -- a step leaves amounts
 formed : (method : TreeMethod) (args : Args) (reply : ℕ) (s t : Amounts) → IsAmounts s

@@ -1,18 +1,13 @@
 -- What it says of words that they are a tree's, and what of each of its nodes.
-use Rattle.std.proofs.Common.{◌≡◌, ◌≢◌, ℕ, ◌+◌, ◌<◌, ◌≤◌, Bool, true, false, not, ◌&&◌, ◌||◌, List}
-use Rattle.std.proofs.Common.{Some, refl, ap, ◌∙◌, sym, arith}
-use Rattle.std.specs.Prelude.{◌==◌, nat_lt, nat_le, count_by}
+use Rattle.vyrd_spec.proofs.Prelude
+use Prelude.{◌≡◌, ◌≢◌, ℕ, ◌+◌, ◌<◌, ◌≤◌, Bool, true, false, not, ◌&&◌, ◌||◌, List, Some, refl, ap}
+use Prelude.{◌∙◌, sym, arith, ◌==◌, nat_lt, nat_le, count_by, list_all, level_of, bound_of}
+use Prelude.{right_of, entries_of, root_of, last_of, nodes, leads_to, left_of, low_of, is_linked}
+use Prelude.{has_sound_keys, is_leaf_entry, first_true, second_true, at_most_of, below_of, is_below}
+use Prelude.{is_at_most, is_same, isnt_same, same_of, have_one_left, is_sound_below}
 use Rattle.std.specs.Option.{option_map_or}
-use Rattle.std.specs.List.{list_all}
-use Rattle.vyrd_base.specs.Tree.{level_of, bound_of, right_of, entries_of}
-use Rattle.vyrd_base.specs.Tree.{root_of, last_of, nodes, leads_to, left_of, is_first, low_of}
-use Rattle.vyrd_base.specs.Tree.{is_linked, is_bounded, has_sound_keys, begins_with}
-use Rattle.vyrd_base.specs.Tree.{is_leaf_entry, has_sound_entries, is_only_first}
-use Rattle.vyrd_base.specs.Tree.{is_sound_node, is_tree}
-use Rattle.vyrd_base.proofs.TestLaws.{first_true, second_true, at_most_of, below_of, is_below}
-use Rattle.vyrd_base.proofs.TestLaws.{is_at_most, is_same, isnt_same, same_of}
-use Rattle.vyrd_spec.specs.Neighbours.{have_one_left}
-use Rattle.vyrd_spec.specs.NodeKeys.{is_sound_below}
+use Rattle.vyrd_base.specs.Tree.{is_first, is_bounded, begins_with, has_sound_entries}
+use Rattle.vyrd_base.specs.Tree.{is_only_first, is_sound_node, is_tree}
 use Rattle.vyrd_spec.proofs.RowLaws.{all_pass, each_passes, only_found}
 
 -- the five rules of a node

@@ -1,37 +1,31 @@
 -- What is called in the execution of the entry at a place, and what its commit does to the state.
-use Rattle.std.proofs.Common.{◌≡◌, ℕ, ◌+◌, Bool, true, false, cond, List, [], ◌∷◌, length}
-use Rattle.std.proofs.Common.{take, drop, Option, Some, None, slice_get, refl, ap, subst, ◌∙◌, sym}
-use Rattle.std.specs.Prelude.{◌==◌, option_and_then, option_map}
-use Rattle.std.specs.Option.{option_or, option_flatten}
+use Rattle.vyrd_states.proofs.Prelude
+use Prelude.{◌≡◌, ℕ, ◌+◌, Bool, true, false, cond, List, [], ◌∷◌, length, take, drop, Option, Some}
+use Prelude.{None, slice_get, refl, ap, subst, ◌∙◌, sym, ◌==◌, option_and_then, option_or, Header}
+use Prelude.{Entry, Called, entries_before_call, place_of, newest_first, first_answer, Rules, State}
+use Prelude.{Execution, execution_in, called_by, state_by, state_past}
+use Rattle.std.specs.Prelude.{option_map}
+use Rattle.std.specs.Option.{option_flatten}
 use Rattle.std.proofs.lemmas.List.{take-append-drop}
 use Rattle.std.proofs.lemmas.Option.{same_Some}
-use Rattle.vyrd_base.specs.declared.header.Header.{Header}
-use Rattle.vyrd_base.specs.declared.log.Entry.{Entry}
 use Rattle.vyrd_base.specs.declared.log.Kind.{Kind}
 use Rattle.vyrd_base.specs.declared.log.Kind.TheVariants.{Call, Return, Write, Commit, BlockOpen}
 use Rattle.vyrd_base.specs.declared.log.Kind.TheVariants.{BlockClose, BlockCommit}
-use Rattle.vyrd_base.specs.Callers.{Called, open_call, by_caller, call_or_return}
-use Rattle.vyrd_base.specs.Callers.{entries_before_call}
+use Rattle.vyrd_base.specs.Callers.{open_call, by_caller, call_or_return}
 use Rattle.vyrd_base.specs.Commits.{next_reply, returned, committed_at, state_after}
-use Rattle.vyrd_base.specs.Entries.{has_method, place_of}
+use Rattle.vyrd_base.specs.Entries.{has_method}
 use Rattle.vyrd_base.specs.Front.{first_break, WellFormed}
-use Rattle.vyrd_base.specs.Places.{newest_first, first_answer}
-use Rattle.vyrd_base.specs.Rules.{Rules}
 use Rattle.vyrd_base.specs.Shape.{broken_rule}
-use Rattle.vyrd_base.specs.States.{State}
 use Rattle.vyrd_base.specs.Subjects.{is_observer}
 use Rattle.vyrd_base.proofs.BlockLaws.{entry, by_same, own_answer}
-use Rattle.vyrd_base.proofs.CommitLaws.{Commits, alone, with_block, commits_is}
-use Rattle.vyrd_base.proofs.CommitLaws.{commits_unreturned}
+use Rattle.vyrd_base.proofs.CommitLaws.{Commits, alone, with_block, commits_is, commits_unreturned}
 use Rattle.vyrd_base.proofs.KeptLaws.{call_kept, commit_kept, block_commit_runs, rules_at}
 use Rattle.vyrd_base.proofs.ListLaws.{both_none}
 use Rattle.vyrd_base.proofs.ShadowLaws.{well_formed-first_break}
 use Rattle.vyrd_base.proofs.StateLaws.{open_call-other, next_reply-quiet}
 use Rattle.vyrd_base.proofs.VerdictLaws.{first_break-append}
-use Rattle.vyrd_witness.specs.declared.execution.Execution.{Execution}
 use Rattle.vyrd_witness.specs.declared.execution.Returned.{Returned}
-use Rattle.vyrd_witness.specs.Executions.{execution_in, next_return}
-use Rattle.vyrd_states.specs.Running.{called_by, state_by, state_past}
+use Rattle.vyrd_witness.specs.Executions.{next_return}
 use Rattle.vyrd_states.proofs.KnownLaws.{later_is}
 
 -- an entry of the caller calls what may be called, or goes on with what may be

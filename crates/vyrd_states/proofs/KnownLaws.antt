@@ -1,25 +1,17 @@
 -- The state at a place of a front, one entry more.
-use Rattle.std.proofs.Common.{◌≡◌, ℕ, zero, suc, ◌+◌, ◌-◌, ◌<◌, ◌≤◌, Bool, true, false, cond, List}
-use Rattle.std.proofs.Common.{[]}
-use Rattle.std.proofs.Common.{◌∷◌, length, take, drop, Option, Some, None, slice_get, refl}
-use Rattle.std.proofs.Common.{ap, subst, ◌∙◌, sym, arith, drop-cons}
-use Rattle.std.specs.Prelude.{option_and_then}
+use Rattle.vyrd_states.proofs.Prelude.{option_and_then, Entry, StartWord, place_of, newest_first}
+use Rattle.vyrd_states.proofs.Prelude.{Rules, state_at_start, State, state_then, state_past}
+use Rattle.std.proofs.Common.{drop-cons, ◌≡◌, ℕ, zero, suc, ◌+◌, ◌-◌, ◌<◌, ◌≤◌, Bool, true, false}
+use Rattle.std.proofs.Common.{cond, List, [], ◌∷◌, length, take, drop, Option, Some, None}
+use Rattle.std.proofs.Common.{slice_get, refl, ap, subst, ◌∙◌, sym, arith}
 use Rattle.std.proofs.lemmas.Option.{slice_get_within, get_or_from_slice_get, slice_get_past}
-use Rattle.vyrd_base.specs.declared.log.Entry.{Entry}
-use Rattle.vyrd_base.specs.declared.log.StartWord.{StartWord}
-use Rattle.vyrd_base.specs.Commits.{is_commit, commits, commit_count, commits_after}
-use Rattle.vyrd_base.specs.Commits.{committed_at, state_after, states_from, states_of}
-use Rattle.vyrd_base.specs.Entries.{place_of}
-use Rattle.vyrd_base.specs.Places.{newest_first}
-use Rattle.vyrd_base.specs.Rules.{Rules}
-use Rattle.vyrd_base.specs.Starts.{state_at_start}
-use Rattle.vyrd_base.specs.States.{State}
+use Rattle.vyrd_base.specs.Commits.{is_commit, commits, commit_count, commits_after, committed_at}
+use Rattle.vyrd_base.specs.Commits.{state_after, states_from, states_of}
 use Rattle.vyrd_base.specs.Verdicts.{states_along}
 use Rattle.vyrd_base.proofs.FrontLaws.{newest_next}
 use Rattle.vyrd_base.proofs.StateLaws.{state_here, going-quiet, going-commit, ending-commit}
 use Rattle.vyrd_base.proofs.StateLaws.{count-quiet, count-commit}
-use Rattle.vyrd_states.specs.Known.{state_then}
-use Rattle.vyrd_states.specs.Running.{state_beyond, state_past}
+use Rattle.vyrd_states.specs.Running.{state_beyond}
 
 -- the states go on from this one, if it is known, and otherwise they have ended
 GoesOn : Rules → List State → List Entry → List Entry → Option State → Type 0

@@ -1,10 +1,7 @@
 -- The built-in structures refuse each reply from 3 on.
-use Rattle.std.proofs.Common.{arith, ◌≡◌, ℕ, ◌≤◌, suc, None}
-use Rattle.vyrd_base.specs.declared.header.Header.{Header}
+use Rattle.vyrd_states.proofs.Prelude.{arith, ◌≡◌, ℕ, ◌≤◌, suc, None, Header, Method, rules_of}
+use Rattle.vyrd_states.proofs.Prelude.{State}
 use Rattle.vyrd_base.specs.declared.subject.Args.{Args}
-use Rattle.vyrd_base.specs.declared.subject.Method.{Method}
-use Rattle.vyrd_base.specs.Rules.{rules_of}
-use Rattle.vyrd_base.specs.States.{State}
 
 refused_above_2 : (h : Header) (method : Method) (args : Args) (more : ℕ) (state : State)
     → (rules_of h).next method args (suc (suc (suc more))) state ≡ None

@@ -1,23 +1,10 @@
 -- The replies that a state allows, one more.
-use Rattle.std.proofs.Common.{◌≡◌, ℕ, ◌+◌, Bool, true, false, cond, List, [], ◌∷◌, ◌++◌, map}
-use Rattle.std.proofs.Common.{Option, Some, None, refl, ap, ◌∙◌, sym, append-nil}
-use Rattle.std.proofs.Common.{append_assoc, slice_get}
-use Rattle.std.specs.Prelude.{is_some, filter}
-use Rattle.std.specs.Option.{option_map_or}
-use Rattle.vyrd_base.specs.declared.log.Entry.{Entry}
-use Rattle.vyrd_base.specs.declared.log.StartWord.{StartWord}
-use Rattle.vyrd_base.specs.Callers.{Called}
-use Rattle.vyrd_base.specs.Places.{numbers_below}
-use Rattle.vyrd_base.specs.Rules.{Rules}
-use Rattle.vyrd_base.specs.States.{State}
-use Rattle.vyrd_base.proofs.PlaceLaws.{numbers_below-push}
-use Rattle.vyrd_witness.specs.declared.item.Item.{Item}
-use Rattle.vyrd_witness.specs.declared.item.Item.TheVariants.{Allowed}
-use Rattle.vyrd_witness.specs.declared.execution.Execution.{Execution}
-use Rattle.vyrd_witness.specs.Executions.{execution_in}
-use Rattle.vyrd_states.specs.Known.{state_then}
-use Rattle.vyrd_states.specs.Replies.{called_at, before_items, call_items, reply_items}
-use Rattle.vyrd_states.specs.Running.{called_by}
+use Rattle.vyrd_states.proofs.Prelude
+use Prelude.{◌≡◌, ℕ, ◌+◌, Bool, true, false, cond, List, [], ◌∷◌, ◌++◌, map, Option, Some, None}
+use Prelude.{refl, ap, ◌∙◌, sym, append-nil, append_assoc, slice_get, is_some, filter}
+use Prelude.{option_map_or, Entry, StartWord, Called, numbers_below, Rules, State}
+use Prelude.{numbers_below-push, Item, Allowed, Execution, execution_in, state_then, called_at}
+use Prelude.{before_items, call_items, reply_items, called_by}
 use Rattle.vyrd_states.proofs.CallLaws.{execution_is, no_execution}
 
 -- the replies below a number that a state allows, if it is known

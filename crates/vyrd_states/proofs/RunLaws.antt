@@ -1,11 +1,7 @@
 -- What runs along a front stays in the state there.
-use Rattle.std.proofs.Common.{◌≡◌, ℕ, ◌+◌, ◌<◌, ◌≤◌, List, length, Some, None, arith}
-use Rattle.vyrd_base.specs.declared.log.Entry.{Entry}
-use Rattle.vyrd_base.specs.declared.log.StartWord.{StartWord}
-use Rattle.vyrd_base.specs.Rules.{Charter, rules_by}
-use Rattle.vyrd_base.specs.Starts.{state_at_start}
-use Rattle.vyrd_states.specs.Known.{state_then}
-use Rattle.vyrd_states.specs.Running.{LeadsTo, IsKnown, Run, state_past}
+use Rattle.vyrd_states.proofs.Prelude.{◌≡◌, ℕ, ◌+◌, ◌<◌, ◌≤◌, List, length, Some, None, arith}
+use Rattle.vyrd_states.proofs.Prelude.{Entry, StartWord, Charter, rules_by, state_at_start}
+use Rattle.vyrd_states.proofs.Prelude.{state_then, LeadsTo, IsKnown, Run, state_past}
 use Rattle.vyrd_states.proofs.KnownLaws.{state_then-first, state_then-next, unknown_past}
 
 -- what begins is in the state at the start

@@ -1,16 +1,12 @@
 -- The words at the start are small, so that a specification can start from them.
-use Rattle.std.proofs.Common.{◌≡◌, ℕ, zero, suc, ◌+◌, ◌<◌, ◌^◌, Bool, true, false, cond, List, []}
-use Rattle.std.proofs.Common.{◌∷◌, ◌++◌, map, Option, Some, None, ap, arith}
-use Rattle.std.specs.Prelude.{◌==◌, All, unwrap_or, option_map, replicate}
-use Rattle.std.specs.Option.{option_or}
+use Rattle.vyrd_states.proofs.Prelude.{◌≡◌, ℕ, zero, suc, ◌+◌, ◌<◌, ◌^◌, Bool, true, false, cond}
+use Rattle.vyrd_states.proofs.Prelude.{List, [], ◌∷◌, ◌++◌, map, Option, Some, None, ap, arith}
+use Rattle.vyrd_states.proofs.Prelude.{◌==◌, All, option_or, Header, StartWord, numbers_from}
+use Rattle.vyrd_states.proofs.Prelude.{first_answer, rules_of, state_at_start}
+use Rattle.std.specs.Prelude.{unwrap_or, option_map, replicate}
 use Rattle.std.proofs.lemmas.List.Elements.{All-nil, All-cons}
-use Rattle.vyrd_base.specs.declared.header.Header.{Header}
-use Rattle.vyrd_base.specs.declared.log.StartWord.{StartWord}
 use Rattle.vyrd_base.specs.Layout.{lock_words}
-use Rattle.vyrd_base.specs.Places.{numbers_from, first_answer}
-use Rattle.vyrd_base.specs.Rules.{rules_of}
 use Rattle.vyrd_base.specs.Starts.{is_out_of_range, do_follow, may_start, words_at_start}
-use Rattle.vyrd_base.specs.Starts.{state_at_start}
 use Rattle.vyrd_base.specs.States.{showing}
 use Rattle.vyrd_base.specs.Represented.{state_of_words}
 use Rattle.vyrd_base.specs.Words.{given_to, value_at_start}

@@ -1,22 +1,11 @@
 -- The answers to a call, one entry more.
-use Rattle.std.proofs.Common.{◌≡◌, ℕ, zero, suc, ◌+◌, ◌-◌, ◌<◌, ◌≤◌, Bool, cond, List}
-use Rattle.std.proofs.Common.{[], ◌∷◌, ◌++◌, length, take, Option, Some, None, refl, ap}
-use Rattle.std.proofs.Common.{◌∙◌, sym, arith, append-nil, append_assoc}
-use Rattle.std.specs.Prelude.{◌==◌, ◌&&◌, option_map}
-use Rattle.std.proofs.lemmas.List.{length-take}
-use Rattle.vyrd_base.specs.declared.log.Entry.{Entry}
-use Rattle.vyrd_base.specs.declared.log.StartWord.{StartWord}
-use Rattle.vyrd_base.specs.declared.subject.Method.{Method}
-use Rattle.vyrd_base.specs.Callers.{Called, is_call, entries_before_call}
-use Rattle.vyrd_base.specs.Places.{newest_first, numbers_from}
-use Rattle.vyrd_base.specs.Rules.{Rules}
-use Rattle.vyrd_base.specs.States.{State}
-use Rattle.vyrd_base.proofs.PlaceLaws.{length-newest_first}
-use Rattle.vyrd_witness.specs.declared.execution.Execution.{Execution}
-use Rattle.vyrd_witness.specs.declared.item.Item.{Item}
-use Rattle.vyrd_witness.specs.Executions.{execution_in}
-use Rattle.vyrd_states.specs.Known.{state_then}
-use Rattle.vyrd_states.specs.Windows.{answer_after, answer_items, answers_along, call_of}
+use Rattle.vyrd_states.proofs.Prelude
+use Prelude.{◌≡◌, ℕ, zero, suc, ◌+◌, ◌-◌, ◌<◌, ◌≤◌, Bool, cond, List, [], ◌∷◌, ◌++◌, length, take}
+use Prelude.{Option, Some, None, refl, ap, ◌∙◌, sym, arith, append-nil, append_assoc, ◌==◌, ◌&&◌}
+use Prelude.{length-take, Entry, StartWord, Method, Called, is_call, entries_before_call}
+use Prelude.{newest_first, numbers_from, Rules, State, length-newest_first, Execution, Item}
+use Prelude.{execution_in, state_then, answer_after, answer_items, answers_along, call_of}
+use Rattle.std.specs.Prelude.{option_map}
 use Rattle.vyrd_states.proofs.CallLaws.{execution_is}
 use Rattle.vyrd_states.proofs.KnownLaws.{unknown_past}
 

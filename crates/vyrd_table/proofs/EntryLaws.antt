@@ -1,23 +1,19 @@
 -- Laws of values by key.
-use Rattle.std.proofs.Common.{◌≡◌, ℕ, Bool, true, false, cond, not, List, [], ◌∷◌, Option, Some}
-use Rattle.std.proofs.Common.{None, refl, ap, ◌∙◌, sym, T, arith, length, ◌+◌, ◌≤◌}
-use Rattle.std.specs.Prelude.{◌==◌, filter, is_some}
-use Rattle.std.specs.Ordering.{nat_cmp, eq_by_cmp, is_lt, match_ordering}
-use Rattle.std.specs.declared.cmp.Ordering.{Ordering}
-use Rattle.std.specs.declared.cmp.Ordering.TheVariants.{Less, Equal, Greater}
+use Rattle.vyrd_table.proofs.Prelude
+use Prelude.{◌≡◌, ℕ, Bool, true, false, cond, not, List, [], ◌∷◌, Option, Some, None, refl, ap, ◌∙◌}
+use Prelude.{sym, T, arith, length, ◌+◌, ◌≤◌, ◌==◌, filter, nat_cmp, is_lt, Ordering, Less, Equal}
+use Prelude.{Greater, unsigned_tied, nat_tests, nat_cmp_total, find, put, by_order, find-put}
+use Prelude.{below_all, is_sorted, first_of_and, second_of_and, IsEntries, value_of, with_value}
+use Rattle.std.specs.Prelude.{is_some}
+use Rattle.std.specs.Ordering.{eq_by_cmp, match_ordering}
 use Rattle.std.specs.Map.{lookup, remove_entry}
 use Rattle.std.specs.BTreeMap.{insert_entry, is_at}
-use Rattle.std.specs.Cmp.{unsigned_tied}
-use Rattle.std.proofs.lemmas.Bool.Decides.{nat_tests}
-use Rattle.std.proofs.lemmas.Cmp.{nat_cmp_total}
 use Rattle.std.proofs.lemmas.Option.{same_Some}
 use Rattle.std.specs.FinMap.{nat_cmp-IsAntisymmetric}
-use Rattle.std.specs.FinMap.Entries.{find, put, by_order, find-put, find-where_key, is_sorted-put}
-use Rattle.std.specs.FinMap.Entries.{is_sorted-where_key, same_entries, length-put, below_all}
-use Rattle.std.specs.FinMap.Entries.{is_sorted}
+use Rattle.std.specs.FinMap.Entries.{find-where_key, is_sorted-put, is_sorted-where_key}
+use Rattle.std.specs.FinMap.Entries.{same_entries, length-put}
 use Rattle.std.specs.List.{AllByRecursion}
-use Rattle.vyrd_base.proofs.AmountLaws.{isnt, first_of_and, second_of_and}
-use Rattle.vyrd_table.specs.Entries.{IsEntries, value_of, with_value}
+use Rattle.vyrd_base.proofs.AmountLaws.{isnt}
 
 alike : (k q x : ℕ) → nat_cmp q x ≡ Equal → isnt k x ≡ isnt k q
 alike k q x e = ap (isnt k) (sym (nat_cmp-IsAntisymmetric q x e))

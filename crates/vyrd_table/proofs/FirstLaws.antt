@@ -1,15 +1,9 @@
 -- The first of the keys whose values pass a test.
-use Rattle.std.proofs.Common.{◌≡◌, ℕ, ◌<◌, ◌≤◌, Bool, true, false, cond, List, [], ◌∷◌, Option}
-use Rattle.std.proofs.Common.{Some, None, refl, ap, ◌∙◌, sym, subst, arith, T, min}
-use Rattle.std.specs.Prelude.{◌==◌, unwrap_or, nat_le}
-use Rattle.std.specs.Ordering.{nat_cmp, is_lt}
-use Rattle.std.specs.FinMap.Entries.{find, below_all, is_sorted}
-use Rattle.std.specs.Cmp.{unsigned_tied}
-use Rattle.std.proofs.lemmas.Bool.Decides.{nat_tests}
-use Rattle.vyrd_base.proofs.AmountLaws.{first_of_and, second_of_and}
-use Rattle.vyrd_base.proofs.TestLaws.{same_of, is_same, isnt_same}
-use Rattle.vyrd_table.specs.Entries.{value_of, with_value}
-use Rattle.vyrd_table.specs.First.{IsFirst, IsFirstOf, lesser}
+use Rattle.vyrd_table.proofs.Prelude
+use Prelude.{◌≡◌, ℕ, ◌<◌, ◌≤◌, Bool, true, false, cond, List, [], ◌∷◌, Option, Some, None, refl, ap}
+use Prelude.{◌∙◌, sym, subst, arith, T, min, ◌==◌, unwrap_or, nat_le, nat_cmp, is_lt, find}
+use Prelude.{below_all, is_sorted, unsigned_tied, nat_tests, first_of_and, second_of_and, same_of}
+use Prelude.{is_same, isnt_same, value_of, with_value, IsFirst, IsFirstOf, lesser}
 use Rattle.vyrd_table.proofs.EntryLaws.{value_of-with_value}
 
 is_greater : (k q : ℕ) → T (is_lt (nat_cmp k q)) → k < q

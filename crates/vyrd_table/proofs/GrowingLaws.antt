@@ -1,12 +1,8 @@
 -- What growing costs, and what a table has saved by then.
-use Rattle.std.proofs.Common.{◌≡◌, ℕ, zero, suc, Bool, ◌+◌, ◌*◌, ◌/◌, ◌^◌, ◌<◌, ◌≤◌, min, ap, ◌∙◌}
-use Rattle.std.proofs.Common.{arith}
-use Rattle.std.proofs.Math.Pow.{pow_mono}
-use Rattle.vyrd_base.proofs.TestLaws.{below_of}
-use Rattle.vyrd_table.specs.Prices.{moving_price, growing_share, first_room}
-use Rattle.vyrd_table.specs.Growing.{HasRoom, IsTable}
-use Rattle.vyrd_table.specs.Placed.{ArePlaced, names_of}
-use Rattle.vyrd_table.specs.declared.places.Places.{Places}
+use Rattle.vyrd_table.proofs.Prelude.{◌≡◌, ℕ, zero, suc, Bool, ◌+◌, ◌*◌, ◌/◌, ◌^◌, ◌<◌, ◌≤◌, min}
+use Rattle.vyrd_table.proofs.Prelude.{ap, ◌∙◌, arith, pow_mono, below_of, moving_price}
+use Rattle.vyrd_table.proofs.Prelude.{growing_share, first_room, HasRoom, IsTable, ArePlaced}
+use Rattle.vyrd_table.proofs.Prelude.{names_of, Places}
 use Rattle.vyrd_table.proofs.PriceLaws.{doubled}
 
 -- powers of two from 2^2 on are divided by 4

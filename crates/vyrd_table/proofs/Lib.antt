@@ -1,3 +1,4 @@
+mod Prelude
 pub mod EntryLaws
 pub mod FirstLaws
 pub mod GrowingLaws

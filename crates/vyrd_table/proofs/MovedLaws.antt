@@ -1,20 +1,11 @@
 -- What places have whose keys come to a table one by one.
-use Rattle.std.proofs.Common.{◌≡◌, ◌≢◌, ℕ, zero, suc, ◌+◌, ◌<◌, ◌≤◌, Bool, true, false, cond, not}
-use Rattle.std.proofs.Common.{List, [], ◌∷◌, Option, Some, None, length, refl, ap, ◌∙◌, sym, arith}
-use Rattle.std.proofs.Common.{take, T}
-use Rattle.std.specs.Prelude.{◌==◌, count_by}
-use Rattle.std.specs.Option.{option_or}
-use Rattle.std.specs.Ordering.{nat_cmp, is_lt}
-use Rattle.std.specs.FinMap.Entries.{find, put, below_all, is_sorted}
-use Rattle.std.specs.Cmp.{unsigned_tied}
-use Rattle.std.proofs.lemmas.Bool.Decides.{nat_tests}
-use Rattle.std.proofs.lemmas.List.Sums.{count_by_more_no, count_by_more_yes, sum_by-cons}
-use Rattle.std.proofs.lemmas.List.Sums.{sum_by-take-le}
-use Rattle.vyrd_base.proofs.AmountLaws.{first_of_and, second_of_and}
-use Rattle.vyrd_base.proofs.TestLaws.{same_of}
-use Rattle.vyrd_table.specs.Entries.{IsEntries, with_value}
-use Rattle.vyrd_table.specs.Places.{is_taken, is_named, one_name, place_at, ArePlaces, AreNew}
-use Rattle.vyrd_table.specs.Places.{entries_in}
+use Rattle.vyrd_table.proofs.Prelude
+use Prelude.{◌≡◌, ◌≢◌, ℕ, zero, suc, ◌+◌, ◌<◌, ◌≤◌, Bool, true, false, cond, not, List, [], ◌∷◌}
+use Prelude.{Option, Some, None, length, refl, ap, ◌∙◌, sym, arith, take, T, ◌==◌, count_by}
+use Prelude.{option_or, nat_cmp, is_lt, find, put, below_all, is_sorted, unsigned_tied, nat_tests}
+use Prelude.{sum_by-cons, first_of_and, second_of_and, same_of, IsEntries, with_value, is_taken}
+use Prelude.{is_named, one_name, place_at, ArePlaces, AreNew, entries_in}
+use Rattle.std.proofs.lemmas.List.Sums.{count_by_more_no, count_by_more_yes, sum_by-take-le}
 use Rattle.vyrd_table.proofs.EntryLaws.{given_value, find-with_value, IsEntries-with_value}
 use Rattle.vyrd_table.proofs.EntryLaws.{same_by_key, no_entries, length-put_new, put_less}
 use Rattle.vyrd_table.proofs.PlaceLaws.{held, skipped, find_in, entries_formed, held_none, single}

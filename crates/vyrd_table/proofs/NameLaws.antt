@@ -1,17 +1,10 @@
 -- How many names places and entries have, and that there are no more keys than names.
-use Rattle.std.proofs.Common.{◌≡◌, ℕ, zero, suc, ◌+◌, ◌<◌, ◌≤◌, Bool, true, false, cond, List, []}
-use Rattle.std.proofs.Common.{◌∷◌, length, set, replicate, refl, ap, ◌∙◌, arith, T}
-use Rattle.std.specs.Prelude.{filter, count_by}
-use Rattle.std.specs.Ordering.{nat_cmp, is_lt}
-use Rattle.std.specs.declared.cmp.Ordering.{Ordering}
-use Rattle.std.specs.declared.cmp.Ordering.TheVariants.{Less, Equal, Greater}
-use Rattle.std.specs.FinMap.Entries.{put, by_order, below_all, is_sorted}
-use Rattle.std.proofs.lemmas.List.Sums.{sum_by-cons}
-use Rattle.std.proofs.lemmas.Bool.Decides.{nat_tests}
-use Rattle.vyrd_base.proofs.AmountLaws.{first_of_and, second_of_and}
-use Rattle.vyrd_base.proofs.TestLaws.{isnt_same}
-use Rattle.vyrd_table.specs.Entries.{IsEntries, with_value}
-use Rattle.vyrd_table.specs.Places.{is_named, one_name, place_at, entries_in, names_in}
+use Rattle.vyrd_table.proofs.Prelude
+use Prelude.{◌≡◌, ℕ, zero, suc, ◌+◌, ◌<◌, ◌≤◌, Bool, true, false, cond, List, [], ◌∷◌, length, set}
+use Prelude.{replicate, refl, ap, ◌∙◌, arith, T, filter, count_by, nat_cmp, is_lt, Ordering, Less}
+use Prelude.{Equal, Greater, put, by_order, below_all, is_sorted, sum_by-cons, nat_tests}
+use Prelude.{first_of_and, second_of_and, isnt_same, IsEntries, with_value, is_named, one_name}
+use Prelude.{place_at, entries_in, names_in}
 
 is_greater : (k q : ℕ) → T (is_lt (nat_cmp k q)) → k < q
 is_greater k q low = grind (arith, nat_tests)

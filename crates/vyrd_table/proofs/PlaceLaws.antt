@@ -1,21 +1,15 @@
 -- What the places of a table and the rest have of each key, and how that changes with one key.
-use Rattle.std.proofs.Common.{◌≡◌, ◌≢◌, ℕ, zero, suc, ◌+◌, ◌-◌, ◌*◌, ◌%◌, ◌^◌, ◌<◌, ◌≤◌, Bool, true}
-use Rattle.std.proofs.Common.{false}
-use Rattle.std.proofs.Common.{cond, not, List, [], ◌∷◌, Option, Some, None, length, length-set, set}
-use Rattle.std.proofs.Common.{replicate, refl, ap, ◌∙◌, sym, subst, arith, get_or-set_same}
-use Rattle.std.proofs.Common.{get_or-set_other, slice_index_or}
-use Rattle.std.specs.Prelude.{◌==◌, nat_lt, unwrap_or}
-use Rattle.std.specs.Option.{option_or}
-use Rattle.std.specs.Ordering.{nat_cmp}
-use Rattle.std.specs.FinMap.Entries.{find, put, find-put}
-use Rattle.std.specs.Cmp.{unsigned_tied}
-use Rattle.std.proofs.lemmas.Cmp.{nat_cmp_total}
+use Rattle.vyrd_table.proofs.Prelude
+use Prelude.{◌≡◌, ◌≢◌, ℕ, zero, suc, ◌+◌, ◌-◌, ◌*◌, ◌^◌, ◌<◌, ◌≤◌, Bool, true, false, cond, not}
+use Prelude.{List, [], ◌∷◌, Option, Some, None, length, set, replicate, refl, ap, ◌∙◌, sym, subst}
+use Prelude.{arith, ◌==◌, nat_lt, unwrap_or, option_or, nat_cmp, find, put, find-put, unsigned_tied}
+use Prelude.{nat_cmp_total, same_of, is_same, isnt_same, below_of, IsEntries, value_of, with_value}
+use Prelude.{first_place, is_taken, place_at, IsFoundAt, ArePlaces, entries_in}
+use Rattle.std.proofs.Common.{◌%◌, length-set, get_or-set_same, get_or-set_other, slice_index_or}
 use Rattle.std.proofs.lemmas.List.{length-replicate, get_or_default}
 use Rattle.std.proofs.lemmas.Nat.{shr_below}
-use Rattle.vyrd_base.proofs.TestLaws.{same_of, apart_of, is_same, isnt_same, below_of, not_below_of}
-use Rattle.vyrd_table.specs.Entries.{IsEntries, value_of, with_value}
-use Rattle.vyrd_table.specs.Places.{first_place, IsWithin, is_taken, place_at, IsFoundAt, ArePlaces}
-use Rattle.vyrd_table.specs.Places.{entries_in}
+use Rattle.vyrd_base.proofs.TestLaws.{apart_of, not_below_of}
+use Rattle.vyrd_table.specs.Places.{IsWithin}
 use Rattle.vyrd_table.proofs.EntryLaws.{given_value, find-with_value, IsEntries-put}
 use Rattle.vyrd_table.proofs.EntryLaws.{IsEntries-with_value, entries_are, no_entries, not_found}
 use Rattle.vyrd_table.proofs.EntryLaws.{put_more}

@@ -1,10 +1,8 @@
 -- What a question to an ordered map costs.
-use Rattle.std.proofs.Common.{◌≡◌, ℕ, zero, suc, Bool, true, false, cond, ◌+◌, ◌-◌, ◌*◌, ◌^◌, ◌<◌}
-use Rattle.std.proofs.Common.{◌≤◌, refl, arith}
-use Rattle.std.specs.Prelude.{nat_le, nat_lt}
-use Rattle.std.proofs.Math.Pow.{pow_mono}
+use Rattle.vyrd_table.proofs.Prelude.{◌≡◌, ℕ, zero, suc, Bool, true, false, cond, ◌+◌, ◌-◌, ◌*◌}
+use Rattle.vyrd_table.proofs.Prelude.{◌^◌, ◌<◌, ◌≤◌, refl, arith, nat_le, nat_lt, pow_mono}
+use Rattle.vyrd_table.proofs.Prelude.{nat_tests}
 use Rattle.std.specs.Int.Count.{count_leading_zeros, leading_unique}
-use Rattle.std.proofs.lemmas.Bool.Decides.{nat_tests}
 use Rattle.vyrd_table.specs.Prices.{digits, question}
 
 pub doubled : (d : ℕ) → 2 ^ suc d ≡ 2 * 2 ^ d

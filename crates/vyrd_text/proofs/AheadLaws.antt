@@ -1,17 +1,10 @@
 -- How many starting words may come in further bytes.
-use Rattle.std.proofs.Common.{◌≡◌, ℕ, ◌+◌, ◌≤◌, Bool, true, cond, List, [], ◌∷◌, ◌++◌}
-use Rattle.std.proofs.Common.{Option, Some, None, refl, ap, ◌∙◌, arith}
-use Rattle.std.specs.Prelude.{◌==◌}
-use Rattle.std.specs.List.{slice_split, onto_first}
+use Rattle.vyrd_text.proofs.Prelude
+use Prelude.{◌≡◌, ℕ, ◌+◌, ◌≤◌, Bool, true, cond, List, [], ◌∷◌, ◌++◌, Option, Some, None, refl, ap}
+use Prelude.{◌∙◌, arith, ◌==◌, slice_split, Header, StartWord, start_in, TextFault, cut, lacks}
+use Prelude.{split_at, split_whole, start_in_sound, Longer, split_longer, first_true, second_true}
+use Rattle.std.specs.List.{onto_first}
 use Rattle.std.proofs.lemmas.Bool.{not-true}
-use Rattle.vyrd_base.specs.declared.header.Header.{Header}
-use Rattle.vyrd_base.specs.declared.log.StartWord.{StartWord}
-use Rattle.vyrd_base.specs.Lines.{start_in}
-use Rattle.vyrd_base.specs.Reading.{TextFault}
-use Rattle.vyrd_base.proofs.SplitLaws.{cut, lacks, split_at, split_whole}
-use Rattle.vyrd_base.proofs.LineLaws.{start_in_sound}
-use Rattle.vyrd_base.proofs.ReadingGrows.{Longer, split_longer}
-use Rattle.vyrd_base.proofs.TestLaws.{first_true, second_true}
 use Rattle.vyrd_text.specs.Ahead.{begins_start, front_starts, after_first, starts_in_lines}
 
 -- a text has at least one part

@@ -1,17 +1,11 @@
 -- What a reader makes of entries that lie whole in a piece.
-use Rattle.std.proofs.Common.{◌≡◌, ℕ, suc, ◌+◌, ◌≤◌, true, false, List, [], ◌∷◌, ◌++◌, length}
-use Rattle.std.proofs.Common.{Option, Some, None, refl, arith, append_assoc}
-use Rattle.std.specs.Prelude.{is_some, option_map}
-use Rattle.std.specs.List.{list_all}
-use Rattle.std.proofs.lemmas.List.{append-nil}
-use Rattle.vyrd_base.specs.declared.header.Header.{Header}
-use Rattle.vyrd_base.specs.declared.log.Entry.{Entry}
-use Rattle.vyrd_base.specs.declared.log.StartWord.{StartWord}
-use Rattle.vyrd_base.specs.Spelling.{entry_line, is_entry_of}
-use Rattle.vyrd_base.proofs.LineLaws.{entry_line_whole, entry_line_isnt_end, entry_in-entry_line}
-use Rattle.vyrd_base.proofs.TestLaws.{isnt_below, first_true, second_true}
-use Rattle.vyrd_text.specs.Readers.{LineState}
-use Rattle.vyrd_text.specs.Steps.{IsTaken, IsFed, IsFedFront}
+use Rattle.vyrd_text.proofs.Prelude.{◌≡◌, ℕ, suc, ◌+◌, ◌≤◌, true, false, List, [], ◌∷◌, ◌++◌}
+use Rattle.vyrd_text.proofs.Prelude.{length, Option, Some, None, refl, arith, append_assoc, is_some}
+use Rattle.vyrd_text.proofs.Prelude.{option_map, list_all, append-nil, Header, Entry, StartWord}
+use Rattle.vyrd_text.proofs.Prelude.{entry_line, is_entry_of, entry_in-entry_line, isnt_below}
+use Rattle.vyrd_text.proofs.Prelude.{first_true, second_true, LineState, IsTaken, IsFed}
+use Rattle.vyrd_base.proofs.LineLaws.{entry_line_whole, entry_line_isnt_end}
+use Rattle.vyrd_text.specs.Steps.{IsFedFront}
 use Rattle.vyrd_text.specs.Quick.{entries_text, AreEntriesAtFront}
 use Rattle.vyrd_text.proofs.ReaderLaws.{taken_then, line_at_once}
 use Rattle.vyrd_text.proofs.LineSteps.{entry_read}

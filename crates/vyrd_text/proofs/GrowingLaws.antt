@@ -1,13 +1,8 @@
 -- What longer bytes say to a reader.
-use Rattle.std.proofs.Common.{◌≡◌, ℕ, ◌≤◌, ◌||◌, true, false, List, [], ◌++◌, Option, Some, None}
-use Rattle.std.proofs.Common.{refl, ap, ◌∙◌}
-use Rattle.std.proofs.lemmas.List.{append-nil}
-use Rattle.vyrd_base.specs.declared.log.Entry.{Entry}
-use Rattle.vyrd_base.specs.declared.log.StartWord.{StartWord}
-use Rattle.vyrd_base.specs.declared.header.Header.{Header}
-use Rattle.vyrd_base.specs.Reading.{Reading, TextFault, has_any, reading}
-use Rattle.vyrd_base.proofs.ReadingGrows.{TextGrown, reading_grows}
-use Rattle.vyrd_text.specs.Readers.{ReaderState, lines_of, HasRead, so_far, whole}
+use Rattle.vyrd_text.proofs.Prelude.{◌≡◌, ℕ, ◌≤◌, ◌||◌, true, false, List, [], ◌++◌, Option, Some}
+use Rattle.vyrd_text.proofs.Prelude.{None, refl, ap, ◌∙◌, append-nil, Entry, StartWord, Header}
+use Rattle.vyrd_text.proofs.Prelude.{Reading, TextFault, has_any, reading, TextGrown, reading_grows}
+use Rattle.vyrd_text.proofs.Prelude.{ReaderState, lines_of, HasRead, so_far, whole}
 use Rattle.vyrd_text.proofs.ReadLaws.{faulty_fed, fed_read}
 
 module _ (r : ReaderState) (bytes more : List ℕ) (low : 1 ≤ r.max_lines) where

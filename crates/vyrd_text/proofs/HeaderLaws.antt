@@ -1,24 +1,18 @@
 -- The first line has one reading.
-use Rattle.std.proofs.Common.{◌≡◌, ℕ, ◌<◌, ◌^◌, Bool, true, false, cond, ◌&&◌, List, [], ◌∷◌, ◌++◌}
-use Rattle.std.proofs.Common.{Option, Some, None, Err, refl, ap, sym, ◌∙◌, arith}
-use Rattle.std.specs.Prelude.{nat_lt, codes, decimal, ok_or}
-use Rattle.std.specs.List.{list_all}
-use Rattle.std.specs.Str.{bytes_eq}
-use Rattle.std.proofs.lemmas.Slice.Eq.{bytes_eq-Decides}
+use Rattle.vyrd_text.proofs.Prelude
+use Prelude.{◌≡◌, ℕ, ◌<◌, ◌^◌, Bool, true, false, cond, ◌&&◌, List, [], ◌∷◌, ◌++◌, Option, Some}
+use Prelude.{None, Err, refl, ap, sym, ◌∙◌, arith, nat_lt, codes, decimal, ok_or, list_all}
+use Prelude.{bytes_eq, bytes_eq-Decides, Header, Subject, BadHeader, UnknownVersion, header_line}
+use Prelude.{header_in, bytes_same, both_true, first_true, second_true, below_of, is_below}
 use Rattle.std.proofs.Math.Bool.{Bool-set}
-use Rattle.vyrd_base.specs.declared.header.Header.{Header}
-use Rattle.vyrd_base.specs.declared.subject.Subject.{Subject}
-use Rattle.vyrd_base.specs.declared.verdict.Rule.TheVariants.{BadHeader, UnknownVersion}
 use Rattle.vyrd_base.specs.Limits.{is_sized}
 use Rattle.vyrd_base.specs.Subjects.{is_built_in, limits_of}
-use Rattle.vyrd_base.specs.Spelling.{header_line, subject_name}
-use Rattle.vyrd_base.specs.Lines.{fields_of, number_of, header_if, header_of}
-use Rattle.vyrd_base.specs.Lines.{header_spelled, header_from, header_in}
+use Rattle.vyrd_base.specs.Spelling.{subject_name}
+use Rattle.vyrd_base.specs.Lines.{fields_of, number_of, header_if, header_of, header_spelled}
+use Rattle.vyrd_base.specs.Lines.{header_from}
 use Rattle.vyrd_base.proofs.HeaderLaws.{small_size, small_callers}
-use Rattle.vyrd_base.proofs.SplitLaws.{split-join, number_of_decimal, bytes_same}
-use Rattle.vyrd_base.proofs.SplitLaws.{is_plain_field}
+use Rattle.vyrd_base.proofs.SplitLaws.{split-join, number_of_decimal, is_plain_field}
 use Rattle.vyrd_base.proofs.LineLaws.{plain_number, plain_spaces}
-use Rattle.vyrd_base.proofs.TestLaws.{both_true, first_true, second_true, below_of, is_below}
 use Rattle.vyrd_base.proofs.SubjectLaws.{one_name, subject_read, called_built_in}
 use Rattle.vyrd_base.proofs.StructureLaws.{plain_subject}
 use Rattle.vyrd_text.specs.Spelled.{AreLimitsRead, AreNumbersRead}

@@ -1,3 +1,4 @@
+mod Prelude
 pub mod NumberLaws
 pub mod PartLaws
 pub mod HeaderLaws

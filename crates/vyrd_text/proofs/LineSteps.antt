@@ -1,29 +1,14 @@
 -- What a reader makes of a line feed.
-use Rattle.std.proofs.Common.{◌≡◌, ℕ, ◌+◌, ◌≤◌, Bool, true, false, cond, ◌&&◌, ◌||◌, List, [], ◌∷◌}
-use Rattle.std.proofs.Common.{◌++◌, Option, Some, None, Ok, Err, refl, ap, sym, ◌∙◌, arith}
-use Rattle.std.specs.Prelude.{◌==◌, nat_lt}
-use Rattle.std.specs.Str.{bytes_eq}
-use Rattle.std.proofs.lemmas.Slice.Eq.{bytes_eq-Decides}
-use Rattle.std.proofs.lemmas.List.{append-nil}
-use Rattle.std.proofs.Math.Bool.{or-true}
-use Rattle.vyrd_base.specs.declared.header.Header.{Header}
-use Rattle.vyrd_base.specs.declared.log.Entry.{Entry}
-use Rattle.vyrd_base.specs.declared.log.StartWord.{StartWord}
-use Rattle.vyrd_base.specs.declared.verdict.Rule.{Rule}
-use Rattle.vyrd_base.specs.declared.verdict.Rule.TheVariants.{TooManyLines, AfterEnd, BadEntry}
-use Rattle.vyrd_base.specs.Shape.{◌breaks◌, first_broken}
-use Rattle.vyrd_base.specs.Spelling.{end_line}
-use Rattle.vyrd_base.specs.Starts.{start_rule}
-use Rattle.vyrd_base.specs.Lines.{start_in, entry_in, header_in}
-use Rattle.vyrd_base.specs.Reading.{Reading, TextFault, Input, has_any, stopped, entry_before}
-use Rattle.vyrd_base.specs.Reading.{lines_read, start_before, starts_read, body_read, header_before}
-use Rattle.vyrd_base.specs.Reading.{ended, text_read}
-use Rattle.vyrd_base.proofs.SplitLaws.{cut, lacks, split_at}
+use Rattle.vyrd_text.proofs.Prelude
+use Prelude.{◌≡◌, ℕ, ◌+◌, ◌≤◌, Bool, true, false, cond, ◌&&◌, ◌||◌, List, [], ◌∷◌, ◌++◌, Option}
+use Prelude.{Some, None, Ok, Err, refl, ap, sym, ◌∙◌, arith, ◌==◌, nat_lt, bytes_eq}
+use Prelude.{bytes_eq-Decides, append-nil, or-true, Header, Entry, StartWord, Rule, TooManyLines}
+use Prelude.{AfterEnd, BadEntry, ◌breaks◌, first_broken, end_line, start_rule, start_in, entry_in}
+use Prelude.{header_in, Reading, TextFault, Input, has_any, stopped, entry_before, lines_read}
+use Prelude.{start_before, starts_read, body_read, header_before, ended, text_read, cut, lacks}
+use Prelude.{split_at, LineState, input_to, with_read, known, after_end, lines_on, unless_faulty}
+use Prelude.{goes_on, front_starts, starts_in_lines, starts_ahead, with_line, IsLineTaken}
 use Rattle.vyrd_base.proofs.ReadingLaws.{no_start_line, one_start_line}
-use Rattle.vyrd_text.specs.Readers.{LineState, input_to, with_read, known, after_end, lines_on}
-use Rattle.vyrd_text.specs.Readers.{unless_faulty, goes_on}
-use Rattle.vyrd_text.specs.Ahead.{front_starts, starts_in_lines, starts_ahead}
-use Rattle.vyrd_text.specs.Steps.{with_line, IsLineTaken}
 use Rattle.vyrd_text.proofs.AheadLaws.{parts_of, one_start_more}
 use Rattle.vyrd_text.proofs.ReaderLaws.{fault_found, step}
 

@@ -1,20 +1,14 @@
 -- The digits at the front of a text, and the one number that they spell.
-use Rattle.std.proofs.Common.{◌≡◌, ℕ, suc, zero, ◌+◌, ◌-◌, ◌*◌, ◌<◌, ◌≤◌, ◌≢◌, ◌^◌, List, [], ◌∷◌}
-use Rattle.std.proofs.Common.{◌++◌, take, length, get_or, Option, Some, None, refl, ap, sym, ◌∙◌}
-use Rattle.std.proofs.Common.{arith}
-use Rattle.std.specs.Prelude.{decimal}
-use Rattle.std.specs.Char.{digit_value}
-use Rattle.std.specs.Str.Parse.{AllDigits, digits_value}
-use Rattle.std.proofs.lemmas.List.{take_at, take-append-le, get_or_append_left, get_or-take}
-use Rattle.std.proofs.lemmas.List.{length-take-le}
-use Rattle.std.proofs.lemmas.Bool.Decides.{nat_tests}
+use Rattle.vyrd_text.proofs.Prelude
+use Prelude.{◌≡◌, ℕ, suc, zero, ◌+◌, ◌-◌, ◌*◌, ◌<◌, ◌≤◌, ◌≢◌, ◌^◌, List, [], ◌∷◌, ◌++◌, take}
+use Prelude.{length, get_or, Option, Some, None, refl, ap, sym, ◌∙◌, arith, decimal, digit_value}
+use Prelude.{AllDigits, digits_value, take_at, get_or-take, length-take-le, nat_tests, digits_more}
+use Prelude.{digits_value_more, decimal_injective, decimal_digit, no_space, IsDigitField}
+use Rattle.std.proofs.lemmas.List.{take-append-le, get_or_append_left}
 use Rattle.std.proofs.lemmas.Str.Parse.{numerals_by_value, tells_digits, digits_value-take-le}
-use Rattle.std.proofs.lemmas.Int.Digits.{digits_more, digits_value_more}
-use Rattle.std.proofs.lemmas.Fmt.{decimal_is_IsNumeral, decimal-digits_value, decimal_injective}
-use Rattle.std.proofs.lemmas.Fmt.{decimal_nonempty, decimal_digit, first_decimal}
-use Rattle.vyrd_base.proofs.SplitLaws.{no_space}
-use Rattle.vyrd_text.specs.Fields.{after_field, IsDigitField, HasNoDigitField, IsNumberField}
-use Rattle.vyrd_text.specs.Fields.{HasNoNumberField}
+use Rattle.std.proofs.lemmas.Fmt.{decimal_is_IsNumeral, decimal-digits_value, decimal_nonempty}
+use Rattle.std.proofs.lemmas.Fmt.{first_decimal}
+use Rattle.vyrd_text.specs.Fields.{after_field, HasNoDigitField, IsNumberField, HasNoNumberField}
 
 -- the digits at the front don't reach past the field
 digits_within : (k : ℕ) (ds : List ℕ) (rest : Option (List ℕ))

@@ -1,19 +1,12 @@
 -- A line has one reading: its parts are what stands between its spaces.
-use Rattle.std.proofs.Common.{◌≡◌, ℕ, ◌<◌, ◌^◌, true, List, ◌∷◌, ◌++◌, Option, Some}
-use Rattle.std.proofs.Common.{None, refl, ap, sym, ◌∙◌, arith}
-use Rattle.std.specs.Prelude.{◌==◌, codes, decimal}
-use Rattle.std.specs.List.{slice_split}
-use Rattle.std.proofs.lemmas.List.{append_cancel_left}
-use Rattle.std.proofs.lemmas.Fmt.{decimal_injective}
-use Rattle.vyrd_base.specs.declared.subject.Subject.{Subject}
+use Rattle.vyrd_text.proofs.Prelude
+use Prelude.{◌≡◌, ℕ, ◌<◌, ◌^◌, true, List, ◌∷◌, ◌++◌, Option, Some, None, refl, ap, sym, ◌∙◌, arith}
+use Prelude.{◌==◌, codes, decimal, slice_split, append_cancel_left, decimal_injective, Subject}
+use Prelude.{Entry, entry_line, is_entry_of, entry_in, split_at, no_space, entry_in-entry_line}
+use Prelude.{both_true, first_true, second_true, below_of, is_below}
 use Rattle.vyrd_base.specs.declared.log.Kind.{Kind}
-use Rattle.vyrd_base.specs.declared.log.Entry.{Entry}
-use Rattle.vyrd_base.specs.Spelling.{entry_line, is_entry_of}
-use Rattle.vyrd_base.specs.Lines.{entry_in}
-use Rattle.vyrd_base.proofs.SplitLaws.{split_at, decimal_lacks, no_space}
-use Rattle.vyrd_base.proofs.LineLaws.{entry_in-entry_line}
+use Rattle.vyrd_base.proofs.SplitLaws.{decimal_lacks}
 use Rattle.vyrd_base.proofs.ReadingSound.{entry_in_sound}
-use Rattle.vyrd_base.proofs.TestLaws.{both_true, first_true, second_true, below_of, is_below}
 use Rattle.vyrd_text.specs.Spelled.{kind_text, AreArgsRead, IsCallRead, IsKindRead}
 
 -- the number before a space and what follows the space are one

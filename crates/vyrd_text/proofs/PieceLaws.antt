@@ -1,12 +1,9 @@
 -- A piece comes apart at its line feeds.
-use Rattle.std.proofs.Common.{◌≡◌, ℕ, suc, zero, ◌+◌, ◌-◌, ◌<◌, ◌≤◌, Bool, true, cond, not, List}
-use Rattle.std.proofs.Common.{[], ◌∷◌, ◌++◌, take, drop, length, get_or, refl, ap, sym, ◌∙◌, arith}
-use Rattle.std.specs.Prelude.{◌==◌, count_by}
-use Rattle.std.proofs.lemmas.List.{take_all, take-append-drop, drop_more, take_rest}
+use Rattle.vyrd_text.proofs.Prelude.{◌≡◌, ℕ, suc, zero, ◌+◌, ◌-◌, ◌<◌, ◌≤◌, Bool, true, cond, not}
+use Rattle.vyrd_text.proofs.Prelude.{List, [], ◌∷◌, ◌++◌, take, drop, length, get_or, refl, ap, sym}
+use Rattle.vyrd_text.proofs.Prelude.{◌∙◌, arith, ◌==◌, count_by, take_all, take-append-drop}
+use Rattle.vyrd_text.proofs.Prelude.{drop_more, take_rest, nat_tests, lacks, both_true}
 use Rattle.std.proofs.lemmas.List.Sums.{sum_by-append, sum_by-cons}
-use Rattle.std.proofs.lemmas.Bool.Decides.{nat_tests}
-use Rattle.vyrd_base.proofs.SplitLaws.{lacks}
-use Rattle.vyrd_base.proofs.TestLaws.{both_true}
 
 not_true : (b : Bool) → ¬ (b ≡ true) → not b ≡ true
 not_true b h = search arith

@@ -1,24 +1,12 @@
 -- Digits at the front of a text are a number's spelling.
-use Rattle.std.proofs.Common.{rules, ◌≡◌, ℕ, ◌+◌, ◌-◌, ◌*◌, ◌%◌, ◌<◌, ◌≤◌, ◌≢◌, ◌^◌, true, List, []}
-use Rattle.std.proofs.Common.{◌∷◌, ◌++◌, take, drop, length, get_or, refl, ap, sym, ◌∙◌, arith}
-use Rattle.std.proofs.Common.{append_assoc, length-append}
-use Rattle.std.specs.Str.Parse.{AllDigits, digits_value}
-use Rattle.std.specs.Prelude.{slice_range, decimal}
-use Rattle.std.specs.Char.{digit_value}
-use Rattle.std.proofs.lemmas.Fmt.{decimal_digit}
-use Rattle.std.proofs.lemmas.Str.Parse.{digit_from_value}
-use Rattle.std.specs.Float.Numeral.{digits_len}
-use Rattle.std.specs.List.{list_all}
-use Rattle.std.proofs.Math.Nat.{pow-le-pow_right, mod-eq_of_lt}
-use Rattle.std.proofs.lemmas.Int.Digits.{digits_value-lt, digits_more, digits_value_more}
-use Rattle.core.proofs.dec2flt.Rows.{AllDigits-digits_len}
-use Rattle.std.proofs.lemmas.List.{length-take, length-take-le, get_or-take, take_all}
-use Rattle.std.proofs.lemmas.List.{take-append-drop, drop_more, take_rest}
-use Rattle.vyrd_base.specs.declared.subject.Subject.{Subject}
-use Rattle.vyrd_base.specs.declared.log.Entry.{Entry}
-use Rattle.vyrd_base.specs.Spelling.{entry_line, is_entry_of}
-use Rattle.vyrd_base.proofs.TestLaws.{both_true, first_true, second_true}
-use Rattle.vyrd_text.specs.Fields.{IsDigitField}
+use Rattle.vyrd_text.proofs.Prelude
+use Prelude.{rules, ◌≡◌, ℕ, ◌+◌, ◌-◌, ◌*◌, ◌%◌, ◌<◌, ◌≤◌, ◌≢◌, ◌^◌, true, List, [], ◌∷◌, ◌++◌, take}
+use Prelude.{drop, length, get_or, refl, ap, sym, ◌∙◌, arith, append_assoc, length-append}
+use Prelude.{AllDigits, digits_value, slice_range, decimal, digit_value, decimal_digit}
+use Prelude.{digit_from_value, digits_len, list_all, pow-le-pow_right, mod-eq_of_lt}
+use Prelude.{digits_value-lt, digits_more, digits_value_more, AllDigits-digits_len, length-take}
+use Prelude.{length-take-le, get_or-take, take_all, take-append-drop, drop_more, take_rest, Subject}
+use Prelude.{Entry, entry_line, is_entry_of, both_true, first_true, second_true, IsDigitField}
 use Rattle.vyrd_text.specs.Quick.{IsFrontNumber, IsEntryAtFront, AreEntriesAtFront, entries_text}
 use Rattle.vyrd_text.proofs.NumberLaws.{one_digit, more_digits, digit_is}
 

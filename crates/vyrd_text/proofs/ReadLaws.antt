@@ -1,25 +1,14 @@
 -- What a reader that has been fed bytes says of them.
-use Rattle.std.proofs.Common.{◌≡◌, ℕ, ◌≤◌, Bool, true, false, cond, ◌&&◌, List, [], ◌∷◌, ◌++◌}
-use Rattle.std.proofs.Common.{length, Option, Some, None, Result, Ok, Err, refl, ap, sym, ◌∙◌}
-use Rattle.std.proofs.Common.{append_assoc}
-use Rattle.std.specs.Prelude.{◌==◌, nat_lt}
-use Rattle.std.specs.List.{slice_split}
-use Rattle.std.proofs.lemmas.List.{append-nil, append_cancel_left}
-use Rattle.vyrd_base.specs.declared.header.Header.{Header}
-use Rattle.vyrd_base.specs.declared.log.Entry.{Entry}
-use Rattle.vyrd_base.specs.declared.log.StartWord.{StartWord}
-use Rattle.vyrd_base.specs.declared.verdict.Rule.{Rule}
-use Rattle.vyrd_base.specs.declared.verdict.Rule.TheVariants.{TooManyLines, BadHeader, BadEntry}
-use Rattle.vyrd_base.specs.declared.verdict.Rule.TheVariants.{NoLineFeed, NoEnd}
-use Rattle.vyrd_base.specs.Reading.{TextFault, has_any, reading, fault_on}
-use Rattle.vyrd_base.proofs.SplitLaws.{lacks, split_whole}
-use Rattle.vyrd_base.proofs.ReadingGrows.{Longer, split_longer}
+use Rattle.vyrd_text.proofs.Prelude
+use Prelude.{◌≡◌, ℕ, ◌≤◌, Bool, true, false, cond, ◌&&◌, List, [], ◌∷◌, ◌++◌, length, Option, Some}
+use Prelude.{None, Result, Ok, Err, refl, ap, sym, ◌∙◌, append_assoc, ◌==◌, nat_lt, slice_split}
+use Prelude.{append-nil, append_cancel_left, Header, Entry, StartWord, Rule, TooManyLines}
+use Prelude.{BadHeader, BadEntry, NoLineFeed, NoEnd, TextFault, has_any, reading, fault_on, lacks}
+use Prelude.{split_whole, Longer, split_longer, LineState, ReaderState, lines_of, so_far, whole}
+use Prelude.{input_to, with_read, known, lines_on, unless_faulty, goes_on, Follows, HasRead}
+use Prelude.{IsNoticed, IsTaken, IsFed}
 use Rattle.vyrd_text.specs.declared.fault.TextFault as fault
 use Rattle.vyrd_text.specs.declared.fault.TextFault.TheVariants.{Malformed, Memory}
-use Rattle.vyrd_text.specs.Readers.{LineState, ReaderState, lines_of, so_far, whole, input_to}
-use Rattle.vyrd_text.specs.Readers.{with_read, known, lines_on, unless_faulty, goes_on, Follows}
-use Rattle.vyrd_text.specs.Readers.{HasRead}
-use Rattle.vyrd_text.specs.Steps.{IsNoticed, IsTaken, IsFed}
 use Rattle.vyrd_text.specs.Answered.{UnlessMemory, IsGrownBy}
 use Rattle.vyrd_text.proofs.ReaderLaws.{taken_then, faulty_taken}
 use Rattle.vyrd_text.proofs.RestSteps.{rest_body}

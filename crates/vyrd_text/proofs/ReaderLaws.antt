@@ -1,18 +1,10 @@
 -- How a reader goes on.
-use Rattle.std.proofs.Common.{◌≡◌, ℕ, ◌≤◌, Bool, true, false, List, [], ◌∷◌, ◌++◌, Option, Some}
-use Rattle.std.proofs.Common.{None, refl, ap, sym, ◌∙◌, arith, append_assoc, length-append}
-use Rattle.std.specs.Prelude.{◌==◌, is_some, IsSome}
-use Rattle.std.specs.List.{slice_split}
-use Rattle.std.proofs.lemmas.List.{append-nil}
-use Rattle.vyrd_base.specs.declared.header.Header.{Header}
-use Rattle.vyrd_base.specs.declared.log.Entry.{Entry}
-use Rattle.vyrd_base.specs.declared.log.StartWord.{StartWord}
-use Rattle.vyrd_base.specs.Reading.{Reading, TextFault, reading}
-use Rattle.vyrd_base.proofs.ReadingGrows.{reading_grows, input_of}
-use Rattle.vyrd_text.specs.Readers.{LineState, ReaderState, fresh, input_to, with_read, known}
-use Rattle.vyrd_text.specs.Readers.{unless_faulty, goes_on, Follows, HasRead}
-use Rattle.vyrd_text.specs.Ahead.{starts_ahead}
-use Rattle.vyrd_text.specs.Steps.{with_line, IsTaken, IsLineTaken}
+use Rattle.vyrd_text.proofs.Prelude
+use Prelude.{◌≡◌, ℕ, ◌≤◌, Bool, true, false, List, [], ◌∷◌, ◌++◌, Option, Some, None, refl, ap, sym}
+use Prelude.{◌∙◌, arith, append_assoc, length-append, ◌==◌, is_some, IsSome, slice_split}
+use Prelude.{append-nil, Header, Entry, StartWord, Reading, TextFault, reading, reading_grows}
+use Prelude.{input_of, LineState, ReaderState, fresh, input_to, with_read, known, unless_faulty}
+use Prelude.{goes_on, Follows, HasRead, starts_ahead, with_line, IsTaken, IsLineTaken}
 
 -- what was read before, before what was read before
 twice : (ss ts : List StartWord) (es gs : List Entry) (r : Reading)

@@ -1,19 +1,12 @@
 -- What a reader makes of bytes without a line feed.
-use Rattle.std.proofs.Common.{◌≡◌, ℕ, ◌+◌, ◌<◌, ◌≤◌, Bool, true, false, cond, ◌&&◌, ◌||◌, List, []}
-use Rattle.std.proofs.Common.{◌∷◌, ◌++◌, length, Option, Some, None, refl, ap, sym, ◌∙◌, arith}
-use Rattle.std.proofs.Common.{length-append}
-use Rattle.std.specs.Prelude.{nat_lt, option_map}
-use Rattle.vyrd_base.specs.declared.header.Header.{Header}
-use Rattle.vyrd_base.specs.declared.log.StartWord.{StartWord}
-use Rattle.vyrd_base.specs.declared.verdict.Rule.{Rule}
-use Rattle.vyrd_base.specs.declared.verdict.Rule.TheVariants.{TooManyLines, AfterEnd, BadHeader}
-use Rattle.vyrd_base.specs.declared.verdict.Rule.TheVariants.{BadEntry}
-use Rattle.vyrd_base.specs.Shape.{◌breaks◌, first_broken}
-use Rattle.vyrd_base.specs.Reading.{Input, has_any, stopped, ended, unfinished_rule, header_before}
-use Rattle.vyrd_base.specs.Reading.{fault_on}
-use Rattle.vyrd_base.proofs.SplitLaws.{lacks, lacks-append, split_whole}
-use Rattle.vyrd_base.proofs.TestLaws.{is_below, isnt_below}
-use Rattle.vyrd_text.specs.Readers.{LineState, input_to, known, lines_on, goes_on}
+use Rattle.vyrd_text.proofs.Prelude
+use Prelude.{◌≡◌, ℕ, ◌+◌, ◌<◌, ◌≤◌, Bool, true, false, cond, ◌&&◌, ◌||◌, List, [], ◌∷◌, ◌++◌}
+use Prelude.{length, Option, Some, None, refl, ap, sym, ◌∙◌, arith, length-append, nat_lt}
+use Prelude.{option_map, Header, StartWord, Rule, TooManyLines, AfterEnd, BadHeader, BadEntry}
+use Prelude.{◌breaks◌, first_broken, Input, has_any, stopped, ended, header_before, fault_on, lacks}
+use Prelude.{split_whole, is_below, isnt_below, LineState, input_to, known, lines_on, goes_on}
+use Rattle.vyrd_base.specs.Reading.{unfinished_rule}
+use Rattle.vyrd_base.proofs.SplitLaws.{lacks-append}
 use Rattle.vyrd_text.proofs.LineSteps.{fine_on, body_on}
 
 -- the rules of an unfinished line, for bytes that may go on

@@ -1,12 +1,9 @@
 -- What the parts of a starting line say of it.
-use Rattle.std.proofs.Common.{◌≡◌, ℕ, ◌<◌, ◌^◌, true, List, ◌∷◌, ◌++◌, Option, Some, None, refl, ap}
-use Rattle.std.proofs.Common.{sym, ◌∙◌, arith}
-use Rattle.std.specs.Prelude.{codes, decimal}
-use Rattle.vyrd_base.specs.declared.log.StartWord.{StartWord}
-use Rattle.vyrd_base.specs.Spelling.{start_line}
-use Rattle.vyrd_base.specs.Lines.{start_in}
-use Rattle.vyrd_base.proofs.LineLaws.{is_start, start_in-start_line, start_in_sound}
-use Rattle.vyrd_base.proofs.TestLaws.{both_true, first_true, second_true, below_of, is_below}
+use Rattle.vyrd_text.proofs.Prelude.{◌≡◌, ℕ, ◌<◌, ◌^◌, true, List, ◌∷◌, ◌++◌, Option, Some, None}
+use Rattle.vyrd_text.proofs.Prelude.{refl, ap, sym, ◌∙◌, arith, codes, decimal, StartWord}
+use Rattle.vyrd_text.proofs.Prelude.{start_line, start_in, start_in_sound, both_true, first_true}
+use Rattle.vyrd_text.proofs.Prelude.{second_true, below_of, is_below}
+use Rattle.vyrd_base.proofs.LineLaws.{is_start, start_in-start_line}
 use Rattle.vyrd_text.proofs.PartLaws.{one_before_space}
 
 -- a line that isn't a starting word's

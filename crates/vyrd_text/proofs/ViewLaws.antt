@@ -1,14 +1,7 @@
 -- What the fields of a reader say of its state.
-use Rattle.std.proofs.Common.{◌≡◌, ℕ, Bool, true, false, cond, List, [], ◌∷◌, Option, Some, None}
-use Rattle.std.proofs.Common.{refl}
-use Rattle.std.specs.Prelude.{is_some, option_map}
-use Rattle.vyrd_base.specs.declared.header.Header.{Header}
-use Rattle.vyrd_base.specs.declared.verdict.Rule.TheVariants.{NoLineFeed, NoEnd}
-use Rattle.vyrd_base.specs.Reading.{TextFault, has_any}
-use Rattle.vyrd_text.specs.declared.fault.LineFault.{LineFault}
-use Rattle.vyrd_text.specs.ReaderView.{fault_of}
-use Rattle.vyrd_text.specs.Readers.{LineState}
-use Rattle.vyrd_text.specs.Steps.{IsSteady}
+use Rattle.vyrd_text.proofs.Prelude.{◌≡◌, ℕ, Bool, true, false, cond, List, [], ◌∷◌, Option, Some}
+use Rattle.vyrd_text.proofs.Prelude.{None, refl, is_some, option_map, Header, NoLineFeed, NoEnd}
+use Rattle.vyrd_text.proofs.Prelude.{TextFault, has_any, LineFault, fault_of, LineState, IsSteady}
 
 pub fault_none : (o : Option LineFault) → is_some o ≡ false → option_map fault_of o ≡ None
 fault_none None e = refl

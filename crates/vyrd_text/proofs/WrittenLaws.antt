@@ -1,23 +1,11 @@
 -- What is appended in turn.
-use Rattle.std.proofs.Common.{◌≡◌, ℕ, ◌≤◌, true, cond, List, [], ◌∷◌, ◌++◌, take, length, Result}
-use Rattle.std.proofs.Common.{refl, ap, sym, ◌∙◌, arith, append_assoc, append-nil, length-append}
-use Rattle.std.specs.Prelude.{codes, decimal, map, flat_map, OnOk}
-use Rattle.std.specs.List.{AllByRecursion}
-use Rattle.std.specs.Result.{is_ok}
-use Rattle.std.proofs.lemmas.List.{take_at, take-take}
-use Rattle.vyrd_base.specs.declared.header.Header.{Header}
-use Rattle.vyrd_base.specs.declared.subject.Subject.{Subject}
-use Rattle.vyrd_base.specs.declared.subject.Method.{Method}
-use Rattle.vyrd_base.specs.declared.subject.Args.{Args}
-use Rattle.vyrd_base.specs.declared.log.Entry.{Entry}
-use Rattle.vyrd_base.specs.declared.log.StartWord.{StartWord}
-use Rattle.vyrd_base.specs.Subjects.{arity_of}
-use Rattle.vyrd_base.specs.Spelling.{ended_line, start_line, entry_line, header_line, log_text}
-use Rattle.vyrd_base.specs.Spelling.{is_entry_of, spaced, method_name}
+use Rattle.vyrd_text.proofs.Prelude
+use Prelude.{◌≡◌, ℕ, ◌≤◌, true, cond, List, [], ◌∷◌, ◌++◌, take, length, Result, refl, ap, sym, ◌∙◌}
+use Prelude.{arith, append_assoc, append-nil, length-append, codes, decimal, map, flat_map, OnOk}
+use Prelude.{AllByRecursion, is_ok, take_at, take-take, Header, Subject, Method, Args, Entry}
+use Prelude.{StartWord, arity_of, ended_line, start_line, entry_line, header_line, log_text}
+use Prelude.{is_entry_of, spaced, method_name, first_true, second_true, call_text, is_writable}
 use Rattle.vyrd_base.proofs.ReadingLaws.{AllOf}
-use Rattle.vyrd_base.proofs.TestLaws.{first_true, second_true}
-use Rattle.vyrd_text.specs.Spelled.{call_text}
-use Rattle.vyrd_text.specs.Written.{is_writable}
 
 -- the front of a list that goes on from a longer front
 pub front_of_front : (old more middle now : List ℕ) → middle ≡ old ++ more

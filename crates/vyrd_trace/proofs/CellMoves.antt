@@ -1,20 +1,13 @@
 -- The cells and the claims after a step at one cell.
-use Rattle.std.proofs.Common.{◌≡◌, ◌≢◌, ℕ, ◌+◌, ◌*◌, ◌%◌, ◌<◌, ◌≤◌, List, true, Option, Some, None}
-use Rattle.std.proofs.Common.{refl, sym, ap, ◌∙◌, subst, arith}
-use Rattle.std.specs.Prelude.{slice_index}
+use Rattle.vyrd_trace.proofs.Prelude.{◌≡◌, ◌≢◌, ℕ, ◌+◌, ◌*◌, ◌%◌, ◌<◌, ◌≤◌, List, true, Option}
+use Rattle.vyrd_trace.proofs.Prelude.{Some, None, refl, sym, ap, ◌∙◌, subst, arith, slice_index}
+use Rattle.vyrd_trace.proofs.Prelude.{Stamped, Plan, Record, Stage, Rest, Claimed, Drawn, Giving}
+use Rattle.vyrd_trace.proofs.Prelude.{part, upd, upd_here, upd_else, last_value, Ghost, IsAt}
+use Rattle.vyrd_trace.proofs.Prelude.{InHand, FitsCell, Knows, TraceKept}
 use mathlib.Core.Logic.{dite}
 use mathlib.Core.Option.{some}
 use native.Mathlib.Decide.{ℕ_discrete}
 use lib.ListN.{get_elem?}
-use Rattle.vyrd_base.specs.declared.history.Stamped.{Stamped}
-use Rattle.vyrd_trace.specs.declared.plan.Plan.{Plan}
-use Rattle.vyrd_trace.specs.declared.record.Record.{Record}
-use Rattle.vyrd_trace.specs.declared.record.Stage.{Stage}
-use Rattle.vyrd_trace.specs.declared.record.Stage.TheVariants.{Rest, Claimed, Drawn, Giving}
-use Rattle.vyrd_base.specs.Parts.{part}
-use Rattle.vyrd_base.proofs.UpdateLaws.{upd, upd_here, upd_else}
-use Rattle.vyrd_trace.specs.Lanes.{last_value}
-use Rattle.vyrd_trace.specs.Rule.{Ghost, IsAt, InHand, FitsCell, Knows, TraceKept}
 use Rattle.vyrd_trace.proofs.Stays.{St, Same, refit}
 
 -- a cell that fits depends on its claimer's action alone

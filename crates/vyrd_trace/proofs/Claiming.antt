@@ -1,25 +1,15 @@
 -- A look, and a claim that is won or lost, keep the rule.
-use Rattle.std.proofs.Common.{◌≡◌, ℕ, ◌+◌, ◌-◌, ◌/◌, ◌%◌, ◌<◌, ◌≤◌, List, length, set, true, eqb}
-use Rattle.std.proofs.Common.{Option, Some, refl, sym, ap, ◌∙◌, subst, arith, length-set}
-use Rattle.std.proofs.Common.{get_or-set_same, eq-eqb, ne_eqb}
-use Rattle.std.specs.Prelude.{slice_index}
-use Rattle.std.proofs.lemmas.List.{get_or-set_other, set-get_or}
-use Rattle.vyrd_base.proofs.UpdateLaws.{upd, upd_here}
+use Rattle.vyrd_trace.proofs.Prelude
+use Prelude.{◌≡◌, ℕ, ◌+◌, ◌-◌, ◌/◌, ◌%◌, ◌<◌, ◌≤◌, List, length, set, true, eqb, Option, Some, refl}
+use Prelude.{sym, ap, ◌∙◌, subst, arith, length-set, get_or-set_same, eq-eqb, ne_eqb, slice_index}
+use Prelude.{get_or-set_other, set-get_or, upd, upd_here, step, keeps, stepped, Allows, Plan, Look}
+use Prelude.{Record, Stage, Rest, Claimed, last_value, look_first, acting, Ghost, IsAt, InHand}
+use Prelude.{FitsCell, TraceKept, Sitting, looked, tried}
 use mathlib.Core.Logic.{dite}
 use mathlib.Core.Option.{some, none}
 use native.Mathlib.Decide.{ℕ_discrete}
 use lib.ListN.{get_elem?}
 use prog.Atomic.{either}
-use Rattle.atomic_table.specs.Table.{step, keeps, stepped, Allows}
-use Rattle.vyrd_trace.specs.declared.plan.Plan.{Plan}
-use Rattle.vyrd_trace.specs.declared.look.Look.{Look}
-use Rattle.vyrd_trace.specs.declared.record.Record.{Record}
-use Rattle.vyrd_trace.specs.declared.record.Stage.{Stage}
-use Rattle.vyrd_trace.specs.declared.record.Stage.TheVariants.{Rest, Claimed}
-use Rattle.vyrd_trace.specs.Lanes.{last_value}
-use Rattle.vyrd_trace.specs.Records.{look_first, acting}
-use Rattle.vyrd_trace.specs.Rule.{Ghost, IsAt, InHand, FitsCell, TraceKept}
-use Rattle.vyrd_trace.specs.Steps.{Sitting, looked, tried}
 use Rattle.vyrd_trace.proofs.Stays.{St, turned, refit, same_refl}
 use Rattle.vyrd_trace.proofs.CellMoves.{moved, claims_moved, same_moved, free_cell, nowhere_rest}
 

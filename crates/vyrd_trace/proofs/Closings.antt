@@ -1,31 +1,17 @@
 -- A table whose records are one at rest has one history, of which the hands' lanes are the parts.
-use Rattle.std.proofs.Common.{◌≡◌, ℕ, zero, suc, ◌+◌, ◌*◌, ◌/◌, ◌<◌, ◌≤◌, List, [], ◌∷◌, ◌++◌, map}
-use Rattle.std.proofs.Common.{length, get_or, true, Option, Some, None, refl, sym, ap, ◌∙◌, subst}
-use Rattle.std.proofs.Common.{arith, take, drop}
-use Rattle.std.specs.Prelude.{slice_get, slice_index, slice_index_or}
-use Rattle.std.specs.List.{All, sum_by}
-use Rattle.std.proofs.lemmas.List.{length-map, take_all, drop_all, append-nil}
-use Rattle.std.proofs.lemmas.List.Sums.{sum_by_more}
+use Rattle.vyrd_trace.proofs.Prelude
+use Prelude.{◌≡◌, ℕ, zero, suc, ◌+◌, ◌*◌, ◌/◌, ◌<◌, ◌≤◌, List, [], ◌∷◌, ◌++◌, map, length, get_or}
+use Prelude.{true, Option, Some, None, refl, sym, ap, ◌∙◌, subst, arith, take, drop, slice_get}
+use Prelude.{slice_index, slice_index_or, All, sum_by, length-map, take_all, drop_all, append-nil}
+use Prelude.{sum_by_more, State, Final, Seen, Stamped, numbers_from, part, last_value, last_values}
+use Prelude.{cells_in, Record, Plan, Lane, Rest, Ghost, FitsCell, HasLane, Knows, TraceKept}
+use Prelude.{own_lane, HandView, lanes_of, own_lane_of, own_lanes, IsMerge, AreTwice, HasHistory}
 use mathlib.Core.Logic.{dite}
 use mathlib.Core.Option.{some}
 use native.Mathlib.Decide.{dec_lt}
 use lib.ListN.{get_elem?}
-use Rattle.atomic_table.specs.Table.{State, Final, Seen}
-use Rattle.vyrd_base.specs.declared.history.Stamped.{Stamped}
-use Rattle.vyrd_base.specs.Places.{numbers_from}
-use Rattle.vyrd_base.specs.Parts.{part}
-use Rattle.vyrd_trace.specs.Lanes.{last_value, last_values, cells_in}
-use Rattle.vyrd_trace.specs.declared.record.Record.{Record}
-use Rattle.vyrd_trace.specs.declared.plan.Plan.{Plan}
-use Rattle.vyrd_trace.specs.declared.record.Lane.{Lane}
-use Rattle.vyrd_trace.specs.declared.record.Stage.TheVariants.{Rest}
-use Rattle.vyrd_trace.specs.Rule.{Ghost, FitsCell, HasLane, Knows, TraceKept}
-use Rattle.vyrd_trace.specs.Records.{own_lane}
-use Rattle.vyrd_trace.specs.Hands.{HandView}
 use Rattle.vyrd_trace.proofs.Parts.{below, below_more, below_none, below_all}
 use Rattle.vyrd_trace.proofs.HistoryGrows.{numbered}
-use Rattle.vyrd_trace.specs.Closing.{lanes_of, own_lane_of, own_lanes, IsMerge, AreTwice}
-use Rattle.vyrd_trace.specs.Closing.{HasHistory}
 
 -- each hand's lane is its caller's part
 abbrev pub AreParts : List Stamped → List HandView → Type 0

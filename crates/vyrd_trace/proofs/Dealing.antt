@@ -1,24 +1,15 @@
 -- A new table, a record for the next caller, and two records that become one.
-use Rattle.std.proofs.Common.{◌≡◌, ◌≢◌, ◌⊎◌, ℕ, zero, suc, ◌+◌, ◌<◌, ◌≤◌, List, [], ◌∷◌, ◌++◌}
-use Rattle.std.proofs.Common.{length, set, replicate, Bool, true, cond, eqb, Option, Some, None}
-use Rattle.std.proofs.Common.{refl, sym, ap, ◌∙◌, subst, ⊎_elim, inl, inr, arith, eq-eqb, ne_eqb}
-use Rattle.std.proofs.Common.{true≢false}
-use Rattle.std.specs.Prelude.{slice_get}
+use Rattle.vyrd_trace.proofs.Prelude
+use Prelude.{◌≡◌, ◌≢◌, ℕ, zero, suc, ◌+◌, ◌<◌, ◌≤◌, List, [], ◌∷◌, ◌++◌, length, set, Bool, true}
+use Prelude.{cond, eqb, Option, Some, None, refl, sym, ap, ◌∙◌, subst, ⊎_elim, arith, eq-eqb}
+use Prelude.{ne_eqb, slice_get, at_set, Cells, is_legal, part, upd, upd_here, upd_else, cells_in}
+use Prelude.{Record, Plan, Lane, Rest, first_record, own_lane, Ghost, HasLane, Knows, TraceKept}
+use Rattle.std.proofs.Common.{◌⊎◌, replicate, inl, inr, true≢false}
 use Rattle.std.proofs.lemmas.List.{get_or-replicate, length-replicate}
 use mathlib.Core.Option.{some, some-injective, some-ne-none}
 use lib.ListN.{get_elem?}
-use Rattle.atomic_table.specs.Table.{opening, Splits, Joins}
-use Rattle.atomic_table.proofs.Lists.{at_set}
-use Rattle.vyrd_base.specs.Histories.{Cells, is_legal}
-use Rattle.vyrd_base.specs.Parts.{part}
-use Rattle.vyrd_base.proofs.UpdateLaws.{upd, upd_here, upd_else}
-use Rattle.vyrd_trace.specs.Lanes.{cells_in}
-use Rattle.vyrd_trace.specs.declared.record.Record.{Record}
-use Rattle.vyrd_trace.specs.declared.plan.Plan.{Plan}
-use Rattle.vyrd_trace.specs.declared.record.Lane.{Lane}
-use Rattle.vyrd_trace.specs.declared.record.Stage.TheVariants.{Rest}
-use Rattle.vyrd_trace.specs.Records.{first_record, dealer, dealt, own_lane, gathering, spent}
-use Rattle.vyrd_trace.specs.Rule.{Ghost, HasLane, Knows, TraceKept}
+use Rattle.atomic_table.specs.Table.{Splits, Joins, opening}
+use Rattle.vyrd_trace.specs.Records.{dealer, dealt, gathering, spent}
 use Rattle.vyrd_trace.proofs.Stays.{apart_from}
 
 no_lane : (i : ℕ) (l : Lane) → slice_get [] i ≡ Some l → ⊥

@@ -1,36 +1,21 @@
 -- A draw keeps the rule: the event may come next in the history.
-use Rattle.std.proofs.Common.{◌≡◌, ◌≢◌, ℕ, ◌+◌, ◌*◌, ◌%◌, ◌^◌, ◌<◌, ◌≤◌, List, [], ◌∷◌, ◌++◌}
-use Rattle.std.proofs.Common.{length, true, false, Option, Some, refl, sym, ap, ◌∙◌, subst, arith}
-use Rattle.std.proofs.Common.{length-append, length-set, get_or-set_same, eq-eqb, ne_eqb}
-use Rattle.std.proofs.Common.{mul-le-mul}
-use Rattle.std.specs.Prelude.{slice_index}
-use Rattle.std.proofs.lemmas.List.{get_or-set_other}
+use Rattle.vyrd_trace.proofs.Prelude
+use Prelude.{◌≡◌, ◌≢◌, ℕ, ◌+◌, ◌*◌, ◌%◌, ◌^◌, ◌<◌, ◌≤◌, List, [], ◌∷◌, ◌++◌, length, true, false}
+use Prelude.{Option, Some, refl, sym, ap, ◌∙◌, subst, arith, length-append, length-set}
+use Prelude.{get_or-set_same, eq-eqb, ne_eqb, mul-le-mul, slice_index, get_or-set_other, step}
+use Prelude.{keeps, stepped, Allows, same_Some, Kind, Did, Read, Wrote, Took, Gave, Marked, Stamped}
+use Prelude.{newest_first, is_write, may_do, upd, upd_here, upd_else, Plan, Record, Stage, Rest}
+use Prelude.{Claimed, Drawn, Giving, stamp, last_value, HoldsBy, cells_in, before_of, drawn}
+use Prelude.{with_event, Ghost, IsAt, InHand, FitsCell, TraceKept, Sitting, drew, MayDraw}
+use Prelude.{most_events}
 use mathlib.Core.Option.{some, none}
 use lib.ListN.{get_elem?}
-use Rattle.atomic_table.specs.Table.{step, keeps, stepped, Allows}
-use Rattle.std.proofs.lemmas.Option.{same_Some}
-use Rattle.vyrd_base.specs.declared.log.Kind.{Kind}
-use Rattle.vyrd_base.specs.declared.history.Did.{Did}
-use Rattle.vyrd_base.specs.declared.history.Did.TheVariants.{Read, Wrote, Took, Gave, Marked}
-use Rattle.vyrd_base.specs.declared.history.Stamped.{Stamped}
-use Rattle.vyrd_base.specs.Places.{newest_first}
-use Rattle.vyrd_base.specs.Histories.{is_write, may_do}
-use Rattle.vyrd_base.proofs.UpdateLaws.{upd, upd_here, upd_else}
-use Rattle.vyrd_trace.specs.declared.plan.Plan.{Plan}
-use Rattle.vyrd_trace.specs.declared.record.Record.{Record}
-use Rattle.vyrd_trace.specs.declared.record.Stage.{Stage}
-use Rattle.vyrd_trace.specs.declared.record.Stage.TheVariants.{Rest, Claimed, Drawn, Giving}
-use Rattle.vyrd_trace.specs.Lanes.{stamp, last_value, HoldsBy, cells_in}
-use Rattle.vyrd_trace.specs.Records.{before_of, drawn, with_event}
-use Rattle.vyrd_trace.specs.Rule.{Ghost, IsAt, InHand, FitsCell, TraceKept}
-use Rattle.vyrd_trace.specs.Steps.{Sitting, drew, MayDraw}
 use Rattle.vyrd_trace.proofs.HistoryGrows.{value_after, legal-snoc, may_read, may_write, may_take}
 use Rattle.vyrd_trace.proofs.HistoryGrows.{may_give, may_mark}
 use Rattle.vyrd_trace.proofs.Parts.{value-snoc, part-mine, part-other, legal_bounded, held_value}
 use Rattle.vyrd_trace.proofs.Stays.{St, turned, refit, below, changed}
 use Rattle.vyrd_trace.proofs.CellMoves.{in_hand, moved, claims_moved, held_cell, nowhere}
 use Rattle.vyrd_trace.proofs.CellMoves.{nowhere_rest}
-use Rattle.vyrd_trace.specs.Hands.{most_events}
 
 module _ (p : Plan) (few : p.callers ≤ 64) (short : p.limit ≤ most_events) where
   -- the next number is far below 2 ^ 64

@@ -1,11 +1,6 @@
 -- Which locks a hand holds once it has one event more.
-use Rattle.std.proofs.Common.{◌≡◌, ◌≢◌, ℕ, None, refl, ◌∙◌, eq-eqb, ne_eqb}
-use Rattle.vyrd_base.specs.declared.history.Did.{Did}
-use Rattle.vyrd_base.specs.declared.history.Did.TheVariants.{Took, Gave}
-use Rattle.vyrd_base.specs.Histories.{made_of}
-use Rattle.vyrd_trace.specs.declared.look.Look.{Look}
-use Rattle.vyrd_trace.specs.Lanes.{stamp}
-use Rattle.vyrd_trace.specs.Hands.{HandView, Holds, with_one_more}
+use Rattle.vyrd_trace.proofs.Prelude.{◌≡◌, ◌≢◌, ℕ, None, refl, ◌∙◌, eq-eqb, ne_eqb, Did, Took, Gave}
+use Rattle.vyrd_trace.proofs.Prelude.{made_of, Look, stamp, HandView, Holds, with_one_more}
 use Rattle.vyrd_trace.proofs.Parts.{value-snoc}
 
 -- a lock that it took

@@ -1,3 +1,4 @@
+mod Prelude
 pub mod HistoryGrows
 pub mod Parts
 pub mod Holding

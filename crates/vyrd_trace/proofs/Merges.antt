@@ -1,16 +1,10 @@
 -- Lanes that are put together by the events' numbers.
-use Rattle.std.proofs.Common.{◌≡◌, ◌≢◌, ℕ, zero, suc, ◌+◌, ◌<◌, ◌≤◌, List, [], ◌∷◌, map, length}
-use Rattle.std.proofs.Common.{set, get_or, take, Some, refl, sym, ap, ◌∙◌, subst, arith}
-use Rattle.std.specs.Prelude.{slice_get, slice_index_or}
-use Rattle.std.specs.List.{All}
-use Rattle.std.proofs.lemmas.List.{take_all}
-use Rattle.std.proofs.lemmas.List.Elements.{All-more, All-take}
-use Rattle.std.proofs.lemmas.Option.{slice_get_within}
+use Rattle.vyrd_trace.proofs.Prelude.{◌≡◌, ◌≢◌, ℕ, zero, suc, ◌+◌, ◌<◌, ◌≤◌, List, [], ◌∷◌, map}
+use Rattle.vyrd_trace.proofs.Prelude.{length, set, get_or, take, Some, refl, sym, ap, ◌∙◌, subst}
+use Rattle.vyrd_trace.proofs.Prelude.{arith, slice_get, slice_index_or, All, take_all, All-more}
+use Rattle.vyrd_trace.proofs.Prelude.{All-take, slice_get_within, Stamped, part, IsMerge}
 use mathlib.Core.Logic.{dite}
 use native.Mathlib.Decide.{ℕ_discrete}
-use Rattle.vyrd_base.specs.declared.history.Stamped.{Stamped}
-use Rattle.vyrd_base.specs.Parts.{part}
-use Rattle.vyrd_trace.specs.Closing.{IsMerge}
 use Rattle.vyrd_trace.proofs.Parts.{part_in, in_part}
 
 -- lists read by `slice_get`

@@ -1,20 +1,12 @@
 -- One caller's part of a history, and what it says of the whole.
-use Rattle.std.proofs.Common.{◌≡◌, ◌≢◌, ℕ, zero, suc, ◌+◌, ◌*◌, ◌<◌, ◌≤◌, List, [], ◌∷◌, ◌++◌}
-use Rattle.std.proofs.Common.{length, get_or, Bool, true, false, cond, eqb, Some, refl, ◌∙◌, subst}
-use Rattle.std.proofs.Common.{arith, append-nil, eq-eqb, ne_eqb, suc-mul}
-use Rattle.std.specs.Prelude.{slice_get, slice_index_or, ltb}
-use Rattle.std.specs.List.{All}
-use Rattle.std.proofs.lemmas.List.Elements.{filter-append, All-filter}
-use Rattle.std.proofs.lemmas.Bool.Decides.{nat_tests}
+use Rattle.vyrd_trace.proofs.Prelude
+use Prelude.{◌≡◌, ◌≢◌, ℕ, zero, suc, ◌+◌, ◌*◌, ◌<◌, ◌≤◌, List, [], ◌∷◌, ◌++◌, length, get_or, Bool}
+use Prelude.{true, false, cond, eqb, Some, refl, ◌∙◌, subst, arith, append-nil, eq-eqb, ne_eqb}
+use Prelude.{suc-mul, slice_get, slice_index_or, ltb, All, filter-append, All-filter, nat_tests}
+use Prelude.{Did, Stamped, newest_first, Cells, may_do, is_legal, part, last_value, HoldsBy}
 use mathlib.Core.Logic.{dite}
 use native.Mathlib.Decide.{ℕ_discrete}
-use Rattle.vyrd_base.specs.declared.history.Did.{Did}
-use Rattle.vyrd_base.specs.declared.history.Stamped.{Stamped}
-use Rattle.vyrd_base.specs.Places.{newest_first}
-use Rattle.vyrd_base.specs.Histories.{Cells, may_do, is_legal}
 use Rattle.vyrd_base.proofs.TestLaws.{first_true, second_true, below_of, same_of}
-use Rattle.vyrd_base.specs.Parts.{part}
-use Rattle.vyrd_trace.specs.Lanes.{last_value, HoldsBy}
 use Rattle.vyrd_trace.proofs.HistoryGrows.{value_after, value_in-snoc, numbered, legal_induction}
 
 pub value-snoc : (h : List Stamped) (e : Stamped) (cell : ℕ) → last_value (h ++ e ∷ []) cell

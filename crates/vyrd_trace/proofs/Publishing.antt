@@ -1,21 +1,11 @@
 -- A publish keeps the rule: the word is twice the value again.
-use Rattle.std.proofs.Common.{◌≡◌, ◌≢◌, ℕ, ◌+◌, ◌*◌, ◌<◌, List, length, true, Some, None, refl, sym}
-use Rattle.std.proofs.Common.{ap, ◌∙◌, subst, arith, length-set, get_or-set_same}
-use Rattle.std.specs.Prelude.{slice_index}
-use Rattle.std.proofs.lemmas.List.{get_or-set_other}
+use Rattle.vyrd_trace.proofs.Prelude
+use Prelude.{◌≡◌, ◌≢◌, ℕ, ◌+◌, ◌*◌, ◌<◌, List, length, true, Some, None, refl, sym, ap, ◌∙◌, subst}
+use Prelude.{arith, length-set, get_or-set_same, slice_index, get_or-set_other, step, keeps}
+use Prelude.{stepped, Allows, same_Some, upd, upd_here, Plan, Record, Stage, Rest, Claimed, Drawn}
+use Prelude.{Giving, last_value, acting, Ghost, InHand, TraceKept, Sitting, published, Ends}
 use mathlib.Core.Option.{some, none}
 use lib.ListN.{get_elem?}
-use Rattle.atomic_table.specs.Table.{step, keeps, stepped, Allows}
-use Rattle.std.proofs.lemmas.Option.{same_Some}
-use Rattle.vyrd_base.proofs.UpdateLaws.{upd, upd_here}
-use Rattle.vyrd_trace.specs.declared.plan.Plan.{Plan}
-use Rattle.vyrd_trace.specs.declared.record.Record.{Record}
-use Rattle.vyrd_trace.specs.declared.record.Stage.{Stage}
-use Rattle.vyrd_trace.specs.declared.record.Stage.TheVariants.{Rest, Claimed, Drawn, Giving}
-use Rattle.vyrd_trace.specs.Lanes.{last_value}
-use Rattle.vyrd_trace.specs.Records.{acting}
-use Rattle.vyrd_trace.specs.Rule.{Ghost, InHand, TraceKept}
-use Rattle.vyrd_trace.specs.Steps.{Sitting, published, Ends}
 use Rattle.vyrd_trace.proofs.Stays.{St, turned}
 use Rattle.vyrd_trace.proofs.CellMoves.{in_hand, moved, claims_moved, same_moved, nowhere_drawn}
 use Rattle.vyrd_trace.proofs.CellMoves.{nowhere_giving}

@@ -1,23 +1,13 @@
 -- A step of one seat changes what that seat's caller knows, and leaves what the others know.
-use Rattle.std.proofs.Common.{◌≡◌, ◌≢◌, ℕ, ◌+◌, ◌<◌, ◌≤◌, List, length, set, true, Option, Some}
-use Rattle.std.proofs.Common.{refl, sym, ap, ◌∙◌, subst, ⊎_elim, arith}
-use Rattle.std.specs.Prelude.{slice_index}
+use Rattle.vyrd_trace.proofs.Prelude.{◌≡◌, ◌≢◌, ℕ, ◌+◌, ◌<◌, ◌≤◌, List, length, set, true, Option}
+use Rattle.vyrd_trace.proofs.Prelude.{Some, refl, sym, ap, ◌∙◌, subst, ⊎_elim, arith, slice_index}
+use Rattle.vyrd_trace.proofs.Prelude.{State, keeps, stepped, at_set, Stamped, is_legal, Plan, Look}
+use Rattle.vyrd_trace.proofs.Prelude.{Record, Lane, Stage, part, AreBelow, last_value, cells_in}
+use Rattle.vyrd_trace.proofs.Prelude.{Ghost, IsAt, FitsCell, HasLane, Knows, TraceKept}
 use mathlib.Core.Logic.{dite}
 use mathlib.Core.Option.{some}
 use native.Mathlib.Decide.{ℕ_discrete}
 use lib.ListN.{get_elem?}
-use Rattle.atomic_table.specs.Table.{State, keeps, stepped}
-use Rattle.atomic_table.proofs.Lists.{at_set}
-use Rattle.vyrd_base.specs.declared.history.Stamped.{Stamped}
-use Rattle.vyrd_base.specs.Histories.{is_legal}
-use Rattle.vyrd_trace.specs.declared.plan.Plan.{Plan}
-use Rattle.vyrd_trace.specs.declared.look.Look.{Look}
-use Rattle.vyrd_trace.specs.declared.record.Record.{Record}
-use Rattle.vyrd_trace.specs.declared.record.Lane.{Lane}
-use Rattle.vyrd_trace.specs.declared.record.Stage.{Stage}
-use Rattle.vyrd_base.specs.Parts.{part}
-use Rattle.vyrd_trace.specs.Lanes.{AreBelow, last_value, cells_in}
-use Rattle.vyrd_trace.specs.Rule.{Ghost, IsAt, FitsCell, HasLane, Knows, TraceKept}
 use Rattle.vyrd_trace.proofs.Parts.{part_below}
 
 abbrev pub St : Type 0

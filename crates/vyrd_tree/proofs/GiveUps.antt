@@ -1,22 +1,11 @@
 -- The leaf of a key, and when an insert gives up.
-use Rattle.std.proofs.Common.{◌≡◌, ◌≢◌, ℕ, zero, suc, ◌+◌, ◌<◌, ◌≤◌, ◌^◌, ◌⊎◌, inl, inr, Bool, cond}
-use Rattle.std.proofs.Common.{Some, ◌∙◌, sym, arith}
-use Rattle.vyrd_base.specs.declared.header.Header.{Header}
-use Rattle.vyrd_base.specs.declared.subject.Subject.TheVariants.{Tree}
+use Rattle.vyrd_tree.proofs.Prelude
+use Prelude.{◌≡◌, ◌≢◌, ℕ, zero, suc, ◌+◌, ◌<◌, ◌≤◌, ◌^◌, ◌⊎◌, inl, inr, Bool, cond, Some, ◌∙◌, sym}
+use Prelude.{arith, Header, Tree, Correct, Memory, state_in, alone, GivesUpWhere, insert_entry}
+use Prelude.{is_past, leaf_from, leaf_of, HasNoRoom, zero_or, le_or, level_at, count_at, bound_at}
+use Prelude.{right_at, last_in, Below, IsTree, after_of, after_falls, after_few, next_of, one_cover}
+use Prelude.{zero_low, tree_represents, gives_up, past, not_past, LeafOf, InsertDone, insert_alone}
 use Rattle.vyrd_base.specs.Amounts.{Amounts}
-use Rattle.vyrd_memory.specs.declared.op.Variant.TheVariants.{Correct}
-use Rattle.vyrd_memory.specs.Alone.{Memory, state_in, alone, GivesUpWhere}
-use Rattle.vyrd_tree.specs.Procedures.{insert_entry}
-use Rattle.vyrd_tree.specs.Procedures.Walk.{is_past}
-use Rattle.vyrd_tree.specs.Room.{leaf_from, leaf_of, HasNoRoom}
-use Rattle.vyrd_tree.specs.Laws.Alone.Counts.{zero_or, le_or}
-use Rattle.vyrd_tree.specs.Contents.{level_at, count_at, bound_at, right_at, last_in, Below, IsTree}
-use Rattle.vyrd_tree.specs.Laws.Alone.Order.{after_of, after_falls, after_few, next_of, one_cover}
-use Rattle.vyrd_tree.specs.Laws.Alone.Order.{zero_low}
-use Rattle.vyrd_tree.specs.Laws.Alone.Changes.{tree_represents}
-use Rattle.vyrd_memory.proofs.AloneLaws.{gives_up}
-use Rattle.vyrd_tree.specs.Laws.Alone.WalkArrives.{past, not_past}
-use Rattle.vyrd_tree.specs.Laws.Alone.Inserted.{LeafOf, InsertDone, insert_alone}
 
 -- the links lead to the leaf that has the key in its range
 leaf_found : (size : ℕ) (m : Memory) (low : ℕ → ℕ) (key : ℕ) → IsTree size m low → (left n : ℕ)

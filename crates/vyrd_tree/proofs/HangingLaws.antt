@@ -1,21 +1,18 @@
 -- The test of a node that hangs says so, and the other way round.
-use Rattle.std.proofs.Common.{◌≡◌, ◌≢◌, ℕ, ◌+◌, ◌≤◌, ◌⊎◌, inl, inr, true, not, List, ap, ◌∙◌, sym}
-use Rattle.std.proofs.Common.{subst, arith}
-use Rattle.std.specs.Prelude.{◌==◌, ◌&&◌, ◌||◌, nat_le, slice_index}
+use Rattle.vyrd_tree.proofs.Prelude.{◌≡◌, ◌≢◌, ℕ, ◌+◌, ◌≤◌, ◌⊎◌, inl, inr, true, List, ap, ◌∙◌, sym}
+use Rattle.vyrd_tree.proofs.Prelude.{subst, arith, ◌==◌, nat_le, Header, Tree, same_of, is_same}
+use Rattle.vyrd_tree.proofs.Prelude.{Memory, is_hanging, zero_or, IsTree, entries_at}
+use Rattle.std.proofs.Common.{not}
+use Rattle.std.specs.Prelude.{◌&&◌, ◌||◌, slice_index}
 use Rattle.std.specs.List.{list_all, AllByRecursion as Each}
 use Rattle.std.proofs.lemmas.Bool.Decides.{nat_tests}
-use Rattle.vyrd_base.specs.declared.header.Header.{Header}
-use Rattle.vyrd_base.specs.declared.subject.Subject.TheVariants.{Tree}
-use Rattle.vyrd_base.specs.Tree.{level_of, entries_of}
-use Rattle.vyrd_base.specs.Tree.{last_of, nodes, low_of}
-use Rattle.vyrd_base.proofs.TestLaws.{both_true, first_true, second_true, same_of, is_same}
-use Rattle.vyrd_base.proofs.TestLaws.{isnt_same, is_at_most, at_most_of}
+use Rattle.vyrd_base.specs.Tree.{level_of, entries_of, last_of, nodes, low_of}
+use Rattle.vyrd_base.proofs.TestLaws.{both_true, first_true, second_true, isnt_same, is_at_most}
+use Rattle.vyrd_base.proofs.TestLaws.{at_most_of}
 use Rattle.vyrd_base.proofs.PlaceLaws.{pass_all}
-use Rattle.vyrd_memory.specs.Alone.{Memory, words_in}
+use Rattle.vyrd_memory.specs.Alone.{words_in}
 use Rattle.vyrd_memory.proofs.NumberLists.{all_pass}
-use Rattle.vyrd_tree.specs.Hanging.{leads_elsewhere, hangs_in, is_hanging}
-use Rattle.vyrd_tree.specs.Laws.Alone.Counts.{zero_or}
-use Rattle.vyrd_tree.specs.Contents.{IsTree, entries_at}
+use Rattle.vyrd_tree.specs.Hanging.{leads_elsewhere, hangs_in}
 use Rattle.vyrd_tree.specs.Laws.Alone.Tested.{all_says, all_passes, entries_are, low_is}
 use Rattle.vyrd_tree.specs.Laws.Alone.Changes.{SameWords, same_words_tree, words_same}
 use Rattle.vyrd_tree.specs.Laws.Alone.SplitKeepsTree.{IsHanging}

@@ -1,27 +1,15 @@
 -- Where parts of the procedures come to, played alone: to one memory, whatever is given to follow.
-use Rattle.std.proofs.Common.{◌≡◌, ℕ, zero, suc, ◌+◌, ◌⊎◌, inl, inr, Bool, true, false, cond, List}
-use Rattle.std.proofs.Common.{[], ◌∷◌, map, length, Option, None, refl, ◌∙◌}
-use Rattle.std.specs.Prelude.{◌==◌, nat_lt, nat_le, min, drop}
-use Rattle.vyrd_base.specs.declared.header.Header.{Header}
-use Rattle.vyrd_base.specs.declared.log.Kind.{Kind}
-use Rattle.vyrd_base.specs.declared.log.Kind.TheVariants.{BlockOpen, BlockClose}
-use Rattle.vyrd_base.specs.Places.{numbers_from}
-use Rattle.vyrd_memory.specs.declared.act.Act.TheVariants.{Load, Store, Take, Mark}
-use Rattle.vyrd_memory.specs.declared.op.Variant.TheVariants.{Correct}
-use Rattle.vyrd_memory.specs.Scripts.{Script, step, perform}
-use Rattle.vyrd_memory.specs.Alone.{Memory, with_cell, Outcome, alone}
-use Rattle.vyrd_tree.specs.Cells.{level_cell, count_cell, bound_cell, right_cell, value_cell}
-use Rattle.vyrd_tree.specs.Cells.{root_cell, used_cell, lock_of, root_lock, used_lock, unlock_node}
-use Rattle.vyrd_tree.specs.Cells.{unlock_root, unlock_used}
-use Rattle.vyrd_tree.specs.Procedures.Walk.{Arrived, child_place, moves_right, to_child, descend}
-use Rattle.vyrd_tree.specs.Procedures.Walk.{load_rest, arrive, pass_on, visit_node, walk_from}
-use Rattle.vyrd_tree.specs.Procedures.Split.{with_unused, write_entries, write_node, place_below}
-use Rattle.vyrd_tree.specs.Procedures.Split.{with_entry, lower_half, upper_half, first_key}
-use Rattle.vyrd_tree.specs.Procedures.Split.{add_entry, split_entry, split_key}
-use Rattle.vyrd_tree.specs.Procedures.Ascent.{grow_root, add_child, ascend_once}
-use Rattle.vyrd_tree.specs.Contents.{key_at, entries_from, Entries}
-use Rattle.vyrd_tree.specs.Laws.Alone.Played.{keys_loaded, values_loaded}
-use Rattle.vyrd_tree.specs.Laws.Alone.BlocksPlayed.{GoesOn}
+use Rattle.vyrd_tree.proofs.Prelude
+use Prelude.{◌≡◌, ℕ, zero, suc, ◌+◌, ◌⊎◌, inl, inr, Bool, true, false, cond, List, [], ◌∷◌, map}
+use Prelude.{length, Option, None, refl, ◌∙◌, ◌==◌, nat_lt, nat_le, min, drop, Header, Kind}
+use Prelude.{BlockOpen, BlockClose, numbers_from, Load, Store, Take, Mark, Correct, Script, step}
+use Prelude.{perform, Memory, with_cell, Outcome, alone, level_cell, count_cell, bound_cell}
+use Prelude.{right_cell, value_cell, root_cell, used_cell, lock_of, root_lock, used_lock}
+use Prelude.{unlock_node, unlock_root, unlock_used, Arrived, child_place, moves_right, to_child}
+use Prelude.{descend, load_rest, arrive, pass_on, visit_node, walk_from, with_unused, write_entries}
+use Prelude.{write_node, place_below, with_entry, lower_half, upper_half, first_key, add_entry}
+use Prelude.{split_entry, split_key, grow_root, add_child, ascend_once, key_at, entries_from}
+use Prelude.{Entries, keys_loaded, values_loaded, GoesOn}
 
 -- Entries are written.
 pub written : (c node place : ℕ) (xs : Entries) (m : Memory)

@@ -1,36 +1,16 @@
 -- What an insert has done before its ascent, and what each round of the ascent does.
-use Rattle.std.proofs.Common.{◌≡◌, ℕ, ◌+◌, ◌*◌, ◌<◌, ◌^◌, inl, inr, Bool, true, cond, Option, Some}
-use Rattle.std.proofs.Common.{None, length, refl, ◌∙◌, sym, subst, arith}
-use Rattle.std.specs.Prelude.{◌==◌, ⊤}
-use Rattle.vyrd_base.specs.declared.header.Header.{Header}
-use Rattle.vyrd_base.specs.declared.subject.Subject.TheVariants.{Tree}
-use Rattle.vyrd_base.specs.declared.subject.Args.{Args}
-use Rattle.vyrd_base.specs.declared.log.Kind.TheVariants.{BlockCommit}
+use Rattle.vyrd_tree.proofs.Prelude
+use Prelude.{◌≡◌, ℕ, ◌+◌, ◌*◌, ◌<◌, ◌^◌, inl, inr, Bool, true, cond, Option, Some, None, length}
+use Prelude.{refl, ◌∙◌, sym, subst, arith, ◌==◌, ⊤, Header, Tree, Args, BlockCommit, same_of}
+use Prelude.{is_same, isnt_below, Correct, Memory, with_cell, Outcome, state_in, alone, count_cell}
+use Prelude.{used_cell, lock_of, used_lock, Arrived, split_entry, split_key, ascend_once}
+use Prelude.{changes_nothing, place_of, insert_in_then, insert_then, leaf_of, is_hanging}
+use Prelude.{SplitsLeaf, KeepsState, count_at, last_in, entries_at, ShowsBy, TreeRepresents}
+use Prelude.{found_around, not_found, length-entries, tree_represents, tree_represented, EndsSo}
+use Prelude.{loaded_at, with_lock, locked_words, walk_down_arrives, FreeAll, IsAt, is_at}
+use Prelude.{unused_played, present, leaf_is_split, LeafOf, Stops, GoesOnAt, round_played}
 use Rattle.vyrd_base.specs.Amounts.{Amounts, amount_of, with_amount}
-use Rattle.vyrd_base.proofs.TestLaws.{same_of, is_same, isnt_below}
-use Rattle.vyrd_memory.specs.declared.op.Variant.TheVariants.{Correct}
-use Rattle.vyrd_memory.specs.Scripts.{Script, stop, returns, gives_up}
-use Rattle.vyrd_memory.specs.Alone.{Memory, with_cell, Outcome, state_in, alone}
-use Rattle.vyrd_tree.specs.Cells.{count_cell, used_cell, lock_of, used_lock}
-use Rattle.vyrd_tree.specs.Procedures.Walk.{Arrived}
-use Rattle.vyrd_tree.specs.Procedures.Split.{split_entry, split_key}
-use Rattle.vyrd_tree.specs.Procedures.Ascent.{ascend_once}
-use Rattle.vyrd_tree.specs.Procedures.{changes_nothing, place_of, insert_in_then, insert_then}
-use Rattle.vyrd_tree.specs.Room.{leaf_of}
-use Rattle.vyrd_tree.specs.Hanging.{is_hanging}
-use Rattle.vyrd_tree.specs.Passes.{SplitsLeaf, KeepsState}
-use Rattle.vyrd_tree.specs.Contents.{count_at, last_in, entries_at, ShowsBy, TreeRepresents}
-use Rattle.vyrd_tree.specs.Laws.Alone.Entries.{found_around, not_found}
-use Rattle.vyrd_tree.specs.Laws.Alone.Tested.{length-entries}
-use Rattle.vyrd_tree.specs.Laws.Alone.Changes.{tree_represents, tree_represented}
-use Rattle.vyrd_memory.proofs.AloneLaws.{EndsSo}
-use Rattle.vyrd_tree.specs.Laws.Alone.WalkArrives.{loaded_at, with_lock, locked_words}
-use Rattle.vyrd_tree.specs.Laws.Alone.WalkArrives.{walk_down_arrives}
-use Rattle.vyrd_tree.specs.Laws.Alone.BlocksPlayed.{FreeAll, IsAt, is_at, unused_played}
-use Rattle.vyrd_tree.specs.Laws.Alone.Done.{present}
-use Rattle.vyrd_tree.specs.Laws.Alone.NewKey.{leaf_is_split}
-use Rattle.vyrd_tree.specs.Laws.Alone.Inserted.{LeafOf}
-use Rattle.vyrd_tree.specs.Laws.Alone.AscentKeepsState.{Stops, GoesOnAt, round_played}
+use Rattle.vyrd_memory.specs.Scripts.{stop, gives_up, Script, returns}
 use Rattle.vyrd_tree.proofs.GiveUps.{leaf_stands, leaf_is}
 use Rattle.vyrd_tree.proofs.Onward.{node_is_split, Comes, round_comes}
 use Rattle.vyrd_tree.proofs.HangingLaws.{hanging_says, hanging_passes}

@@ -1,17 +1,11 @@
 -- The first place where two lists of amounts part is at the least key whose amounts differ.
-use Rattle.std.proofs.Common.{◌≡◌, ℕ, zero, suc, ◌+◌, ◌<◌, ◌≤◌, min, Bool, true, false, cond, ◌&&◌}
-use Rattle.std.proofs.Common.{T, [], ◌∷◌, Option, Some, None, length, get_or, drop, refl, ap, ◌∙◌}
-use Rattle.std.proofs.Common.{sym, subst, arith, drop-cons}
-use Rattle.std.specs.Prelude.{◌==◌, ◌≢◌, nat_lt, slice_get, option_map}
-use Rattle.std.specs.Option.{option_or}
-use Rattle.std.specs.Ordering.{nat_cmp, is_lt}
-use Rattle.std.specs.FinMap.Entries.{below_all}
-use Rattle.std.proofs.lemmas.Bool.Decides.{nat_tests}
-use Rattle.vyrd_base.specs.Amounts.{Amounts, IsAmounts, amount_of, first_difference}
+use Rattle.vyrd_view.proofs.Prelude
+use Prelude.{◌≡◌, ℕ, zero, suc, ◌+◌, ◌<◌, ◌≤◌, min, Bool, true, false, cond, ◌&&◌, T, [], ◌∷◌}
+use Prelude.{Option, Some, None, length, get_or, drop, refl, ap, ◌∙◌, sym, subst, arith, drop-cons}
+use Prelude.{◌==◌, ◌≢◌, nat_lt, slice_get, option_map, option_or, nat_cmp, is_lt, below_all}
+use Prelude.{nat_tests, Amounts, IsAmounts, amount_of, first_difference, same_number, same_of}
+use Prelude.{apart_of, lower_isnt, both_of, apart_from, first_of_and, second_of_and, IsLeastApart}
 use Rattle.vyrd_base.proofs.DifferenceLaws.{first_difference_none, first_difference_some}
-use Rattle.vyrd_base.proofs.TestLaws.{same_number, same_of, apart_of, lower_isnt, both_of}
-use Rattle.vyrd_base.proofs.AmountLaws.{apart_from, first_of_and, second_of_and}
-use Rattle.vyrd_view.specs.Apart.{IsLeastApart}
 
 -- the lesser key at the first place where the lists differ
 abbrev pub first_apart : Amounts → Amounts → Option ℕ

@@ -1,16 +1,10 @@
 -- The chain of a tree's leaves, node by node, with a flag for each node that was seen.
-use Rattle.std.proofs.Common.{◌≡◌, ℕ, zero, suc, ◌+◌, ◌-◌, ◌<◌, Bool, true, false, ◌||◌, List, []}
-use Rattle.std.proofs.Common.{◌∷◌, length, get_or, set, refl, ap, ◌∙◌, arith}
-use Rattle.std.proofs.Common.{get_or-set_same, get_or-set_other}
-use Rattle.std.specs.Prelude.{◌==◌, ◌≢◌, nat_le, replicate}
-use Rattle.std.specs.List.{list_any}
-use Rattle.std.proofs.lemmas.Bool.Decides.{nat_tests}
+use Rattle.vyrd_view.proofs.Prelude
+use Prelude.{◌≡◌, ℕ, zero, suc, ◌+◌, ◌-◌, ◌<◌, Bool, true, false, ◌||◌, List, [], ◌∷◌, length}
+use Prelude.{get_or, set, refl, ap, ◌∙◌, arith, get_or-set_same, get_or-set_other, ◌==◌, ◌≢◌}
+use Prelude.{nat_le, replicate, list_any, nat_tests, Amounts, collected, right_of, node_parts}
+use Prelude.{damage, chain_parts_from, chain_parts, parts_after, isnt_same, is_same, added}
 use Rattle.std.proofs.Math.Bool.{or-true}
-use Rattle.vyrd_base.specs.Amounts.{Amounts, collected}
-use Rattle.vyrd_base.specs.Tree.{right_of, node_parts, damage, chain_parts_from, chain_parts}
-use Rattle.vyrd_base.proofs.PartLaws.{parts_after}
-use Rattle.vyrd_base.proofs.TestLaws.{isnt_same, is_same}
-use Rattle.vyrd_base.specs.Added.{added}
 use Rattle.vyrd_base.proofs.AddedLaws.{added-append, added-collected}
 
 -- The flags tell the nodes that were seen, and a node past the flags counts as seen.

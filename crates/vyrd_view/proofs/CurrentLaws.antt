@@ -1,17 +1,10 @@
 -- What is kept of a tree's words stays that of the words, node by node.
-use Rattle.std.proofs.Common.{◌≡◌, ℕ, zero, suc, ◌+◌, ◌*◌, ◌/◌, ◌%◌, ◌<◌, Bool, true, false, ◌||◌}
-use Rattle.std.proofs.Common.{List, [], ◌∷◌, replicate, get_or, set, refl, ap, ◌∙◌, sym, arith}
-use Rattle.std.specs.Prelude.{◌==◌, ◌≢◌, nat_le, slice_index}
-use Rattle.std.specs.List.{list_any}
-use Rattle.vyrd_base.specs.Amounts.{given}
-use Rattle.vyrd_base.specs.Tree.{right_of, node_word}
-use Rattle.vyrd_base.proofs.SumLaws.{nothing_given}
-use Rattle.vyrd_base.proofs.ListLaws.{zeros}
-use Rattle.vyrd_base.proofs.TestLaws.{apart_of, isnt_same, neither_true, isnt_below}
-use Rattle.vyrd_view.specs.Pairs.{is_touched}
-use Rattle.vyrd_view.specs.Chains.{chain_nodes_from, chain_breaks_from, is_on_chain, is_broken}
-use Rattle.vyrd_view.specs.Chains.{entry_pair, node_pair, is_stale, has_link}
-use Rattle.vyrd_view.specs.Comparing.{AgreeElsewhere}
+use Rattle.vyrd_view.proofs.Prelude
+use Prelude.{◌≡◌, ℕ, zero, suc, ◌+◌, ◌*◌, ◌/◌, ◌%◌, ◌<◌, Bool, true, false, ◌||◌, List, [], ◌∷◌}
+use Prelude.{replicate, get_or, set, refl, ap, ◌∙◌, sym, arith, ◌==◌, ◌≢◌, nat_le, slice_index}
+use Prelude.{list_any, given, right_of, node_word, nothing_given, zeros, apart_of, isnt_same}
+use Prelude.{neither_true, isnt_below, is_touched, chain_nodes_from, chain_breaks_from, is_on_chain}
+use Prelude.{is_broken, entry_pair, node_pair, is_stale, has_link, AgreeElsewhere}
 use Rattle.vyrd_view.proofs.DecodedLaws.{word_untouched}
 
 link_untouched : (w : ℕ) (changed : List ℕ) → w % 12 ≡ 3 → has_link changed ≡ false

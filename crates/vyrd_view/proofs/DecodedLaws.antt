@@ -1,25 +1,16 @@
 -- Words that are decoded part by part: what is in which place, and what a changed word leaves.
-use Rattle.std.proofs.Common.{◌≡◌, ℕ, zero, suc, ◌+◌, ◌-◌, ◌*◌, ◌/◌, ◌%◌, ◌<◌, ◌≤◌, Bool, true}
-use Rattle.std.proofs.Common.{false, List, [], ◌∷◌, length, map, get_or, set, refl, ap, ◌∙◌, sym}
-use Rattle.std.proofs.Common.{arith, get_or-set_same, get_or-set_other}
-use Rattle.std.specs.Prelude.{◌==◌, ◌≢◌}
-use Rattle.std.specs.List.{list_any}
-use Rattle.std.proofs.lemmas.List.{same_lists, length-take}
-use Rattle.std.proofs.lemmas.List.{length-drop, get_or_default}
-use Rattle.std.proofs.lemmas.Nat.{div-mul-add}
+use Rattle.vyrd_view.proofs.Prelude
+use Prelude.{◌≡◌, ℕ, zero, suc, ◌+◌, ◌-◌, ◌*◌, ◌/◌, ◌%◌, ◌<◌, ◌≤◌, Bool, true, false, List, [], ◌∷◌}
+use Prelude.{length, map, get_or, set, refl, ap, ◌∙◌, sym, arith, get_or-set_same, get_or-set_other}
+use Prelude.{◌==◌, ◌≢◌, list_any, length-take, get_or_default, div-mul-add, numbers_below, Amounts}
+use Prelude.{collected, given, part_given, same_amounts, length_below, element_below, own_part}
+use Prelude.{nothing_given, amount_of-collected, IsAmounts-collected, same_of, apart_of, isnt_same}
+use Prelude.{neither_true, AgreeElsewhere, is_touched, mapped-push, given_map_push, own_word}
+use Rattle.std.proofs.lemmas.List.{same_lists, length-drop}
 use Rattle.std.proofs.Math.Nat.{div-add-mod}
-use Rattle.vyrd_base.specs.Places.{numbers_below}
-use Rattle.vyrd_base.specs.Amounts.{Amounts, plus_amount, collected, given, part_given}
+use Rattle.vyrd_base.specs.Amounts.{plus_amount}
 use Rattle.vyrd_base.proofs.AddedLaws.{collected-append}
-use Rattle.vyrd_base.proofs.AmountLaws.{same_amounts}
-use Rattle.vyrd_base.proofs.PlaceLaws.{length_below, element_below}
-use Rattle.vyrd_base.proofs.SumLaws.{own_part, nothing_given, amount_of-collected}
-use Rattle.vyrd_base.proofs.SumLaws.{IsAmounts-collected}
-use Rattle.vyrd_base.proofs.TestLaws.{same_of, apart_of, isnt_same, neither_true}
-use Rattle.vyrd_view.specs.Comparing.{AgreeElsewhere}
-use Rattle.vyrd_view.specs.Decoded.{Gives, words_of, pair_at, pairs_by, AreGiven}
-use Rattle.vyrd_view.specs.Pairs.{is_touched}
-use Rattle.vyrd_view.specs.Laws.Sums.{mapped-push, given_map_push, own_word}
+use Rattle.vyrd_view.specs.Decoded.{AreGiven, Gives, words_of, pair_at, pairs_by}
 
 -- a part ends within all parts
 pub part_within : (part parts width : ℕ) → part < parts → part * width + width ≤ parts * width

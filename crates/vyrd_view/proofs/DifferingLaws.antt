@@ -1,11 +1,8 @@
 -- The changed words that hold another value than before.
-use Rattle.std.proofs.Common.{◌≡◌, ℕ, ◌+◌, ◌<◌, Bool, true, false, not, cond, ◌||◌, List, [], ◌∷◌}
-use Rattle.std.proofs.Common.{length, drop, get_or, refl, ap, ◌∙◌, sym}
-use Rattle.std.specs.Prelude.{◌==◌, ◌≢◌}
-use Rattle.std.specs.List.{list_any}
-use Rattle.std.proofs.lemmas.List.{drop_more}
-use Rattle.vyrd_base.proofs.TestLaws.{same_of, is_same, isnt_same}
-use Rattle.vyrd_view.specs.Comparing.{AgreeElsewhere, differing}
+use Rattle.vyrd_view.proofs.Prelude.{◌≡◌, ℕ, ◌+◌, ◌<◌, Bool, true, false, not, cond, ◌||◌, List, []}
+use Rattle.vyrd_view.proofs.Prelude.{◌∷◌, length, drop, get_or, refl, ap, ◌∙◌, sym, ◌==◌, ◌≢◌}
+use Rattle.vyrd_view.proofs.Prelude.{list_any, drop_more, same_of, is_same, isnt_same}
+use Rattle.vyrd_view.proofs.Prelude.{AgreeElsewhere, differing}
 
 module _ (before words : List ℕ) where
   -- the changed words from a place on, by whether the one there holds the value that it had

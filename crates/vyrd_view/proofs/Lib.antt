@@ -1,3 +1,4 @@
+mod Prelude
 pub mod DecodedLaws
 pub mod ChainLaws
 pub mod ApartLaws

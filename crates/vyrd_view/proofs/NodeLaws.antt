@@ -1,9 +1,7 @@
 -- The four places of a node.
-use Rattle.std.proofs.Common.{◌≡◌, ℕ, zero, suc, ◌+◌, ◌*◌, ◌/◌, ◌<◌, ◌≤◌, Bool, true, false, List}
-use Rattle.std.proofs.Common.{[], ◌∷◌, length, get_or, arith}
-use Rattle.std.specs.Prelude.{◌==◌}
-use Rattle.vyrd_base.proofs.TestLaws.{same_of}
-use Rattle.vyrd_view.specs.Chains.{entry_pair, node_pair, is_stale}
+use Rattle.vyrd_view.proofs.Prelude.{◌≡◌, ℕ, zero, suc, ◌+◌, ◌*◌, ◌/◌, ◌<◌, ◌≤◌, Bool, true, false}
+use Rattle.vyrd_view.proofs.Prelude.{List, [], ◌∷◌, length, get_or, arith, ◌==◌, same_of}
+use Rattle.vyrd_view.proofs.Prelude.{entry_pair, node_pair, is_stale}
 
 stale_rest : (marks : List Bool) (part word : ℕ) (left : List ℕ) → (word / 12 == part) ≡ false
     → is_stale marks part left ≡ false → is_stale marks part (word ∷ left) ≡ false

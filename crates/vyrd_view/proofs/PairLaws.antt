@@ -1,13 +1,8 @@
 -- What is kept, and what one pair of it gives.
-use Rattle.std.proofs.Common.{◌≡◌, ℕ, zero, suc, ◌<◌, ◌≤◌, Bool, true, false, List, [], ◌∷◌, ◌++◌}
-use Rattle.std.proofs.Common.{length, get_or, refl, arith}
-use Rattle.std.specs.Prelude.{nat_lt}
-use Rattle.std.proofs.lemmas.List.{get_or_past}
-use Rattle.vyrd_base.proofs.SumLaws.{own_part}
-use Rattle.vyrd_base.proofs.TestLaws.{below_of, not_below_of}
-use Rattle.vyrd_view.specs.Pairs.{EachAtMost}
-use Rattle.vyrd_base.specs.Amounts.{Amounts, given, part_given}
-use Rattle.vyrd_view.specs.Kept.{ComparedKept}
+use Rattle.vyrd_view.proofs.Prelude.{◌≡◌, ℕ, zero, suc, ◌<◌, ◌≤◌, Bool, true, false, List, [], ◌∷◌}
+use Rattle.vyrd_view.proofs.Prelude.{◌++◌, length, get_or, refl, arith, nat_lt, get_or_past}
+use Rattle.vyrd_view.proofs.Prelude.{own_part, below_of, not_below_of, EachAtMost, Amounts, given}
+use Rattle.vyrd_view.proofs.Prelude.{part_given, ComparedKept}
 
 -- each pair gives at most what all give
 pub part-le-given : (q : ℕ) (pairs : List (ℕ × ℕ)) (i : ℕ) (d : ℕ × ℕ) → i < length pairs

@@ -1,12 +1,9 @@
 -- Pairs in places, as a loop over changed words brings them up to date.
-use Rattle.std.proofs.Common.{◌≡◌, ℕ, suc, ◌+◌, ◌/◌, ◌<◌, ◌≤◌, Bool, true, false, ◌||◌, List, []}
-use Rattle.std.proofs.Common.{◌∷◌, length, map, get_or, set, drop, refl, ap, ◌∙◌, arith}
-use Rattle.std.proofs.Common.{get_or-set_same, get_or-set_other}
-use Rattle.std.specs.Prelude.{◌==◌, ◌≢◌}
-use Rattle.std.proofs.lemmas.List.{drop_more, drop_all}
-use Rattle.vyrd_base.specs.Places.{numbers_from, numbers_below}
-use Rattle.vyrd_base.proofs.TestLaws.{same_of, apart_of}
-use Rattle.vyrd_view.specs.Pairs.{is_touched, EachAtMost}
+use Rattle.vyrd_view.proofs.Prelude
+use Prelude.{◌≡◌, ℕ, suc, ◌+◌, ◌/◌, ◌<◌, ◌≤◌, Bool, true, false, ◌||◌, List, [], ◌∷◌, length, map}
+use Prelude.{get_or, set, drop, refl, ap, ◌∙◌, arith, get_or-set_same, get_or-set_other, ◌==◌, ◌≢◌}
+use Prelude.{drop_more, drop_all, numbers_below, same_of, apart_of, is_touched, EachAtMost}
+use Rattle.vyrd_base.specs.Places.{numbers_from}
 
 -- a pair that gives this much at most comes to a place
 pub each-set : (most : ℕ) (pairs : List (ℕ × ℕ)) (place : ℕ) (pair : ℕ × ℕ) → place < length pairs

@@ -1,15 +1,11 @@
 -- What changed words cost at most, summed word by word.
-use Rattle.std.proofs.Common.{◌≡◌, ℕ, suc, ◌+◌, ◌*◌, ◌%◌, ◌≤◌, Bool, not, cond, ◌||◌}
-use Rattle.std.proofs.Common.{List, [], ◌∷◌, length, get_or, arith}
-use Rattle.std.specs.Prelude.{◌==◌}
+use Rattle.vyrd_view.proofs.Prelude.{◌≡◌, ℕ, suc, ◌+◌, ◌*◌, ◌%◌, ◌≤◌, Bool, not, cond, ◌||◌, List}
+use Rattle.vyrd_view.proofs.Prelude.{[], ◌∷◌, length, get_or, arith, ◌==◌, sum_by-cons, Tree}
+use Rattle.vyrd_view.proofs.Prelude.{has_link, differing}
 use Rattle.std.specs.List.{sum_by}
-use Rattle.std.proofs.lemmas.List.Sums.{sum_by-cons}
 use Rattle.vyrd_base.specs.declared.subject.Subject.{Subject}
-use Rattle.vyrd_base.specs.declared.subject.Subject.TheVariants.{Multiset, Cache, Tree, Buffers}
-use Rattle.vyrd_base.specs.declared.subject.Subject.TheVariants.{Own}
-use Rattle.vyrd_view.specs.Chains.{has_link}
-use Rattle.vyrd_view.specs.Comparing.{differing, keys_of_part, nodes_led_to, nodes_looked_at}
-use Rattle.vyrd_view.specs.Comparing.{parts_looked_at}
+use Rattle.vyrd_base.specs.declared.subject.Subject.TheVariants.{Multiset, Cache, Buffers, Own}
+use Rattle.vyrd_view.specs.Comparing.{keys_of_part, nodes_led_to, nodes_looked_at, parts_looked_at}
 
 -- one price for all words
 pub same_price : (price : ℕ) (words : List ℕ) → sum_by (λ w. price) words ≡ length words * price

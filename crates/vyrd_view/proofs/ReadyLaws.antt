@@ -1,22 +1,11 @@
 -- What is kept of a tree's words before is ready to be brought up to date.
-use Rattle.std.proofs.Common.{◌≡◌, ℕ, ◌+◌, ◌*◌, ◌/◌, ◌<◌, Bool, true, false, List, length}
-use Rattle.std.proofs.Common.{length-set, map, replicate, get_or, set, ap, ◌∙◌, sym}
-use Rattle.std.proofs.Common.{arith}
-use Rattle.std.proofs.lemmas.List.{get_or-replicate, length-replicate}
-use Rattle.vyrd_base.specs.declared.subject.Subject.TheVariants.{Tree}
-use Rattle.vyrd_base.specs.Places.{numbers_below}
-use Rattle.vyrd_base.specs.Amounts.{collected, given}
-use Rattle.vyrd_base.specs.Tree.{chain_parts}
-use Rattle.vyrd_base.proofs.AmountLaws.{same_amounts}
-use Rattle.vyrd_base.proofs.SumLaws.{amount_of-collected, IsAmounts-collected}
-use Rattle.vyrd_base.proofs.PlaceLaws.{length_below, element_below}
-use Rattle.vyrd_view.specs.Chains.{is_on_chain, is_broken, node_pair, end_pair, tree_pair, is_stale}
-use Rattle.vyrd_view.specs.Chains.{has_link}
-use Rattle.vyrd_view.specs.Chained.{IsWalked}
-use Rattle.vyrd_view.specs.Comparing.{AgreeElsewhere}
-use Rattle.vyrd_view.specs.Known.{of_subject, view_by}
-use Rattle.vyrd_view.proofs.TreePairLaws.{tree_pair_node, tree_pair_end}
-use Rattle.vyrd_view.proofs.TreePairLaws.{tree_pairs}
+use Rattle.vyrd_view.proofs.Prelude
+use Prelude.{◌≡◌, ℕ, ◌+◌, ◌*◌, ◌/◌, ◌<◌, Bool, true, false, List, length, length-set, map}
+use Prelude.{replicate, get_or, set, ap, ◌∙◌, sym, arith, get_or-replicate, length-replicate, Tree}
+use Prelude.{numbers_below, collected, given, chain_parts, same_amounts, amount_of-collected}
+use Prelude.{IsAmounts-collected, length_below, element_below, is_on_chain, is_broken, node_pair}
+use Prelude.{end_pair, tree_pair, is_stale, has_link, IsWalked, AgreeElsewhere, of_subject, view_by}
+use Rattle.vyrd_view.proofs.TreePairLaws.{tree_pair_node, tree_pair_end, tree_pairs}
 use Rattle.vyrd_view.proofs.ShowingTree.{places_give}
 use Rattle.vyrd_view.proofs.CurrentLaws.{node_untouched, chain_untouched, end_untouched}
 use Rattle.vyrd_view.proofs.CurrentLaws.{first_is_marked, no_node, end_is_whole}

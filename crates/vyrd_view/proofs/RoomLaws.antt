@@ -1,29 +1,18 @@
 -- Words of which the last ones have no room of their own, since they are 0.
-use Rattle.std.proofs.Common.{◌≡◌, ℕ, zero, suc, ◌+◌, ◌-◌, ◌*◌, ◌/◌, ◌%◌, ◌<◌, ◌≤◌, Bool, true}
-use Rattle.std.proofs.Common.{false}
-use Rattle.std.proofs.Common.{List, [], ◌∷◌, ◌++◌, length, map, get_or, take, drop, replicate, All}
-use Rattle.std.proofs.Common.{refl, ap, ◌∙◌}
-use Rattle.std.proofs.Common.{sym, subst, arith}
-use Rattle.std.specs.Prelude.{◌==◌, ◌≢◌, nat_lt, slice_index}
-use Rattle.std.specs.List.{list_any}
-use Rattle.std.proofs.lemmas.List.{ext_get_or, length-append, length-replicate, length-take}
-use Rattle.std.proofs.lemmas.List.{append_assoc, append-nil, drop_all, take_all}
-use Rattle.std.proofs.lemmas.List.{get_or_append_left, get_or-append_right, get_or_past}
-use Rattle.std.proofs.lemmas.List.{get_or-take}
-use Rattle.std.proofs.lemmas.List.{get_or-replicate}
+use Rattle.vyrd_view.proofs.Prelude
+use Prelude.{◌≡◌, ℕ, zero, suc, ◌+◌, ◌-◌, ◌*◌, ◌/◌, ◌%◌, ◌<◌, ◌≤◌, Bool, true, false, List, [], ◌∷◌}
+use Prelude.{◌++◌, length, map, get_or, take, drop, replicate, refl, ap, ◌∙◌, sym, subst, arith}
+use Prelude.{◌==◌, ◌≢◌, nat_lt, slice_index, list_any, ext_get_or, length-replicate, length-take}
+use Prelude.{drop_all, get_or_past, get_or-replicate, div-mul-add, numbers_below, collected, given}
+use Prelude.{same_amounts, element_below, length_below, amount_of-collected, IsAmounts-collected}
+use Prelude.{part_at_most, below_of, not_below_of, isnt_same, AgreeElsewhere, Gives, HaveRoom}
+use Prelude.{words_of, pair_at, pairs_by, padded, is_touched, own_word, given_map_push, mapped-push}
+use Rattle.std.proofs.Common.{All}
+use Rattle.std.proofs.lemmas.List.{length-append, append_assoc, append-nil, take_all}
+use Rattle.std.proofs.lemmas.List.{get_or_append_left, get_or-append_right, get_or-take}
 use Rattle.std.proofs.lemmas.List.Elements.{All-head, All-tail}
-use Rattle.std.proofs.lemmas.Nat.{div-mul-add, mod-mul-add}
-use Rattle.std.proofs.Math.Nat.{mul-le-mul_right, le-div_iff_mul-le}
-use Rattle.vyrd_base.specs.Places.{numbers_below}
-use Rattle.vyrd_base.specs.Amounts.{collected, given}
-use Rattle.vyrd_base.proofs.AmountLaws.{same_amounts}
-use Rattle.vyrd_base.proofs.PlaceLaws.{element_below, length_below}
-use Rattle.vyrd_base.proofs.SumLaws.{amount_of-collected, IsAmounts-collected, part_at_most}
-use Rattle.vyrd_base.proofs.TestLaws.{below_of, not_below_of, isnt_same}
-use Rattle.vyrd_view.specs.Comparing.{AgreeElsewhere}
-use Rattle.vyrd_view.specs.Decoded.{Gives, HaveRoom, words_of, pair_at, pairs_by, padded}
-use Rattle.vyrd_view.specs.Pairs.{is_touched}
-use Rattle.vyrd_view.specs.Laws.Sums.{own_word, given_map_push, mapped-push}
+use Rattle.std.proofs.lemmas.Nat.{mod-mul-add}
+use Rattle.std.proofs.Math.Nat.{le-div_iff_mul-le, mul-le-mul_right}
 use Rattle.vyrd_view.proofs.DecodedLaws.{own_length, part_of_within, part_within, is_place}
 use Rattle.vyrd_view.proofs.DecodedLaws.{kept_others}
 use Rattle.vyrd_view.proofs.PlacedLaws.{mapped}

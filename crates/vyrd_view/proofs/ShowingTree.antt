@@ -1,20 +1,12 @@
 -- The pairs of a tree's places give each key what the chain of leaves shows of it.
-use Rattle.std.proofs.Common.{◌≡◌, ℕ, zero, suc, ◌+◌, ◌*◌, ◌<◌, ◌≤◌, min, Bool, true, false, cond}
-use Rattle.std.proofs.Common.{◌||◌, List, [], ◌∷◌, ◌++◌, map, refl, ap, ◌∙◌, sym, arith}
-use Rattle.std.specs.Prelude.{◌==◌, nat_lt, nat_le, flat_map}
-use Rattle.std.specs.List.{list_any}
-use Rattle.std.proofs.Math.Bool.{or-false}
-use Rattle.vyrd_base.specs.Places.{numbers_below}
-use Rattle.vyrd_base.specs.Tree.{count_of, right_of, node_parts, damage}
-use Rattle.vyrd_base.specs.Tree.{chain_parts_from, chain_parts}
-use Rattle.vyrd_base.specs.Amounts.{given, part_given}
-use Rattle.vyrd_base.proofs.SumLaws.{given-append, nothing_given}
-use Rattle.vyrd_base.proofs.TestLaws.{same_of, apart_of, isnt_same, below_of, not_below_of}
-use Rattle.vyrd_base.proofs.TestLaws.{neither_true, above_of}
-use Rattle.vyrd_view.specs.Chains.{chain_nodes_from, chain_breaks_from, is_on_chain, is_broken}
-use Rattle.vyrd_view.specs.Chains.{entry_pair, end_pair, tree_pair}
-use Rattle.vyrd_base.proofs.PartLaws.{place_parts, node_parts-places, parts_after}
-use Rattle.vyrd_view.specs.Laws.Sums.{given_map_push, given_flat_push}
+use Rattle.vyrd_view.proofs.Prelude
+use Prelude.{◌≡◌, ℕ, zero, suc, ◌+◌, ◌*◌, ◌<◌, ◌≤◌, min, Bool, true, false, cond, ◌||◌, List, []}
+use Prelude.{◌∷◌, ◌++◌, map, refl, ap, ◌∙◌, sym, arith, ◌==◌, nat_lt, nat_le, flat_map, list_any}
+use Prelude.{or-false, numbers_below, count_of, right_of, node_parts, damage, chain_parts_from}
+use Prelude.{chain_parts, given, part_given, given-append, nothing_given, same_of, apart_of}
+use Prelude.{isnt_same, below_of, not_below_of, neither_true, above_of, chain_nodes_from}
+use Prelude.{chain_breaks_from, is_on_chain, is_broken, entry_pair, end_pair, tree_pair}
+use Prelude.{place_parts, node_parts-places, parts_after, given_map_push, given_flat_push}
 use Rattle.vyrd_view.proofs.WalkLaws.{nodes_after, breaks_after}
 use Rattle.vyrd_view.proofs.TreePairLaws.{tree_pair_end}
 

@@ -1,29 +1,24 @@
 -- The two sides, as a key gets new amounts.
-use Rattle.std.proofs.Common.{◌≡◌, ◌≢◌, ℕ, ◌+◌, ◌<◌, ◌≤◌, Bool, true, false, cond, not, List, []}
-use Rattle.std.proofs.Common.{◌∷◌, Option, Some, None, refl, ap, ◌∙◌, sym, subst, arith, T}
-use Rattle.std.specs.Prelude.{◌==◌, unwrap_or, filter}
+use Rattle.vyrd_view.proofs.Prelude
+use Prelude.{◌≡◌, ◌≢◌, ℕ, ◌+◌, ◌<◌, ◌≤◌, Bool, true, false, cond, not, List, [], ◌∷◌, Option, Some}
+use Prelude.{None, refl, ap, ◌∙◌, sym, subst, arith, T, ◌==◌, below_all, nat_tests, sum_by-cons}
+use Prelude.{IsAmounts, amount_of, with_amount, given, part_given, collected, first_of_and}
+use Prelude.{second_of_and, amount_of-collected, IsAmounts-collected, same_of, is_same, isnt_same}
+use Prelude.{below_of, not_below_of, Both, Sides, IsLeastApart, shown_at, specified_of}
+use Rattle.std.specs.Prelude.{unwrap_or, filter}
 use Rattle.std.specs.declared.cmp.Ordering.{Ordering}
 use Rattle.std.specs.declared.cmp.Ordering.TheVariants.{Less, Equal, Greater}
-use Rattle.std.specs.Ordering.{nat_cmp, is_lt, is_eq}
-use Rattle.std.specs.FinMap.Entries.{find, put, by_order, below_all, is_sorted}
+use Rattle.std.specs.Ordering.{is_eq, nat_cmp, is_lt}
+use Rattle.std.specs.FinMap.Entries.{find, put, by_order, is_sorted}
 use Rattle.std.specs.Cmp.{unsigned_tied}
-use Rattle.std.proofs.lemmas.Bool.Decides.{nat_tests}
-use Rattle.std.proofs.lemmas.List.Sums.{sum_by-cons}
-use Rattle.vyrd_base.specs.Amounts.{IsAmounts, amount_of, with_amount, given, part_given}
-use Rattle.vyrd_base.specs.Amounts.{collected}
-use Rattle.vyrd_base.proofs.AmountLaws.{amounts_are, same_amount, first_of_and, second_of_and}
-use Rattle.vyrd_base.proofs.SumLaws.{amount_of-collected, IsAmounts-collected}
-use Rattle.vyrd_base.proofs.TestLaws.{same_of, is_same, isnt_same, flipped, below_of, not_below_of}
+use Rattle.vyrd_base.proofs.AmountLaws.{amounts_are, same_amount}
+use Rattle.vyrd_base.proofs.TestLaws.{flipped}
 use Rattle.vyrd_table.specs.Entries.{IsEntries, value_of, with_value}
 use Rattle.vyrd_table.specs.First.{IsFirst}
 use Rattle.vyrd_table.proofs.EntryLaws.{no_entries, IsEntries-with_value, value_of-with_value}
-use Rattle.vyrd_view.specs.declared.both.Both.{Both}
-use Rattle.vyrd_view.specs.declared.sides.Sides.{Sides}
-use Rattle.vyrd_view.specs.Apart.{IsLeastApart}
 use Rattle.vyrd_view.specs.TwoAmounts.{neither, is_neither, is_apart, apart_once, IsCount}
 use Rattle.vyrd_view.specs.Laws.TwoAmounts.{only_neither}
-use Rattle.vyrd_view.specs.Sided.{AreSettled, IsSettled, shown_at, specified_of, specified_pairs}
-use Rattle.vyrd_view.specs.Sided.{apart_in}
+use Rattle.vyrd_view.specs.Sided.{AreSettled, IsSettled, specified_pairs, apart_in}
 
 pub settled_of : (s : Sides) → IsSettled s → AreSettled s
 unfolding IsSettled

@@ -1,15 +1,10 @@
 -- The exact sums, as the sum of a key changes.
-use Rattle.std.proofs.Common.{◌≡◌, ◌≢◌, ℕ, ◌+◌, ◌-◌, ◌*◌, ◌/◌, ◌%◌, ◌^◌, ◌<◌, ◌≤◌, min, cond, []}
-use Rattle.std.proofs.Common.{Option, Some, None, refl, ap, ◌∙◌, arith}
-use Rattle.std.specs.Prelude.{◌==◌}
-use Rattle.vyrd_base.specs.Amounts.{Amounts, amount_of, with_amount}
-use Rattle.vyrd_base.proofs.TestLaws.{same_of, at_most_of, above_of}
-use Rattle.vyrd_view.specs.declared.sides.Sides.{Sides}
-use Rattle.vyrd_view.specs.declared.sums.Sums.{Sums}
-use Rattle.vyrd_view.specs.Apart.{IsLeastApart}
+use Rattle.vyrd_view.proofs.Prelude.{◌≡◌, ◌≢◌, ℕ, ◌+◌, ◌-◌, ◌*◌, ◌/◌, ◌%◌, ◌^◌, ◌<◌, ◌≤◌, min, cond}
+use Rattle.vyrd_view.proofs.Prelude.{[], Option, Some, None, refl, ap, ◌∙◌, arith, ◌==◌, Amounts}
+use Rattle.vyrd_view.proofs.Prelude.{amount_of, with_amount, same_of, at_most_of, above_of, Sides}
+use Rattle.vyrd_view.proofs.Prelude.{Sums, IsLeastApart, shown_at, specified_of, IsSettled, sum_at}
 use Rattle.vyrd_view.specs.Sided as sided
-use Rattle.vyrd_view.specs.Sided.{shown_at, specified_of}
-use Rattle.vyrd_view.specs.Summed.{AreSettled, IsSettled, sum_at}
+use Rattle.vyrd_view.specs.Summed.{AreSettled}
 
 pub settled_sums : (s : Sums) → IsSettled s → AreSettled s
 unfolding IsSettled

@@ -1,9 +1,7 @@
 -- The places of a tree.
-use Rattle.std.proofs.Common.{◌≡◌, ℕ, ◌+◌, ◌*◌, ◌<◌, Bool, false, List, length, map, get_or, arith}
-use Rattle.vyrd_base.specs.Places.{numbers_below}
-use Rattle.vyrd_base.proofs.TestLaws.{same_of, apart_of, is_same, isnt_same}
-use Rattle.vyrd_view.specs.Chains.{node_pair, end_pair, tree_pair, is_on_chain}
-use Rattle.vyrd_view.specs.Chains.{is_broken}
+use Rattle.vyrd_view.proofs.Prelude.{◌≡◌, ℕ, ◌+◌, ◌*◌, ◌<◌, Bool, false, List, length, map, get_or}
+use Rattle.vyrd_view.proofs.Prelude.{arith, numbers_below, same_of, apart_of, is_same, isnt_same}
+use Rattle.vyrd_view.proofs.Prelude.{node_pair, end_pair, tree_pair, is_on_chain, is_broken}
 use Rattle.vyrd_view.proofs.PlacedLaws.{mapped}
 
 pub tree_pair_end : (size : ℕ) (words : List ℕ) → tree_pair size words (4 * size)

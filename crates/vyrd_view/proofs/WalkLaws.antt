@@ -1,14 +1,9 @@
 -- A walk along the chain of leaves, which marks the nodes that it sees.
-use Rattle.std.proofs.Common.{◌≡◌, ℕ, suc, ◌+◌, ◌-◌, ◌<◌, Bool, true, false, ◌||◌, List, [], ◌∷◌}
-use Rattle.std.proofs.Common.{length, length-set, get_or, set, replicate, refl, ap, ◌∙◌, sym}
-use Rattle.std.proofs.Common.{arith}
-use Rattle.std.specs.Prelude.{◌==◌, ◌≢◌, nat_le}
-use Rattle.std.specs.List.{list_any}
-use Rattle.std.proofs.lemmas.List.{get_or_default}
-use Rattle.std.proofs.Math.Bool.{or-false}
-use Rattle.vyrd_base.specs.Tree.{right_of}
-use Rattle.vyrd_base.proofs.TestLaws.{isnt_same, is_same, isnt_at_most}
-use Rattle.vyrd_view.specs.Chains.{chain_nodes_from, chain_breaks_from, is_on_chain, is_broken}
+use Rattle.vyrd_view.proofs.Prelude.{◌≡◌, ℕ, suc, ◌+◌, ◌-◌, ◌<◌, Bool, true, false, ◌||◌, List, []}
+use Rattle.vyrd_view.proofs.Prelude.{◌∷◌, length, length-set, get_or, set, replicate, refl, ap, ◌∙◌}
+use Rattle.vyrd_view.proofs.Prelude.{sym, arith, ◌==◌, ◌≢◌, nat_le, list_any, get_or_default}
+use Rattle.vyrd_view.proofs.Prelude.{or-false, right_of, isnt_same, is_same, isnt_at_most}
+use Rattle.vyrd_view.proofs.Prelude.{chain_nodes_from, chain_breaks_from, is_on_chain, is_broken}
 use Rattle.vyrd_view.proofs.ChainLaws.{Marks, marked, none_marked}
 
 -- what was seen so far, with the chain from this node on, is the whole chain

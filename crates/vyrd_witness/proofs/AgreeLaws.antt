@@ -1,26 +1,19 @@
 -- What the words show at a commit, and what the state after it shows.
-use Rattle.std.proofs.Common.{◌≡◌, ℕ, ◌+◌, true, List, take, drop, Option, Some, None}
-use Rattle.std.proofs.Common.{slice_get, refl, ap, ◌∙◌, sym}
-use Rattle.std.specs.Prelude.{◌≢◌, option_map, option_and_then}
-use Rattle.vyrd_base.specs.declared.log.Kind.{Kind}
-use Rattle.vyrd_base.specs.declared.log.Kind.TheVariants.{Call, Return, Write, Commit, BlockOpen}
-use Rattle.vyrd_base.specs.declared.log.Kind.TheVariants.{BlockClose, BlockCommit}
-use Rattle.vyrd_base.specs.declared.log.Entry.{Entry}
-use Rattle.vyrd_base.specs.declared.log.StartWord.{StartWord}
+use Rattle.vyrd_witness.proofs.Prelude
+use Prelude.{◌≡◌, ℕ, ◌+◌, true, List, take, drop, Option, Some, None, slice_get, refl, ap, ◌∙◌, sym}
+use Prelude.{◌≢◌, option_map, Kind, Call, Return, Write, Commit, BlockOpen, BlockClose, BlockCommit}
+use Prelude.{Entry, StartWord, amount_of, Rules, is_commit, amount_shown, words_then, amount_then}
+use Rattle.std.specs.Prelude.{option_and_then}
 use Rattle.vyrd_base.specs.declared.verdict.Why.TheVariants.{View}
 use Rattle.vyrd_base.specs.Places.{Place, newest_first}
 use Rattle.vyrd_base.specs.Callers.{Called}
-use Rattle.vyrd_base.specs.Amounts.{Amounts, amount_of, first_difference}
+use Rattle.vyrd_base.specs.Amounts.{Amounts, first_difference}
 use Rattle.vyrd_base.specs.States.{State}
-use Rattle.vyrd_base.specs.Rules.{Rules}
 use Rattle.vyrd_base.specs.Words.{words_at}
 use Rattle.vyrd_base.specs.Entries.{place_of}
-use Rattle.vyrd_base.specs.Commits.{is_commit, committed_at, commit_count, state_after}
-use Rattle.vyrd_base.specs.Faults.{commit_fault, fault_of_commit, fault_of_kind}
-use Rattle.vyrd_base.specs.Faults.{fault_at}
+use Rattle.vyrd_base.specs.Commits.{committed_at, commit_count, state_after}
+use Rattle.vyrd_base.specs.Faults.{commit_fault, fault_of_commit, fault_of_kind, fault_at}
 use Rattle.vyrd_base.proofs.DifferenceLaws.{first_difference_none, first_difference_some}
-use Rattle.vyrd_witness.specs.Changes.{amount_shown}
-use Rattle.vyrd_witness.specs.ViewWitnesses.{words_then, amount_then}
 use Rattle.vyrd_witness.proofs.PhaseLaws.{newest_at}
 
 -- the fault of a commit whose state after it is known

@@ -1,18 +1,13 @@
 -- A caller's open call, entry by entry back from a position.
-use Rattle.std.proofs.Common.{◌≡◌, ℕ, ◌+◌, ◌-◌, ◌<◌, Bool, true, ◌&&◌, List, length}
-use Rattle.std.proofs.Common.{take, Option, Some, None, slice_get, ap, ◌∙◌, arith}
-use Rattle.std.proofs.lemmas.List.{length-take-le}
-use Rattle.std.specs.Prelude.{◌==◌, ◌≢◌, option_map, if◌then◌else◌}
-use Rattle.std.specs.Option.{option_or, option_flatten}
+use Rattle.vyrd_witness.proofs.Prelude
+use Prelude.{◌≡◌, ℕ, ◌+◌, ◌-◌, ◌<◌, Bool, true, ◌&&◌, List, length, take, Option, Some, None}
+use Prelude.{slice_get, ap, ◌∙◌, arith, length-take-le, option_or, Kind, Call, Return, Entry}
+use Prelude.{by_caller, newest_first, first_answer, length-newest_first, is_same, isnt_same}
+use Rattle.std.specs.Prelude.{if◌then◌else◌, ◌==◌, ◌≢◌, option_map}
+use Rattle.std.specs.Option.{option_flatten}
 use Rattle.vyrd_base.specs.declared.subject.Method.{Method}
 use Rattle.vyrd_base.specs.declared.subject.Args.{Args}
-use Rattle.vyrd_base.specs.declared.log.Kind.{Kind}
-use Rattle.vyrd_base.specs.declared.log.Kind.TheVariants.{Call, Return}
-use Rattle.vyrd_base.specs.declared.log.Entry.{Entry}
-use Rattle.vyrd_base.specs.Callers.{by_caller, call_or_return, is_call, entries_before_call}
-use Rattle.vyrd_base.specs.Places.{newest_first, first_answer}
-use Rattle.vyrd_base.proofs.PlaceLaws.{length-newest_first}
-use Rattle.vyrd_base.proofs.TestLaws.{is_same, isnt_same}
+use Rattle.vyrd_base.specs.Callers.{call_or_return, is_call, entries_before_call}
 use Rattle.vyrd_witness.specs.declared.execution.Begun.{Begun}
 use Rattle.vyrd_witness.specs.Executions.{begun_in}
 use Rattle.vyrd_witness.proofs.PhaseLaws.{newest_at}

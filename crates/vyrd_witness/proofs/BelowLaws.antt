@@ -1,8 +1,6 @@
 -- What a function of the numbers below a number gives, one number further.
-use Rattle.std.proofs.Common.{◌≡◌, ℕ, ◌+◌, List, ◌++◌}
+use Rattle.vyrd_witness.proofs.Prelude.{◌≡◌, ℕ, ◌+◌, List, ◌++◌, flat_map_more, numbers_below}
 use Rattle.std.specs.List.{flat_map}
-use Rattle.std.proofs.lemmas.List.{flat_map_more}
-use Rattle.vyrd_base.specs.Places.{numbers_below}
 use Rattle.vyrd_base.proofs.PlaceLaws.{numbers_below-push}
 
 -- after a list that what it gives has been put behind

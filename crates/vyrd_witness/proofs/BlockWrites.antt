@@ -1,21 +1,11 @@
 -- The writes of a caller's block in the numbered log, entry by entry, back from a position and
 -- ahead of it.
-use Rattle.std.proofs.Common.{◌≡◌, ℕ, ◌+◌, ◌-◌, ◌<◌, ◌≤◌, true, cond, List, [], ◌∷◌, ◌++◌, length}
-use Rattle.std.proofs.Common.{map, Option, Some, None, slice_get, ap, ◌∙◌, sym, arith, append-nil}
-use Rattle.std.proofs.Common.{append_assoc, ◌⊎◌}
-use Rattle.std.specs.Prelude.{◌==◌, ◌≢◌, option_map}
-use Rattle.vyrd_base.specs.declared.log.Kind.{Kind}
-use Rattle.vyrd_base.specs.declared.log.Kind.TheVariants.{Return, Write, BlockOpen, BlockClose}
-use Rattle.vyrd_base.specs.declared.log.Kind.TheVariants.{BlockCommit}
-use Rattle.vyrd_base.specs.declared.log.Entry.{Entry}
-use Rattle.vyrd_base.specs.Places.{newest_first}
-use Rattle.vyrd_base.specs.Words.{with_write, block_writes, ahead_at, writes_ahead}
-use Rattle.vyrd_base.proofs.BlockLaws.{other_writes}
-use Rattle.vyrd_base.proofs.PlaceLaws.{newest_first-push}
-use Rattle.vyrd_base.proofs.TestLaws.{is_same, isnt_same}
-use Rattle.vyrd_witness.specs.declared.effect.Effect.{Effect}
-use Rattle.vyrd_witness.specs.Numbered.{numbered_kind}
-use Rattle.vyrd_witness.specs.Effects.{value_of, effect_of}
+use Rattle.vyrd_witness.proofs.Prelude
+use Prelude.{◌≡◌, ℕ, ◌+◌, ◌-◌, ◌<◌, ◌≤◌, true, cond, List, [], ◌∷◌, ◌++◌, length, map, Option, Some}
+use Prelude.{None, slice_get, ap, ◌∙◌, sym, arith, append-nil, append_assoc, ◌⊎◌, ◌==◌, ◌≢◌}
+use Prelude.{option_map, Kind, Return, Write, BlockOpen, BlockClose, BlockCommit, Entry}
+use Prelude.{newest_first, with_write, block_writes, ahead_at, writes_ahead, other_writes}
+use Prelude.{newest_first-push, is_same, isnt_same, Effect, numbered_kind, value_of, effect_of}
 use Rattle.vyrd_witness.proofs.NumberedLaws.{behind, ahead, behind_next, ahead_here, ahead_end}
 use Rattle.vyrd_witness.proofs.NumberedLaws.{value_here}
 

@@ -1,13 +1,8 @@
 -- The changes, effect by effect.
-use Rattle.std.proofs.Common.{◌≡◌, ℕ, Bool, true, false, cond, List, [], ◌∷◌, ◌++◌}
-use Rattle.std.proofs.Common.{refl, ap, subst, ◌∙◌, sym}
-use Rattle.std.specs.Prelude.{◌==◌}
-use Rattle.vyrd_base.specs.Rules.{Rules}
-use Rattle.vyrd_base.proofs.TestLaws.{same_of}
-use Rattle.vyrd_witness.specs.declared.effect.Effect.{Effect}
-use Rattle.vyrd_witness.specs.declared.change.Change.{Change}
-use Rattle.vyrd_witness.specs.Changes.{amount_shown, words_after_effect, words_through, change_by}
-use Rattle.vyrd_witness.specs.Changes.{with_change, changes_in}
+use Rattle.vyrd_witness.proofs.Prelude.{◌≡◌, ℕ, Bool, true, false, cond, List, [], ◌∷◌, ◌++◌, refl}
+use Rattle.vyrd_witness.proofs.Prelude.{ap, subst, ◌∙◌, sym, ◌==◌, Rules, same_of, Effect, Change}
+use Rattle.vyrd_witness.proofs.Prelude.{amount_shown, words_through, changes_in}
+use Rattle.vyrd_witness.specs.Changes.{words_after_effect, change_by, with_change}
 use Rattle.vyrd_witness.specs.Leading.{LeadTo}
 
 -- the changes by effects and then by others

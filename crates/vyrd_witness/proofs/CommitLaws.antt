@@ -1,14 +1,8 @@
 -- The last commit before a position, one entry further.
-use Rattle.std.proofs.Common.{◌≡◌, ℕ, ◌+◌, ◌<◌, ◌≤◌, true, false, List, length, take, Option, Some}
-use Rattle.std.proofs.Common.{slice_get, ◌∙◌, sym, arith}
-use Rattle.std.specs.Prelude.{IfSome}
-use Rattle.std.proofs.lemmas.List.{length-take-le}
-use Rattle.std.proofs.lemmas.Option.{slice_get_within}
-use Rattle.vyrd_base.specs.declared.log.Entry.{Entry}
-use Rattle.vyrd_base.specs.Commits.{is_commit}
-use Rattle.vyrd_base.specs.Places.{newest_first}
-use Rattle.vyrd_base.proofs.PlaceLaws.{length-newest_first}
-use Rattle.vyrd_witness.specs.ViewWitnesses.{up_to, commit_before}
+use Rattle.vyrd_witness.proofs.Prelude.{◌≡◌, ℕ, ◌+◌, ◌<◌, ◌≤◌, true, false, List, length, take}
+use Rattle.vyrd_witness.proofs.Prelude.{Option, Some, slice_get, ◌∙◌, sym, arith, IfSome}
+use Rattle.vyrd_witness.proofs.Prelude.{length-take-le, slice_get_within, Entry, is_commit}
+use Rattle.vyrd_witness.proofs.Prelude.{newest_first, length-newest_first, up_to, commit_before}
 use Rattle.vyrd_witness.proofs.PhaseLaws.{newest_at}
 
 pub commit_here : (log : List Entry) (i : ℕ) (e : Entry) → slice_get log i ≡ Some e

@@ -1,17 +1,9 @@
 -- The effects at an entry, by its kind and by the phase of its caller.
-use Rattle.std.proofs.Common.{◌≡◌, ℕ, ◌+◌, true, false, cond, List, [], ◌∷◌, ◌++◌, map, take, Some}
-use Rattle.std.proofs.Common.{slice_get, ◌⊎◌, inl, inr}
-use Rattle.std.specs.Option.{option_map_or}
-use Rattle.vyrd_base.specs.declared.log.Kind.TheVariants.{Write, Commit}
-use Rattle.vyrd_base.specs.declared.log.Kind.TheVariants.{BlockClose, BlockCommit}
-use Rattle.vyrd_base.specs.declared.log.Entry.{Entry}
-use Rattle.vyrd_base.specs.Places.{newest_first}
-use Rattle.vyrd_base.specs.Callers.{has_block, has_inner_commit}
-use Rattle.vyrd_base.specs.Words.{block_writes, writes_ahead}
-use Rattle.vyrd_witness.specs.declared.effect.Effect.{Effect}
-use Rattle.vyrd_witness.specs.declared.phase.Phase.{Phase}
-use Rattle.vyrd_witness.specs.Effects.{value_at, effect_of, effects_by}
-use Rattle.vyrd_witness.specs.Phases.{phase_of}
+use Rattle.vyrd_witness.proofs.Prelude.{◌≡◌, ℕ, ◌+◌, true, false, cond, List, [], ◌∷◌, ◌++◌, map}
+use Rattle.vyrd_witness.proofs.Prelude.{take, Some, slice_get, ◌⊎◌, inl, inr, option_map_or, Write}
+use Rattle.vyrd_witness.proofs.Prelude.{Commit, BlockClose, BlockCommit, Entry, newest_first}
+use Rattle.vyrd_witness.proofs.Prelude.{has_block, has_inner_commit, block_writes, writes_ahead}
+use Rattle.vyrd_witness.proofs.Prelude.{Effect, Phase, value_at, effect_of, effects_by, phase_of}
 use Rattle.vyrd_witness.proofs.Valued.{block_same, inner_commit_same}
 use Rattle.vyrd_witness.proofs.NumberedLaws.{behind, ahead, behind_back, value_here}
 

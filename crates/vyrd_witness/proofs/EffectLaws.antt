@@ -1,28 +1,13 @@
 -- The effects of a log with their positions, and the words that they lead to.
-use Rattle.std.proofs.Common.{◌≡◌, ℕ, zero, suc, ◌+◌, ◌-◌, ◌<◌, ◌≤◌, List, [], ◌∷◌, ◌++◌, map}
-use Rattle.std.proofs.Common.{length, take, drop, get_or, Some, slice_get, refl, ap, ◌∙◌, sym}
-use Rattle.std.proofs.Common.{arith, append_assoc}
+use Rattle.vyrd_witness.proofs.Prelude
+use Prelude.{◌≡◌, ℕ, zero, suc, ◌+◌, ◌-◌, ◌<◌, ◌≤◌, List, [], ◌∷◌, ◌++◌, map, length, take, drop}
+use Prelude.{get_or, Some, slice_get, refl, ap, ◌∙◌, sym, arith, append_assoc, map-append}
+use Prelude.{drop_more, flat_map_more, slice_get_within, get_or_from_slice_get, slice_get-get_or}
+use Prelude.{Header, Commit, Entry, StartWord, newest_first, numbers_from, Rules, effects_at}
+use Prelude.{words_with, numbers_from-push, one_write, Effect, Change, numbered_kind, value_at}
+use Prelude.{effect_of, effects_by, effects_there, effects_along, words_through, changes_in, plain}
+use Prelude.{plain_writes, words_then}
 use Rattle.std.specs.List.{flat_map}
-use Rattle.std.proofs.lemmas.List.{map-append, drop_more, flat_map_more}
-use Rattle.std.proofs.lemmas.Option.{slice_get_within, get_or_from_slice_get}
-use Rattle.std.proofs.lemmas.Option.{slice_get-get_or}
-use Rattle.vyrd_base.specs.declared.header.Header.{Header}
-use Rattle.vyrd_base.specs.declared.log.Kind.TheVariants.{Commit}
-use Rattle.vyrd_base.specs.declared.log.Entry.{Entry}
-use Rattle.vyrd_base.specs.declared.log.StartWord.{StartWord}
-use Rattle.vyrd_base.specs.Places.{newest_first, numbers_from}
-use Rattle.vyrd_base.specs.Rules.{Rules}
-use Rattle.vyrd_base.specs.Words.{effects_at, words_with}
-use Rattle.vyrd_base.proofs.PlaceLaws.{numbers_from-push}
-use Rattle.vyrd_base.proofs.EffectWords.{one_write}
-use Rattle.vyrd_witness.specs.declared.effect.Effect.{Effect}
-use Rattle.vyrd_witness.specs.declared.change.Change.{Change}
-use Rattle.vyrd_witness.specs.Numbered.{numbered_kind}
-use Rattle.vyrd_witness.specs.Effects.{value_at, effect_of, effects_by, effects_there}
-use Rattle.vyrd_witness.specs.Effects.{effects_along}
-use Rattle.vyrd_witness.specs.Changes.{words_through, changes_in}
-use Rattle.vyrd_witness.specs.Plain.{plain, plain_writes}
-use Rattle.vyrd_witness.specs.ViewWitnesses.{words_then}
 use Rattle.vyrd_witness.proofs.Valued.{valued_write, effects_same}
 use Rattle.vyrd_witness.proofs.ChangeLaws.{changes-append}
 use Rattle.vyrd_witness.proofs.NumberedLaws.{behind, ahead, map-newest_first, turned-append}

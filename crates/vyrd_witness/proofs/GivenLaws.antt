@@ -1,36 +1,15 @@
 -- Which parts give something to a key, and that together they give what is shown.
-use Rattle.std.proofs.Common.{◌≡◌, ◌≢◌, ℕ, zero, suc, ◌+◌, ◌-◌, ◌*◌, ◌<◌, ◌≤◌, ◌^◌, Bool, true}
-use Rattle.std.proofs.Common.{false, cond, List, [], ◌∷◌, ◌++◌, refl, ap, ◌∙◌, sym, arith}
-use Rattle.std.specs.Prelude.{◌==◌, nat_lt, flat_map, sum_by}
-use Rattle.std.proofs.lemmas.List.{append-nil, append_assoc}
-use Rattle.std.proofs.lemmas.List.Folds.{flat_map-map}
-use Rattle.std.proofs.lemmas.List.Sums.{sum_by-append}
-use Rattle.vyrd_base.specs.declared.header.Header.{Header}
-use Rattle.vyrd_base.specs.declared.subject.Subject.{Subject}
-use Rattle.vyrd_base.specs.declared.subject.Subject.TheVariants.{Multiset, Cache, Tree, Buffers}
-use Rattle.vyrd_base.specs.declared.subject.Subject.TheVariants.{Own}
-use Rattle.vyrd_base.specs.Amounts.{amount_of, collected, given}
-use Rattle.vyrd_base.specs.Buffers.{buffer_at, buffer_parts}
-use Rattle.vyrd_base.specs.Cache.{chunk_at, chunk_parts}
-use Rattle.vyrd_base.specs.Own.OwnRules.{own_view}
-use Rattle.vyrd_base.specs.Own.Programs.{Written}
-use Rattle.vyrd_base.specs.Own.Steps.{view_of}
-use Rattle.vyrd_base.specs.Places.{numbers_from, numbers_below}
-use Rattle.vyrd_base.specs.Rules.{Charter, built_in, own, rules_by, rules_of}
-use Rattle.vyrd_base.specs.Views.{parts_of, view_of_words}
-use Rattle.vyrd_base.proofs.AddedLaws.{parts-push}
-use Rattle.vyrd_base.proofs.HeaderLaws.{size_in_32_bits}
-use Rattle.vyrd_base.proofs.PartLaws.{slots_at_most}
+use Rattle.vyrd_witness.proofs.Prelude
+use Prelude.{◌≡◌, ◌≢◌, ℕ, zero, suc, ◌+◌, ◌-◌, ◌*◌, ◌<◌, ◌≤◌, ◌^◌, Bool, true, false, cond, List}
+use Prelude.{[], ◌∷◌, ◌++◌, refl, ap, ◌∙◌, sym, arith, ◌==◌, nat_lt, flat_map, sum_by, append-nil}
+use Prelude.{append_assoc, flat_map-map, sum_by-append, Header, Subject, Multiset, Cache, Tree}
+use Prelude.{Buffers, Own, amount_of, collected, given, buffer_at, buffer_parts, chunk_at}
+use Prelude.{chunk_parts, own_view, Written, view_of, numbers_from, numbers_below, Charter}
+use Prelude.{built_in, own, rules_by, rules_of, parts_of, view_of_words, parts-push}
+use Prelude.{size_in_32_bits, slots_at_most, same_of, chunk_gives, buffer_gives, pairs_by}
+use Prelude.{buffers_fit, buffers_show, chunks_fit, chunks_show, pairs_given, amount_shown}
+use Prelude.{numbered, parts_of_subject, parts_of_own, parts_by_number, told, given_parts}
 use Rattle.vyrd_base.proofs.SumLaws.{amount_of-collected, given-append, other_part}
-use Rattle.vyrd_base.proofs.TestLaws.{same_of}
-use Rattle.vyrd_view.specs.Pairs.{chunk_gives, buffer_gives}
-use Rattle.vyrd_view.specs.Decoded.{pairs_by}
-use Rattle.vyrd_view.specs.Laws.Buffers.{buffers_fit, buffers_show}
-use Rattle.vyrd_view.specs.Laws.Chunks.{chunks_fit, chunks_show}
-use Rattle.vyrd_view.proofs.DecodedLaws.{pairs_given}
-use Rattle.vyrd_witness.specs.Changes.{amount_shown}
-use Rattle.vyrd_witness.specs.Given.{numbered, parts_of_subject, parts_of_own, parts_by_number}
-use Rattle.vyrd_witness.specs.Given.{told, given_parts}
 use Rattle.vyrd_witness.proofs.NodeLaws.{chain_is, chain_fits}
 
 -- ---- parts in a row

@@ -1,3 +1,4 @@
+mod Prelude
 pub mod Valued
 pub mod NumberedLaws
 pub mod PhaseLaws

@@ -1,15 +1,13 @@
 -- What the nodes of a tree's chain give, one after the other.
-use Rattle.std.proofs.Common.{◌≡◌, ℕ, zero, suc, ◌+◌, ◌-◌, ◌*◌, ◌^◌, ◌<◌, ◌≤◌, Bool, true, false}
-use Rattle.std.proofs.Common.{cond, not, ◌&&◌, ◌||◌, List, [], ◌∷◌, ◌++◌, length, refl, ap, ◌∙◌}
-use Rattle.std.proofs.Common.{sym, get_or, set, arith}
-use Rattle.std.specs.Prelude.{◌==◌, flat_map}
-use Rattle.std.proofs.lemmas.List.{append-nil, append_assoc}
-use Rattle.vyrd_base.specs.Amounts.{given}
-use Rattle.vyrd_base.specs.Tree.{right_of, node_parts, damage, chain_parts_from}
-use Rattle.vyrd_base.proofs.PartLaws.{node_parts-places, places_at_most, parts_after}
+use Rattle.vyrd_witness.proofs.Prelude
+use Prelude.{◌≡◌, ℕ, zero, suc, ◌+◌, ◌-◌, ◌*◌, ◌^◌, ◌<◌, ◌≤◌, Bool, true, false, cond, not, ◌&&◌}
+use Prelude.{◌||◌, List, [], ◌∷◌, ◌++◌, length, refl, ap, ◌∙◌, sym, get_or, set, arith, ◌==◌}
+use Prelude.{flat_map, append-nil, append_assoc, given, node_parts-places, told, given_parts}
+use Rattle.vyrd_base.specs.Tree.{node_parts, damage, chain_parts_from, right_of}
+use Rattle.vyrd_base.proofs.PartLaws.{places_at_most, parts_after}
 use Rattle.vyrd_base.proofs.SumLaws.{given-append, one_at_most}
 use Rattle.vyrd_view.proofs.ChainLaws.{Marks, marked}
-use Rattle.vyrd_witness.specs.Given.{leads_back, link_parts, chain_from, told, given_parts}
+use Rattle.vyrd_witness.specs.Given.{leads_back, link_parts, chain_from}
 
 -- ---- without their numbers
 

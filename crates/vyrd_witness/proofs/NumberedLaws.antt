@@ -1,18 +1,11 @@
 -- The numbered log, entry by entry, and what its effects tell of the log's own.
-use Rattle.std.proofs.Common.{◌≡◌, ℕ, suc, zero, ◌+◌, ◌≤◌, List, [], ◌∷◌, ◌++◌, length, map}
-use Rattle.std.proofs.Common.{take, drop, Some, slice_get, refl, ap, ◌∙◌, sym}
-use Rattle.std.proofs.Common.{arith, append_assoc, reverse}
-use Rattle.std.specs.Prelude.{option_map}
-use Rattle.std.specs.Option.{option_map_or}
-use Rattle.std.proofs.lemmas.List.{take-map, drop-map, drop-drop, drop_more, drop_all}
-use Rattle.std.proofs.lemmas.Option.{slice_get_within, get_or_from_slice_get}
-use Rattle.vyrd_base.specs.declared.log.Kind.{Kind}
-use Rattle.vyrd_base.specs.declared.log.Entry.{Entry}
-use Rattle.vyrd_base.specs.Places.{newest_first_onto, newest_first}
-use Rattle.vyrd_base.proofs.PlaceLaws.{newest_first-push, newest_first_onto-append}
-use Rattle.vyrd_base.proofs.ListLaws.{slice_get-drop, take_one_more}
-use Rattle.vyrd_witness.specs.Numbered.{numbered_kind, numbered_entry, numbered_from, numbered}
-use Rattle.vyrd_witness.specs.Effects.{value_of, value_at}
+use Rattle.vyrd_witness.proofs.Prelude
+use Prelude.{◌≡◌, ℕ, suc, zero, ◌+◌, ◌≤◌, List, [], ◌∷◌, ◌++◌, length, map, take, drop, Some}
+use Prelude.{slice_get, refl, ap, ◌∙◌, sym, arith, append_assoc, reverse, option_map, option_map_or}
+use Prelude.{take-map, drop-map, drop-drop, drop_more, drop_all, slice_get_within}
+use Prelude.{get_or_from_slice_get, Kind, Entry, newest_first_onto, newest_first, newest_first-push}
+use Prelude.{newest_first_onto-append, slice_get-drop, take_one_more, value_of, value_at}
+use Rattle.vyrd_witness.specs.Numbered.{numbered, numbered_kind, numbered_entry, numbered_from}
 use Rattle.vyrd_witness.proofs.Valued.{valued_kind, valued}
 
 -- the numbered entries before a position, the newest first, and those from it on

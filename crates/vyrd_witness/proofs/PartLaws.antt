@@ -1,30 +1,14 @@
 -- What the words of a built-in subject show of a key, where one of them has changed: only what its
 -- part gives can be other than before.
-use Rattle.std.proofs.Common.{◌≡◌, ◌≢◌, ℕ, zero, suc, ◌+◌, ◌*◌, ◌/◌, ◌%◌, ◌<◌, ◌≤◌, Bool, true}
-use Rattle.std.proofs.Common.{false, ◌||◌, List, [], ◌∷◌, length, map, set, refl, ap, ◌∙◌}
-use Rattle.std.proofs.Common.{sym, subst, arith, get_or-set_other}
-use Rattle.std.specs.Prelude.{◌==◌, flat_map, slice_index}
-use Rattle.std.proofs.lemmas.List.{set-get_or, length-set}
-use Rattle.std.proofs.Math.Nat.{div-add-mod, mod-lt}
-use Rattle.vyrd_base.specs.declared.header.Header.{Header}
-use Rattle.vyrd_base.specs.declared.subject.Subject.{Subject}
-use Rattle.vyrd_base.specs.declared.subject.Subject.TheVariants.{Multiset, Cache, Buffers}
-use Rattle.vyrd_base.specs.Amounts.{collected, given}
-use Rattle.vyrd_base.specs.Layout.{plain_words, plain_words_of}
-use Rattle.vyrd_base.specs.Multiset.{slot_parts}
-use Rattle.vyrd_base.specs.Places.{numbers_below}
-use Rattle.vyrd_base.specs.Rules.{rules_of}
-use Rattle.vyrd_base.specs.Views.{parts_of, view_of_words}
+use Rattle.vyrd_witness.proofs.Prelude
+use Prelude.{◌≡◌, ◌≢◌, ℕ, zero, suc, ◌+◌, ◌*◌, ◌/◌, ◌%◌, ◌<◌, ◌≤◌, Bool, true, false, ◌||◌, List}
+use Prelude.{[], ◌∷◌, length, map, set, refl, ap, ◌∙◌, sym, subst, arith, get_or-set_other, ◌==◌}
+use Prelude.{flat_map, slice_index, set-get_or, length-set, div-add-mod, mod-lt, Header, Subject}
+use Prelude.{Multiset, Cache, Buffers, collected, given, plain_words, plain_words_of, slot_parts}
+use Prelude.{numbers_below, rules_of, parts_of, view_of_words, same_of, apart_of, isnt_same}
+use Prelude.{neither_true, AgreeElsewhere, Gives, words_of, pairs_by, chunk_gives, buffer_gives}
+use Prelude.{given_flat_push, places_give, chunks_show, buffers_show, own_untouched, amount_shown}
 use Rattle.vyrd_base.proofs.SumLaws.{amount_of-collected, given_at_most, other_part, part_at_most}
-use Rattle.vyrd_base.proofs.TestLaws.{same_of, apart_of, isnt_same, neither_true}
-use Rattle.vyrd_view.specs.Comparing.{AgreeElsewhere}
-use Rattle.vyrd_view.specs.Decoded.{Gives, words_of, pairs_by}
-use Rattle.vyrd_view.specs.Pairs.{chunk_gives, buffer_gives}
-use Rattle.vyrd_view.specs.Laws.Sums.{given_flat_push, places_give}
-use Rattle.vyrd_view.specs.Laws.Chunks.{chunks_show}
-use Rattle.vyrd_view.specs.Laws.Buffers.{buffers_show}
-use Rattle.vyrd_view.proofs.DecodedLaws.{own_untouched}
-use Rattle.vyrd_witness.specs.Changes.{amount_shown}
 
 -- ---- what parts give together
 

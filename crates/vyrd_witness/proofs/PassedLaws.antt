@@ -1,29 +1,18 @@
 -- There is an item where there is a race: of a word that is passed, and of a write that races.
-use Rattle.std.proofs.Common.{◌≡◌, ◌↔◌, ℕ, zero, suc, ◌+◌, ◌<◌, ◌≤◌, Bool, true, false, not, cond}
-use Rattle.std.proofs.Common.{◌&&◌, ◌||◌, List, [], ◌∷◌, ◌++◌, length, map, filter, take, drop}
-use Rattle.std.proofs.Common.{slice_get, Option, Some, None, is_some, refl, ap, ◌∙◌, sym, arith}
-use Rattle.std.specs.Prelude.{◌==◌, unwrap_or}
-use Rattle.std.specs.List.{list_any}
-use Rattle.std.specs.Option.{option_or, option_map_or}
-use Rattle.std.proofs.lemmas.List.{length-take-le, take_all, drop_all}
+use Rattle.vyrd_witness.proofs.Prelude
+use Prelude.{◌≡◌, ◌↔◌, ℕ, zero, suc, ◌+◌, ◌<◌, ◌≤◌, Bool, true, false, not, cond, ◌&&◌, ◌||◌, List}
+use Prelude.{[], ◌∷◌, ◌++◌, length, map, filter, take, drop, slice_get, Option, Some, None, is_some}
+use Prelude.{refl, ap, ◌∙◌, sym, arith, ◌==◌, unwrap_or, list_any, option_or, option_map_or}
+use Prelude.{length-take-le, drop_all, slice_get_within, Header, Kind, Write, Entry, by_caller}
+use Prelude.{has_block, commit_or_open, first_answer, newest_first, effects_at, is_lone_commit}
+use Prelude.{committed_since_open, length-newest_first, Passed, effect_of, effects_by}
+use Prelude.{effects_there, effects_along, plain, is_of_other, last_of}
+use Rattle.std.proofs.lemmas.List.{take_all}
 use Rattle.std.proofs.lemmas.List.Folds.{list_any-append}
-use Rattle.std.proofs.lemmas.Option.{slice_get_within}
-use Rattle.vyrd_base.specs.declared.header.Header.{Header}
-use Rattle.vyrd_base.specs.declared.log.Kind.{Kind}
-use Rattle.vyrd_base.specs.declared.log.Kind.TheVariants.{Write}
-use Rattle.vyrd_base.specs.declared.log.Entry.{Entry}
-use Rattle.vyrd_base.specs.Callers.{by_caller, has_block, commit_or_open}
-use Rattle.vyrd_base.specs.Places.{first_answer, newest_first}
 use Rattle.vyrd_base.specs.Samples.{by}
 use Rattle.vyrd_base.specs.Shape.{is_raced}
-use Rattle.vyrd_base.specs.Words.{effects_at, effects_of_others, is_lone_commit, is_passed}
-use Rattle.vyrd_base.proofs.EffectLaws.{committed_since_open}
-use Rattle.vyrd_base.proofs.PlaceLaws.{length-newest_first}
-use Rattle.vyrd_witness.specs.declared.item.Item.TheVariants.{Passed}
-use Rattle.vyrd_witness.specs.Effects.{effect_of, effects_by, effects_there, effects_along}
-use Rattle.vyrd_witness.specs.Plain.{plain}
-use Rattle.vyrd_witness.specs.Races.{is_of_other, last_of, passed_from}
-use Rattle.vyrd_witness.specs.Races.{passed_items, race_items}
+use Rattle.vyrd_base.specs.Words.{effects_of_others, is_passed}
+use Rattle.vyrd_witness.specs.Races.{passed_from, passed_items, race_items}
 use Rattle.vyrd_witness.proofs.EffectLaws.{plain_effects, along_next, entry_there, here_on}
 use Rattle.vyrd_witness.proofs.NumberedLaws.{turned-append}
 use Rattle.vyrd_witness.proofs.PhaseLaws.{newest_at}

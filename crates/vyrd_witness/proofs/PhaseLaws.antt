@@ -1,26 +1,11 @@
 -- The phases of the callers, with one more entry.
-use Rattle.std.proofs.Common.{◌≡◌, ℕ, ◌+◌, ◌<◌, Bool, true, false, ◌&&◌, List, ◌∷◌, take, set}
-use Rattle.std.proofs.Common.{length}
-use Rattle.std.proofs.Common.{Some, None, slice_get, refl, ap, subst, ◌∙◌, sym}
-use Rattle.std.specs.Prelude.{◌==◌}
-use Rattle.std.proofs.lemmas.Option.{slice_get_within}
-use Rattle.vyrd_base.specs.declared.header.Header.{Header}
-use Rattle.vyrd_base.specs.declared.log.Kind.{Kind}
-use Rattle.vyrd_base.specs.declared.log.Kind.TheVariants.{Call, Return, Write, Commit, BlockOpen}
-use Rattle.vyrd_base.specs.declared.log.Kind.TheVariants.{BlockClose, BlockCommit}
-use Rattle.vyrd_base.specs.declared.log.Entry.{Entry}
-use Rattle.vyrd_base.specs.Front.{first_break}
-use Rattle.vyrd_base.specs.Places.{newest_first}
-use Rattle.vyrd_base.specs.Callers.{has_block}
-use Rattle.vyrd_base.proofs.BlockLaws.{entry, by_same, own_block}
-use Rattle.vyrd_base.proofs.EffectLaws.{own_inner}
-use Rattle.vyrd_base.proofs.KeptLaws.{rules_at}
-use Rattle.vyrd_base.proofs.ShadowLaws.{caller_kept}
-use Rattle.vyrd_base.proofs.PlaceLaws.{newest_first-push}
-use Rattle.vyrd_base.proofs.TestLaws.{apart_of}
-use Rattle.vyrd_base.proofs.ListLaws.{take_one_more, slice_get-set_same, slice_get-set_other}
-use Rattle.vyrd_witness.specs.declared.phase.Phase.{Phase}
-use Rattle.vyrd_witness.specs.Phases.{phase_of, phase_after, ArePhases}
+use Rattle.vyrd_witness.proofs.Prelude
+use Prelude.{◌≡◌, ℕ, ◌+◌, ◌<◌, Bool, true, false, ◌&&◌, List, ◌∷◌, take, set, length, Some, None}
+use Prelude.{slice_get, refl, ap, subst, ◌∙◌, sym, ◌==◌, slice_get_within, Header, Kind, Call}
+use Prelude.{Return, Write, Commit, BlockOpen, BlockClose, BlockCommit, Entry, first_break}
+use Prelude.{newest_first, has_block, entry, by_same, own_block, own_inner, rules_at, caller_kept}
+use Prelude.{newest_first-push, apart_of, take_one_more, slice_get-set_same, slice_get-set_other}
+use Prelude.{Phase, phase_of, phase_after, ArePhases}
 
 -- one entry further, in the log itself
 pub newest_at : (log : List Entry) (n : ℕ) (e : Entry) → slice_get log n ≡ Some e

@@ -1,20 +1,11 @@
 -- There is an item where there is a race: of a word that another caller holds.
-use Rattle.std.proofs.Common.{◌≡◌, ◌↔◌, ℕ, Bool, true, false, not, cond, ◌&&◌, ◌||◌, List, [], ◌∷◌}
-use Rattle.std.proofs.Common.{◌++◌, length, Option, Some, None, is_some, refl, flat_map}
-use Rattle.std.specs.Prelude.{◌==◌, unwrap_or}
-use Rattle.std.specs.List.{list_any}
-use Rattle.std.specs.Option.{option_or, option_map_or}
-use Rattle.vyrd_base.specs.declared.header.Header.{Header}
-use Rattle.vyrd_base.specs.declared.log.Kind.{Kind}
-use Rattle.vyrd_base.specs.declared.log.Kind.TheVariants.{Call, Return, Write, Commit, BlockOpen}
-use Rattle.vyrd_base.specs.declared.log.Kind.TheVariants.{BlockClose, BlockCommit}
-use Rattle.vyrd_base.specs.declared.log.Entry.{Entry}
-use Rattle.vyrd_base.specs.Callers.{by_caller, has_block, holds_word, write_or_open}
-use Rattle.vyrd_base.specs.Places.{first_answer, newest_first, numbers_below}
+use Rattle.vyrd_witness.proofs.Prelude
+use Prelude.{◌≡◌, ◌↔◌, ℕ, Bool, true, false, not, cond, ◌&&◌, ◌||◌, List, [], ◌∷◌, ◌++◌, length}
+use Prelude.{Option, Some, None, is_some, refl, flat_map, ◌==◌, unwrap_or, list_any, option_or}
+use Prelude.{option_map_or, Header, Kind, Call, Return, Write, Commit, BlockOpen, BlockClose}
+use Prelude.{BlockCommit, Entry, by_caller, has_block, holds_word, write_or_open, first_answer}
+use Prelude.{newest_first, numbers_below, wrote, Held, is_write_to, last_of, held_by, held_items}
 use Rattle.vyrd_base.specs.Shape.{is_held_by_other}
-use Rattle.vyrd_base.proofs.BlockLaws.{wrote}
-use Rattle.vyrd_witness.specs.declared.item.Item.TheVariants.{Held}
-use Rattle.vyrd_witness.specs.Races.{is_write_to, last_of, held_by, held_items}
 
 -- Where an entry says that something was done since the open, there is a last entry that did it.
 write_step : (w n : ℕ) (own : Bool) (kind : Kind) (since : Option Bool) (last : Option ℕ)

@@ -1,16 +1,8 @@
 -- The words at the start, one starting word more at the front.
-use Rattle.std.proofs.Common.{◌≡◌, ℕ, ◌+◌, ◌-◌, ◌<◌, ◌≤◌, List, []}
-use Rattle.std.proofs.Common.{◌∷◌, length, drop, get_or, set, ap}
-use Rattle.std.proofs.Common.{◌∙◌, sym, arith, replicate}
-use Rattle.std.proofs.lemmas.List.{drop_more, drop_all, set_past}
-use Rattle.vyrd_base.specs.declared.header.Header.{Header}
-use Rattle.vyrd_base.specs.declared.log.StartWord.{StartWord}
-use Rattle.vyrd_base.specs.Layout.{plain_words}
-use Rattle.vyrd_base.specs.Starts.{words_at_start}
-use Rattle.vyrd_base.specs.Words.{value_after}
-use Rattle.vyrd_base.proofs.EffectWords.{one_write}
-use Rattle.vyrd_base.proofs.NoStart.{words_at_start-none}
-use Rattle.vyrd_base.proofs.PlaceLaws.{map_alike, length_below}
+use Rattle.vyrd_witness.proofs.Prelude
+use Prelude.{◌≡◌, ℕ, ◌+◌, ◌-◌, ◌<◌, ◌≤◌, List, [], ◌∷◌, length, drop, get_or, set, ap, ◌∙◌, sym}
+use Prelude.{arith, replicate, drop_more, drop_all, set_past, Header, StartWord, plain_words}
+use Prelude.{words_at_start, value_after, one_write, words_at_start-none, map_alike, length_below}
 
 abbrev pub no_start : StartWord
 no_start = record { word = 0; value = 0 }

@@ -1,19 +1,11 @@
 -- When a write takes effect doesn't depend on its value: where each value that is written is
 -- another one by a function, so is that of each effect.
-use Rattle.std.proofs.Common.{◌≡◌, ℕ, Bool, true, false, cond, List, [], ◌∷◌, ◌++◌, map}
-use Rattle.std.proofs.Common.{Option, Some, None, refl, ap, ◌∙◌, sym}
-use Rattle.std.specs.Prelude.{◌==◌, option_map, unwrap_or}
-use Rattle.std.specs.Option.{option_or, option_map_or}
-use Rattle.std.proofs.lemmas.List.{map-append}
-use Rattle.vyrd_base.specs.declared.log.Kind.{Kind}
-use Rattle.vyrd_base.specs.declared.log.Kind.TheVariants.{Call, Return, Write, Commit, BlockOpen}
-use Rattle.vyrd_base.specs.declared.log.Kind.TheVariants.{BlockClose, BlockCommit}
-use Rattle.vyrd_base.specs.declared.log.Entry.{Entry}
-use Rattle.vyrd_base.specs.Places.{first_answer}
-use Rattle.vyrd_base.specs.Callers.{by_caller, open_or_close, commit_or_open, has_block}
-use Rattle.vyrd_base.specs.Callers.{has_inner_commit}
-use Rattle.vyrd_base.specs.Words.{with_write, block_writes, ahead_at, writes_ahead}
-use Rattle.vyrd_base.specs.Words.{effects_of_commit, effects_of_end, effects_at}
+use Rattle.vyrd_witness.proofs.Prelude
+use Prelude.{◌≡◌, ℕ, Bool, true, false, cond, List, [], ◌∷◌, ◌++◌, map, Option, Some, None, refl}
+use Prelude.{ap, ◌∙◌, sym, ◌==◌, option_map, unwrap_or, option_or, option_map_or, map-append, Kind}
+use Prelude.{Call, Return, Write, Commit, BlockOpen, BlockClose, BlockCommit, Entry, first_answer}
+use Prelude.{by_caller, open_or_close, commit_or_open, has_block, has_inner_commit, with_write}
+use Prelude.{block_writes, ahead_at, writes_ahead, effects_of_commit, effects_of_end, effects_at}
 
 -- a kind, an entry and an effect, with the value that the function gives
 abbrev pub valued_kind : (ℕ → ℕ) → Kind → Kind

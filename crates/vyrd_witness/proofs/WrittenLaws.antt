@@ -1,30 +1,17 @@
 -- Where the writes of effects stand, and that their words are the header's.
-use Rattle.std.proofs.Common.{◌≡◌, ℕ, zero, suc, ◌+◌, ◌<◌, ◌≤◌, Bool, true, false, cond, List, []}
-use Rattle.std.proofs.Common.{◌∷◌, ◌++◌, length, take, drop, Option, Some, None, slice_get}
-use Rattle.std.proofs.Common.{refl, ap, subst, ◌∙◌, sym, arith}
-use Rattle.std.specs.Prelude.{◌==◌, option_map, All}
-use Rattle.std.specs.Option.{option_map_or}
-use Rattle.std.proofs.lemmas.List.{drop-drop}
-use Rattle.std.proofs.lemmas.List.Elements.{All-nil, All-cons, All-head, All-tail}
-use Rattle.std.proofs.lemmas.List.Elements.{All-append, All-map, All-weaker}
-use Rattle.std.proofs.lemmas.Option.{slice_get_within}
-use Rattle.vyrd_base.specs.declared.header.Header.{Header}
-use Rattle.vyrd_base.specs.declared.log.Kind.{Kind}
-use Rattle.vyrd_base.specs.declared.log.Kind.TheVariants.{Call, Return, Write, Commit, BlockOpen}
-use Rattle.vyrd_base.specs.declared.log.Kind.TheVariants.{BlockClose, BlockCommit}
-use Rattle.vyrd_base.specs.declared.log.Entry.{Entry}
-use Rattle.vyrd_base.specs.Layout.{plain_words}
-use Rattle.vyrd_base.specs.Front.{first_break}
-use Rattle.vyrd_base.specs.Places.{newest_first_onto, newest_first}
-use Rattle.vyrd_base.specs.Callers.{has_block, has_inner_commit}
-use Rattle.vyrd_base.specs.Words.{with_write, block_writes, ahead_at, writes_ahead, effects_at}
-use Rattle.vyrd_base.proofs.BlockLaws.{entry, by_same, own_writes, other_writes}
-use Rattle.vyrd_base.proofs.KeptLaws.{rules_at, write_kept}
-use Rattle.vyrd_base.proofs.ListLaws.{slice_get-drop}
-use Rattle.vyrd_base.proofs.TestLaws.{same_of}
-use Rattle.vyrd_witness.specs.declared.effect.Effect.{Effect}
-use Rattle.vyrd_witness.specs.Numbered.{numbered_kind, numbered_entry, numbered_from}
-use Rattle.vyrd_witness.specs.Effects.{value_at, effects_by, effects_there}
+use Rattle.vyrd_witness.proofs.Prelude
+use Prelude.{◌≡◌, ℕ, zero, suc, ◌+◌, ◌<◌, ◌≤◌, Bool, true, false, cond, List, [], ◌∷◌, ◌++◌, length}
+use Prelude.{take, drop, Option, Some, None, slice_get, refl, ap, subst, ◌∙◌, sym, arith, ◌==◌}
+use Prelude.{option_map, option_map_or, drop-drop, slice_get_within, Header, Kind, Call, Return}
+use Prelude.{Write, Commit, BlockOpen, BlockClose, BlockCommit, Entry, plain_words, first_break}
+use Prelude.{newest_first_onto, newest_first, has_block, has_inner_commit, with_write, block_writes}
+use Prelude.{ahead_at, writes_ahead, effects_at, rules_at, slice_get-drop, same_of, Effect}
+use Prelude.{numbered_kind, numbered_entry, numbered_from, value_at, effects_by, effects_there}
+use Rattle.std.specs.Prelude.{All}
+use Rattle.std.proofs.lemmas.List.Elements.{All-nil, All-cons, All-head, All-tail, All-append}
+use Rattle.std.proofs.lemmas.List.Elements.{All-map, All-weaker}
+use Rattle.vyrd_base.proofs.BlockLaws.{own_writes, entry, by_same, other_writes}
+use Rattle.vyrd_base.proofs.KeptLaws.{write_kept}
 use Rattle.vyrd_witness.specs.Written.{IsWritten}
 use Rattle.vyrd_witness.proofs.NumberedLaws.{behind, ahead, behind_next}
 use Rattle.vyrd_witness.proofs.EffectLaws.{entry_there}

@@ -1,16 +1,8 @@
 -- What writes do to words, and when they act as effects do.
-use Rattle.std.proofs.Common.{◌≡◌, ℕ, ◌<◌, true, false, cond, List, [], ◌∷◌, ◌++◌, get_or, Some}
-use Rattle.std.proofs.Common.{None, refl, arith}
-use Rattle.std.specs.Prelude.{◌==◌, unwrap_or}
-use Rattle.std.specs.List.{list_any}
-use Rattle.vyrd_base.specs.declared.header.Header.{Header}
-use Rattle.vyrd_base.specs.declared.log.StartWord.{StartWord}
-use Rattle.vyrd_base.specs.Places.{first_answer}
-use Rattle.vyrd_base.specs.Layout.{plain_words}
-use Rattle.vyrd_base.specs.Words.{given_to, value_after, words_with}
-use Rattle.vyrd_base.proofs.PlaceLaws.{first_answer-append, at_map}
-use Rattle.vyrd_words.specs.Cuts.{written}
-use Rattle.vyrd_words.specs.Effects.{given_last, ActAlike}
+use Rattle.vyrd_words.proofs.Prelude
+use Prelude.{◌≡◌, ℕ, ◌<◌, true, false, cond, List, [], ◌∷◌, ◌++◌, get_or, Some, None, refl, arith}
+use Prelude.{◌==◌, unwrap_or, list_any, Header, StartWord, first_answer, plain_words, given_to}
+use Prelude.{value_after, words_with, first_answer-append, at_map, written, given_last, ActAlike}
 
 pub word_with : (h : Header) (starting : List StartWord) (effects : List (ℕ × ℕ)) (x : ℕ)
     → x < plain_words h

@@ -1,26 +1,12 @@
 -- What late writes cost over a whole log: the work that open blocks hold is a potential.
-use Rattle.std.proofs.Common.{◌≡◌, ◌≢◌, ℕ, zero, suc, ◌+◌, ◌*◌, ◌<◌, ◌≤◌, List, [], ◌∷◌, ◌++◌}
-use Rattle.std.proofs.Common.{length, refl, ap, ◌∙◌, sym, arith, Bool, true, false, cond, Option}
-use Rattle.std.proofs.Common.{None}
-use Rattle.std.specs.Prelude.{◌==◌, ◌||◌, unwrap_or}
-use Rattle.std.specs.Option.{option_or}
-use Rattle.std.specs.List.{sum_by, list_any}
-use Rattle.std.proofs.lemmas.List.Sums.{sum_by-cons}
-use Rattle.vyrd_base.specs.declared.log.Kind.{Kind}
-use Rattle.vyrd_base.specs.declared.log.Kind.TheVariants.{Call, Return, Write, Commit, BlockOpen}
-use Rattle.vyrd_base.specs.declared.log.Kind.TheVariants.{BlockClose, BlockCommit}
-use Rattle.vyrd_base.specs.declared.log.Entry.{Entry}
-use Rattle.vyrd_base.specs.Callers.{has_block, by_caller, open_or_close}
-use Rattle.vyrd_base.specs.Commits.{is_commit, commit_count}
-use Rattle.vyrd_base.specs.Places.{first_answer, numbers_from, numbers_below}
-use Rattle.vyrd_base.proofs.Lasting.{commit_count-cons}
-use Rattle.vyrd_base.proofs.TestLaws.{same_of, apart_of, same_number}
-use Rattle.vyrd_words.specs.Effects.{inner_number, number_at, parts_since, parts_behind}
-use Rattle.std.specs.Prelude.{Result, Ok, Err, OnOk}
-use Rattle.vyrd_shadow.specs.Following.{words_of}
-use Rattle.vyrd_words.specs.HasWords.{WordsView}
-use Rattle.vyrd_view.specs.Known.{Shows}
-use Rattle.vyrd_words.specs.Costs.{effect_count, effect_words, held, work_held}
+use Rattle.vyrd_words.proofs.Prelude
+use Prelude.{◌≡◌, ◌≢◌, ℕ, zero, suc, ◌+◌, ◌*◌, ◌<◌, ◌≤◌, List, [], ◌∷◌, ◌++◌, length, refl, ap, ◌∙◌}
+use Prelude.{sym, arith, Bool, true, false, cond, Option, None, ◌==◌, ◌||◌, unwrap_or, option_or}
+use Prelude.{sum_by, list_any, sum_by-cons, Kind, Call, Return, Write, Commit, BlockOpen}
+use Prelude.{BlockClose, BlockCommit, Entry, has_block, by_caller, open_or_close, is_commit}
+use Prelude.{commit_count, first_answer, numbers_from, numbers_below, commit_count-cons, same_of}
+use Prelude.{apart_of, same_number, inner_number, number_at, parts_since, parts_behind, Result, Ok}
+use Prelude.{Err, OnOk, words_of, WordsView, Shows, effect_count, effect_words, held, work_held}
 use Rattle.vyrd_words.proofs.WordsLaws.{number_low}
 
 -- two steps for each commit since, if a block is open

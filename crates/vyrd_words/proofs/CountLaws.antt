@@ -1,12 +1,11 @@
 -- Commits that are kept in bytes, and some apart.
 use Rattle.std.proofs.Common.{◌≡◌, ◌≢◌, ℕ, zero, suc, ◌+◌, ◌<◌, ◌≤◌, List, [], ◌∷◌, ◌++◌, length}
 use Rattle.std.proofs.Common.{take, drop, set, get_or, refl, ap, sym, ◌∙◌, arith}
-use Rattle.std.proofs.lemmas.List.{take-append-drop, drop_more}
+use Rattle.std.proofs.lemmas.List.{take-append-drop, drop_more, get_or_read}
 use Rattle.std.specs.Prelude.{◌==◌, Bool, true, false, cond, insert, if◌then◌else◌}
 use Rattle.vyrd_base.proofs.TestLaws.{is_same, isnt_same, lower_isnt}
 use Rattle.vyrd_words.specs.Counts.{apart_in, counts_of, just, with_late}
 use Rattle.vyrd_words.proofs.CutLaws.{read_at}
-use Rattle.std.proofs.lemmas.List.{get_or_read}
 
 -- a count for each byte
 pub length-counts_of : (bytes : List ℕ) (large : List (ℕ × List (ℕ × ℕ)))

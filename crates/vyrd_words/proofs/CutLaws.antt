@@ -1,31 +1,15 @@
 -- Writes that wait, and the words at the commits among them.
-use Rattle.std.proofs.Common.{◌≡◌, ℕ, zero, suc, ◌+◌, ◌<◌, ◌≤◌, ◌^◌, List, [], ◌∷◌, ◌++◌, length}
-use Rattle.std.proofs.Common.{take, drop, set, refl, ap, subst, ◌∙◌, sym, arith, length-drop}
-use Rattle.std.proofs.Common.{length-append}
-use Rattle.std.proofs.lemmas.List.Sums.{sum_by-cons, sum_by_push}
-use Rattle.std.proofs.lemmas.List.{take-append-le, drop-append-le}
-use Rattle.std.proofs.Math.Seq.{take-length}
-use Rattle.std.proofs.Math.ListN.{length-set}
-use Rattle.std.proofs.Math.Seq.{drop-length}
-use Rattle.vyrd_base.specs.declared.header.Header.{Header}
-use Rattle.vyrd_base.specs.Layout.{plain_words}
-use Rattle.std.specs.Prelude.{◌==◌, true, false, get_or, map, All, Result, OnOk}
-use Rattle.std.specs.List.{list_any}
-use Rattle.std.proofs.Common.{append_assoc, get_or-set_other}
-use Rattle.std.proofs.lemmas.List.Folds.{list_any-append}
+use Rattle.vyrd_words.proofs.Prelude
+use Prelude.{◌≡◌, ℕ, zero, suc, ◌+◌, ◌<◌, ◌≤◌, ◌^◌, List, [], ◌∷◌, ◌++◌, length, take, drop, set}
+use Prelude.{refl, ap, subst, ◌∙◌, sym, arith, length-drop, length-append, sum_by-cons, sum_by_push}
+use Prelude.{take-append-le, drop-append-le, take-length, length-set, drop-length, Header}
+use Prelude.{plain_words, ◌==◌, true, false, get_or, map, All, Result, OnOk, list_any, append_assoc}
+use Prelude.{get_or-set_other, list_any-append, AgreeElsewhere, Known, same_of, apart_of, is_same}
+use Prelude.{flipped, lower_isnt, neither_true, with_writes-append, with_writes, AreInRange, just}
+use Prelude.{with_late, total, first_of, split_at, since_of, with_part, first_with, written}
+use Prelude.{AreCuts, AreKnown, cond, ◌-◌, Some, slice_get, option_map, append-nil, Bool}
 use Rattle.std.proofs.lemmas.List.Elements.{All-append, All-head, All-tail, All-cons, All-nil}
-use Rattle.vyrd_view.specs.Comparing.{AgreeElsewhere}
-use Rattle.vyrd_view.specs.Known.{Known}
-use Rattle.vyrd_base.proofs.TestLaws.{same_of, apart_of, is_same, flipped, lower_isnt, neither_true}
-use Rattle.vyrd_shadow.proofs.WriteLaws.{with_writes-append}
-use Rattle.vyrd_shadow.specs.Blocks.{with_writes, AreInRange}
 use Rattle.vyrd_shadow.proofs.KeptWrites.{length-with_writes, below_set, below_with, keys_below}
-use Rattle.vyrd_words.specs.Counts.{just, with_late, total}
-use Rattle.vyrd_words.specs.Cuts.{first_of, split_at, since_of, with_part, first_with, written}
-use Rattle.vyrd_words.specs.Cuts.{AreCuts, AreKnown}
-use Rattle.std.specs.Prelude.{cond, ◌-◌, Some, slice_get}
-use Rattle.std.specs.Option.{option_map}
-use Rattle.std.proofs.Common.{append-nil, Bool}
 
 pub in_range-append : (n : ℕ) (xs ys : List (ℕ × ℕ)) → AreInRange n xs → AreInRange n ys
     → AreInRange n (xs ++ ys)

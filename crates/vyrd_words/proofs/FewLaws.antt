@@ -1,17 +1,10 @@
 -- How many writes are kept for the commits that wait: no more than the effects that they stand for.
-use Rattle.std.proofs.Common.{◌≡◌, ℕ, suc, ◌+◌, ◌<◌, ◌≤◌, List, [], ◌∷◌, ◌++◌, length, refl, ap}
-use Rattle.std.proofs.Common.{◌∙◌, sym, arith, length-append, append-nil, append_assoc, Bool, true}
-use Rattle.std.proofs.Common.{false, cond}
-use Rattle.std.proofs.lemmas.List.{take-append-le}
-use Rattle.std.proofs.Math.Seq.{take-length}
-use Rattle.std.specs.Prelude.{◌==◌, ◌-◌, Result, OnOk}
-use Rattle.std.specs.List.{list_any}
-use Rattle.vyrd_base.proofs.TestLaws.{is_same, lower_isnt, same_of}
-use Rattle.vyrd_shadow.specs.Blocks.{first_written}
-use Rattle.vyrd_shadow.specs.Following.{words_of}
-use Rattle.vyrd_words.specs.Counts.{just, total}
-use Rattle.vyrd_words.specs.Cuts.{split_at, since_of, begun_of, begun_with, with_part}
-use Rattle.vyrd_words.specs.Effects.{with_effects, cut_if, AllFew, AreFew}
+use Rattle.vyrd_words.proofs.Prelude
+use Prelude.{◌≡◌, ℕ, suc, ◌+◌, ◌<◌, ◌≤◌, List, [], ◌∷◌, ◌++◌, length, refl, ap, ◌∙◌, sym, arith}
+use Prelude.{length-append, append-nil, append_assoc, Bool, true, false, cond, take-append-le}
+use Prelude.{take-length, ◌==◌, ◌-◌, Result, OnOk, list_any, is_same, lower_isnt, same_of}
+use Prelude.{first_written, words_of, just, total, split_at, since_of, begun_of, begun_with}
+use Prelude.{with_part, with_effects, cut_if, AllFew, AreFew}
 use Rattle.vyrd_words.proofs.CutLaws.{sum-cons, late_at, length-split_at, never_same, cons_first}
 use Rattle.vyrd_words.proofs.CutLaws.{with_part_none}
 

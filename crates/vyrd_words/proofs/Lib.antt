@@ -1,3 +1,4 @@
+mod Prelude
 pub mod StartedLaws
 pub mod WordsLaws
 pub mod CutLaws

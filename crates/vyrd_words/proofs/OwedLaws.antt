@@ -1,23 +1,11 @@
 -- An entry's steps are paid by what is owed before it and a constant.
-use Rattle.std.proofs.Common.{◌≡◌, ◌≢◌, ℕ, zero, suc, ◌+◌, ◌*◌, ◌<◌, ◌≤◌, List, ◌∷◌, length, refl}
-use Rattle.std.proofs.Common.{arith, Bool, true, false, cond, Option}
-use Rattle.std.specs.Prelude.{◌==◌, unwrap_or, Result, Ok, Err, OnOk}
-use Rattle.std.specs.Option.{option_or}
-use Rattle.std.specs.List.{sum_by}
-use Rattle.std.proofs.lemmas.List.Sums.{sum_by-cons}
-use Rattle.vyrd_base.specs.declared.log.Kind.{Kind}
-use Rattle.vyrd_base.specs.declared.log.Kind.TheVariants.{Call, Return, Write, Commit, BlockOpen}
-use Rattle.vyrd_base.specs.declared.log.Kind.TheVariants.{BlockClose, BlockCommit}
-use Rattle.vyrd_base.specs.declared.log.Entry.{Entry}
-use Rattle.vyrd_base.specs.declared.log.StartWord.{StartWord}
-use Rattle.vyrd_base.specs.Callers.{has_block, open_or_close}
-use Rattle.vyrd_base.specs.Places.{numbers_from}
-use Rattle.vyrd_base.specs.Words.{block_writes, with_write}
-use Rattle.vyrd_base.proofs.TestLaws.{apart_of, same_of, isnt_same}
-use Rattle.vyrd_shadow.specs.Following.{ShadowKept, kept_writes}
-use Rattle.vyrd_words.specs.HasWords.{HasWords, Keeps}
-use Rattle.vyrd_words.specs.Costs.{work_held, effect_count, kept_back, all_kept_back, each_entry}
-use Rattle.vyrd_words.specs.Costs.{owed}
+use Rattle.vyrd_words.proofs.Prelude
+use Prelude.{◌≡◌, ◌≢◌, ℕ, zero, suc, ◌+◌, ◌*◌, ◌<◌, ◌≤◌, List, ◌∷◌, length, refl, arith, Bool, true}
+use Prelude.{false, cond, Option, ◌==◌, unwrap_or, Result, Ok, Err, OnOk, option_or, sum_by}
+use Prelude.{sum_by-cons, Kind, Call, Return, Write, Commit, BlockOpen, BlockClose, BlockCommit}
+use Prelude.{Entry, StartWord, has_block, open_or_close, numbers_from, block_writes, with_write}
+use Prelude.{apart_of, same_of, isnt_same, ShadowKept, kept_writes, HasWords, Keeps, work_held}
+use Prelude.{effect_count, kept_back, all_kept_back, each_entry, owed}
 use Rattle.vyrd_words.proofs.FewLaws.{first_few, length-words_of}
 use Rattle.vyrd_words.proofs.WordsLaws.{low_caller, closes_block, commits_block}
 

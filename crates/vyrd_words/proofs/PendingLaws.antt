@@ -1,13 +1,10 @@
 -- What is pending for the changed words and the writes that wait.
-use Rattle.std.proofs.Common.{◌≡◌, ℕ, zero, suc, ◌+◌, ◌*◌, ◌≤◌, List, [], ◌∷◌, ◌++◌, length, take}
-use Rattle.std.proofs.Common.{drop, refl, ap, ◌<◌, append-nil, arith, length-append}
-use Rattle.std.specs.Prelude.{map, slice_index}
-use Rattle.std.specs.List.{sum_by}
+use Rattle.vyrd_words.proofs.Prelude.{◌≡◌, ℕ, zero, suc, ◌+◌, ◌*◌, ◌≤◌, List, [], ◌∷◌, ◌++◌, length}
+use Rattle.vyrd_words.proofs.Prelude.{take, drop, refl, ap, ◌<◌, append-nil, arith, length-append}
+use Rattle.vyrd_words.proofs.Prelude.{map, sum_by, pending_for, written, just, late_writes}
+use Rattle.std.specs.Prelude.{slice_index}
 use Rattle.std.proofs.lemmas.List.{length-map}
-use Rattle.std.proofs.lemmas.List.Sums.{sum_by-cons, sum_by-append, sum_by_push}
-use Rattle.vyrd_words.specs.Costs.{pending_for}
-use Rattle.vyrd_words.specs.Cuts.{written}
-use Rattle.vyrd_words.specs.Counts.{just, late_writes}
+use Rattle.std.proofs.lemmas.List.Sums.{sum_by-append, sum_by-cons, sum_by_push}
 use Rattle.vyrd_words.proofs.CutLaws.{late_at, length-written}
 
 -- the prices of the first writes, and those of the others

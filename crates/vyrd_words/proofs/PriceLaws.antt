@@ -1,23 +1,11 @@
 -- The prices of an entry's effects are paid by the writes that open blocks keep back.
-use Rattle.std.proofs.Common.{◌≡◌, ◌≢◌, ℕ, ◌+◌, ◌*◌, ◌<◌, ◌≤◌, List, [], ◌∷◌, ◌++◌, refl, arith}
-use Rattle.std.proofs.Common.{Bool, true, false, cond, Option}
-use Rattle.std.specs.Prelude.{◌==◌, unwrap_or, Result, Ok, Err, OnOk}
-use Rattle.std.specs.Option.{option_or}
-use Rattle.std.specs.List.{sum_by, list_any}
-use Rattle.std.proofs.lemmas.List.Sums.{sum_by-cons, sum_by_push}
-use Rattle.vyrd_base.specs.declared.log.Kind.{Kind}
-use Rattle.vyrd_base.specs.declared.log.Kind.TheVariants.{Call, Return, Write, Commit, BlockOpen}
-use Rattle.vyrd_base.specs.declared.log.Kind.TheVariants.{BlockClose, BlockCommit}
-use Rattle.vyrd_base.specs.declared.log.Entry.{Entry}
-use Rattle.vyrd_base.specs.declared.log.StartWord.{StartWord}
-use Rattle.vyrd_base.specs.Callers.{has_block, open_or_close}
-use Rattle.vyrd_base.specs.Places.{numbers_below}
-use Rattle.vyrd_base.specs.Words.{block_writes, with_write}
-use Rattle.vyrd_base.proofs.TestLaws.{isnt_same}
-use Rattle.vyrd_shadow.specs.Blocks.{first_written}
-use Rattle.vyrd_shadow.specs.Following.{ShadowKept, words_of, kept_writes}
-use Rattle.vyrd_words.specs.HasWords.{HasWords, Keeps}
-use Rattle.vyrd_words.specs.Costs.{held, work_held, effect_count, effect_words, each_entry, owed}
+use Rattle.vyrd_words.proofs.Prelude
+use Prelude.{◌≡◌, ◌≢◌, ℕ, ◌+◌, ◌*◌, ◌<◌, ◌≤◌, List, [], ◌∷◌, ◌++◌, refl, arith, Bool, true, false}
+use Prelude.{cond, Option, ◌==◌, unwrap_or, Result, Ok, Err, OnOk, option_or, sum_by, list_any}
+use Prelude.{sum_by-cons, sum_by_push, Kind, Call, Return, Write, Commit, BlockOpen, BlockClose}
+use Prelude.{BlockCommit, Entry, StartWord, has_block, open_or_close, numbers_below, block_writes}
+use Prelude.{with_write, isnt_same, first_written, ShadowKept, words_of, kept_writes, HasWords}
+use Prelude.{Keeps, held, work_held, effect_count, effect_words, each_entry, owed}
 use Rattle.vyrd_words.specs.Costs.{entry_price, price_back, price_kept}
 use Rattle.vyrd_words.proofs.WordsLaws.{low_caller, closes_block, commits_block}
 use Rattle.vyrd_words.proofs.OwedLaws.{sum_at, owed_paid, owed_at_most}

@@ -1,17 +1,12 @@
 -- What a shadow that has followed some entries tells of its words, and the entries that leave it as
 -- it is.
-use Rattle.std.proofs.Common.{◌≡◌, ℕ, List, ◌∷◌, None, ◌∙◌}
+use Rattle.vyrd_words.proofs.Prelude.{◌≡◌, ℕ, List, ◌∷◌, None, ◌∙◌, Call, Return, Commit, Entry}
+use Rattle.vyrd_words.proofs.Prelude.{StartWord, words_with, entry, ShadowKept, HasFollowed}
 use Rattle.vyrd_base.specs.declared.subject.Method.{Method}
 use Rattle.vyrd_base.specs.declared.subject.Args.{Args}
-use Rattle.vyrd_base.specs.declared.log.Kind.TheVariants.{Call, Return, Commit}
-use Rattle.vyrd_base.specs.declared.log.Entry.{Entry}
-use Rattle.vyrd_base.specs.declared.log.StartWord.{StartWord}
 use Rattle.vyrd_base.specs.Shape.{broken_rule}
-use Rattle.vyrd_base.specs.Words.{words_with}
 use Rattle.vyrd_base.specs.BlockEnds.{ended_effects}
-use Rattle.vyrd_base.proofs.BlockLaws.{entry}
 use Rattle.vyrd_base.proofs.SettledWords.{words_settled}
-use Rattle.vyrd_shadow.specs.Following.{ShadowKept, HasFollowed}
 use Rattle.vyrd_shadow.proofs.FollowLaws.{followed_call, followed_return, followed_lone_commit}
 
 -- its words are those that blocks leave whose writes take effect at their end

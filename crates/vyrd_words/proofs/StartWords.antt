@@ -1,24 +1,18 @@
 -- What starting words that a log may begin with tell: their words and values are in range, and they
 -- are few. So all plain words
 -- at the start are small, and those that aren't among them are 0.
-use Rattle.std.proofs.Common.{◌≡◌, ℕ, zero, suc, ◌+◌, ◌<◌, ◌≤◌, ◌^◌, Bool, true, false, cond, not}
-use Rattle.std.proofs.Common.{◌||◌, List, [], ◌∷◌, length, map, get_or, refl, ap, ◌∙◌, arith}
-use Rattle.std.specs.Prelude.{◌==◌, nat_le, replicate, All, Option, Some, None, unwrap_or}
-use Rattle.std.specs.Option.{option_or}
-use Rattle.std.specs.List.{list_any}
+use Rattle.vyrd_words.proofs.Prelude
+use Prelude.{◌≡◌, ℕ, zero, suc, ◌+◌, ◌<◌, ◌≤◌, ◌^◌, Bool, true, false, cond, not, ◌||◌, List, []}
+use Prelude.{◌∷◌, length, map, get_or, refl, ap, ◌∙◌, arith, option_or, list_any, Header, StartWord}
+use Prelude.{plain_words, numbers_from, first_answer, given_to, value_after, do_follow}
+use Prelude.{words_at_start, above_of, first_true, second_true, neither_true, AgreeElsewhere}
+use Rattle.std.specs.Prelude.{nat_le, ◌==◌, replicate, All, Option, Some, None, unwrap_or}
 use Rattle.std.proofs.lemmas.Bool.{not-true}
 use Rattle.std.proofs.lemmas.List.Elements.{All-nil, All-cons}
-use Rattle.vyrd_base.specs.declared.header.Header.{Header}
-use Rattle.vyrd_base.specs.declared.log.StartWord.{StartWord}
-use Rattle.vyrd_base.specs.Layout.{plain_words}
-use Rattle.vyrd_base.specs.Places.{numbers_from, first_answer}
-use Rattle.vyrd_base.specs.Words.{given_to, value_at_start, value_after}
-use Rattle.vyrd_base.specs.Starts.{is_out_of_range, is_out_of_order, do_follow, may_start}
-use Rattle.vyrd_base.specs.Starts.{words_at_start}
-use Rattle.vyrd_base.proofs.TestLaws.{above_of, first_true, second_true, neither_true}
+use Rattle.vyrd_base.specs.Words.{value_at_start}
+use Rattle.vyrd_base.specs.Starts.{is_out_of_range, is_out_of_order, may_start}
 use Rattle.vyrd_base.proofs.PlaceLaws.{length-mapped}
 use Rattle.vyrd_base.proofs.ListLaws.{zeros}
-use Rattle.vyrd_view.specs.Comparing.{AgreeElsewhere}
 
 -- a starting word in the ranges, and more than one
 pub record StartFits (h : Header) (s : StartWord) : Type 0 where

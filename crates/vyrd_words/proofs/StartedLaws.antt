@@ -1,18 +1,10 @@
 -- The words at the start, with one starting word after the other.
-use Rattle.std.proofs.Common.{◌≡◌, ℕ, zero, suc, ◌+◌, ◌<◌, true, false, cond, List, [], ◌∷◌, length}
-use Rattle.std.proofs.Common.{take, set, get_or, Option, Some, None, refl, ap, ◌∙◌, sym, arith}
-use Rattle.std.specs.Prelude.{◌==◌, unwrap_or}
-use Rattle.std.specs.Option.{option_or}
-use Rattle.std.proofs.lemmas.List.{take_more}
-use Rattle.vyrd_base.specs.declared.header.Header.{Header}
-use Rattle.vyrd_base.specs.declared.log.StartWord.{StartWord}
-use Rattle.vyrd_base.specs.Layout.{plain_words}
-use Rattle.vyrd_base.specs.Places.{first_answer}
-use Rattle.vyrd_base.specs.Words.{given_to, value_after}
-use Rattle.vyrd_base.specs.Starts.{do_follow, words_at_start}
-use Rattle.vyrd_base.proofs.PlaceLaws.{first_answer-append}
-use Rattle.vyrd_base.proofs.TestLaws.{above_of, is_same, lower_isnt, first_true, second_true}
-use Rattle.vyrd_base.proofs.TestLaws.{neither_true}
+use Rattle.vyrd_words.proofs.Prelude.{◌≡◌, ℕ, zero, suc, ◌+◌, ◌<◌, true, false, cond, List, [], ◌∷◌}
+use Rattle.vyrd_words.proofs.Prelude.{length, take, set, get_or, Option, Some, None, refl, ap, ◌∙◌}
+use Rattle.vyrd_words.proofs.Prelude.{sym, arith, ◌==◌, unwrap_or, option_or, take_more, Header}
+use Rattle.vyrd_words.proofs.Prelude.{StartWord, plain_words, first_answer, given_to, value_after}
+use Rattle.vyrd_words.proofs.Prelude.{do_follow, words_at_start, first_answer-append, above_of}
+use Rattle.vyrd_words.proofs.Prelude.{is_same, lower_isnt, first_true, second_true, neither_true}
 use Rattle.vyrd_base.proofs.EffectWords.{map_set}
 use Rattle.vyrd_words.proofs.StartWords.{StartFits, StartsFit, starts_of}
 

@@ -1,16 +1,15 @@
 -- The amounts that a state shows, told key by key, and the words at the start.
-use Rattle.std.proofs.Common.{◌≡◌, ℕ, zero, suc, ◌+◌, ◌<◌, cond, T, [], ◌∷◌, ◌++◌, length, take}
-use Rattle.std.proofs.Common.{drop, get_or, refl, ap, ◌∙◌, sym, arith}
-use Rattle.std.specs.Prelude.{◌≢◌, ◌==◌, not, filter}
+use Rattle.vyrd_words.proofs.Prelude.{◌≡◌, ℕ, zero, suc, ◌+◌, ◌<◌, cond, [], ◌∷◌, ◌++◌, length}
+use Rattle.vyrd_words.proofs.Prelude.{take, drop, get_or, refl, ap, ◌∙◌, sym, arith, ◌≢◌, ◌==◌, not}
+use Rattle.vyrd_words.proofs.Prelude.{take_more, Amounts, IsAmounts, with_amount, isnt_same}
+use Rattle.std.proofs.Common.{T}
+use Rattle.std.specs.Prelude.{filter}
 use Rattle.std.specs.Ordering.{nat_cmp, is_lt}
 use Rattle.std.specs.declared.cmp.Ordering.TheVariants.{Greater}
 use Rattle.std.specs.FinMap.Entries.{put, by_order, below_all, is_sorted}
 use Rattle.std.specs.List.{AllByRecursion}
 use Rattle.std.proofs.lemmas.Bool.Decides.{nat_tests}
-use Rattle.std.proofs.lemmas.List.{take_more}
-use Rattle.vyrd_base.specs.Amounts.{Amounts, IsAmounts, with_amount}
 use Rattle.vyrd_base.proofs.AmountLaws.{first_of_and, second_of_and}
-use Rattle.vyrd_base.proofs.TestLaws.{isnt_same}
 
 above : (x k : ℕ) → T (is_lt (nat_cmp x k)) → nat_cmp k x ≡ Greater
 above x k h = grind (arith, nat_tests)

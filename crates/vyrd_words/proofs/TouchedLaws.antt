@@ -1,8 +1,6 @@
 -- The amounts of touched keys, told key by key.
+use Rattle.vyrd_words.proofs.Prelude.{take_more, Amounts, amount_of, with_amount, with_touched}
 use Rattle.std.proofs.Common.{◌≡◌, ℕ, List, ◌+◌, ◌<◌, [], ◌∷◌, ◌++◌, length, take, get_or, refl}
-use Rattle.std.proofs.lemmas.List.{take_more}
-use Rattle.vyrd_base.specs.Amounts.{Amounts, amount_of, with_amount}
-use Rattle.vyrd_spec.specs.Touching.{with_touched}
 
 -- one key more, at the end
 touched_push : (ks : List ℕ) (k : ℕ) (new old : Amounts)

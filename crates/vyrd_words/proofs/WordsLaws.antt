@@ -1,36 +1,22 @@
 -- How the words that are kept go on with one more entry.
-use Rattle.std.proofs.Common.{◌≡◌, ℕ, zero, suc, ◌+◌, ◌<◌, ◌≤◌, ◌^◌, Bool, true, false, cond, List}
-use Rattle.std.proofs.Common.{[], ◌∷◌, ◌++◌, length, set, get_or, Some, None, Result, refl, ap}
-use Rattle.std.proofs.Common.{subst, ◌∙◌, sym, arith, slice_get}
-use Rattle.std.specs.Prelude.{◌==◌, ◌≢◌, ◌||◌, ◌-◌, OnOk, All, replicate}
-use Rattle.std.specs.Option.{option_or}
-use Rattle.std.specs.List.{list_any}
+use Rattle.vyrd_words.proofs.Prelude
+use Prelude.{◌≡◌, ℕ, zero, suc, ◌+◌, ◌<◌, ◌≤◌, ◌^◌, Bool, true, false, cond, List, [], ◌∷◌, ◌++◌}
+use Prelude.{length, set, get_or, Some, None, Result, refl, ap, subst, ◌∙◌, sym, arith, slice_get}
+use Prelude.{◌==◌, ◌≢◌, ◌||◌, ◌-◌, OnOk, All, replicate, option_or, list_any, commit_count-cons}
+use Prelude.{Header, Kind, Write, Commit, BlockOpen, BlockClose, BlockCommit, Entry, StartWord}
+use Prelude.{first_answer, has_block, plain_words, block_writes, given_to, is_commit, commit_count}
+use Prelude.{entry, neither_true, same_number, same_of, apart_of, ShadowKept, HasFollowed, is_open}
+use Prelude.{kept_writes, words_of, Cuts, first_with, with_part, begun_with, written, ActAlike}
+use Prelude.{cut_if, number_at, inner_number, parts_behind, parts_since, WordsView, HasWords, Keeps}
 use Rattle.std.proofs.Math.Logic.{∥∥₁_elim}
 use Rattle.std.proofs.Math.Bool.{Bool-set}
 use Rattle.std.proofs.lemmas.List.Elements.{All-tail}
 use Rattle.std.proofs.lemmas.Option.{same_Some}
-use Rattle.vyrd_base.proofs.Lasting.{commit_count-cons}
-use Rattle.vyrd_base.specs.declared.header.Header.{Header}
-use Rattle.vyrd_base.specs.declared.log.Kind.{Kind}
-use Rattle.vyrd_base.specs.declared.log.Kind.TheVariants.{Write, Commit, BlockOpen}
-use Rattle.vyrd_base.specs.declared.log.Kind.TheVariants.{BlockClose, BlockCommit}
-use Rattle.vyrd_base.specs.declared.log.Entry.{Entry}
-use Rattle.vyrd_base.specs.declared.log.StartWord.{StartWord}
-use Rattle.vyrd_base.specs.Places.{first_answer}
-use Rattle.vyrd_base.specs.Callers.{has_block}
-use Rattle.vyrd_base.specs.Layout.{plain_words}
-use Rattle.vyrd_base.specs.Words.{block_writes, given_to}
 use Rattle.vyrd_base.specs.BlockEnds.{ended_effects_at, ended_effects}
-use Rattle.vyrd_base.specs.Commits.{is_commit, commit_count}
-use Rattle.vyrd_base.proofs.BlockLaws.{entry, by_same}
+use Rattle.vyrd_base.proofs.BlockLaws.{by_same}
 use Rattle.vyrd_base.proofs.ShadowLaws.{caller_kept, open_kept, close_kept, block_commit_kept}
-use Rattle.vyrd_base.proofs.TestLaws.{below_of, is_below, at_most_of, is_at_most, neither_true}
-use Rattle.vyrd_base.proofs.TestLaws.{same_number, same_of, apart_of}
-use Rattle.vyrd_shadow.specs.Following.{ShadowKept, HasFollowed, is_open, kept_writes, words_of}
-use Rattle.vyrd_words.specs.Cuts.{Cuts, first_with, with_part, begun_with, written}
-use Rattle.vyrd_words.specs.Effects.{ActAlike, cut_if, number_at, inner_number, parts_behind}
-use Rattle.vyrd_words.specs.Effects.{parts_since}
-use Rattle.vyrd_words.specs.HasWords.{WordsView, HasWords, HasTaken, Keeps, MayFollow}
+use Rattle.vyrd_base.proofs.TestLaws.{below_of, is_below, at_most_of, is_at_most}
+use Rattle.vyrd_words.specs.HasWords.{HasTaken, MayFollow}
 use Rattle.vyrd_words.proofs.ActLaws.{written_alike, word_is}
 use Rattle.vyrd_words.proofs.CutLaws.{with_part_nothing, first_with_nothing, length-written}
 use Rattle.vyrd_words.proofs.FewLaws.{begun_grows, first_few}

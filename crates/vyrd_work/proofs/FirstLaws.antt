@@ -1,28 +1,18 @@
 -- The first line has one reading.
-use Rattle.std.proofs.Common.{◌≡◌, ℕ, ◌<◌, ◌^◌, Bool, true, false, cond, List, [], ◌∷◌, ◌++◌}
-use Rattle.std.proofs.Common.{Option, Some, None, refl, ap, sym, ◌∙◌, arith}
-use Rattle.std.specs.Prelude.{codes, decimal}
-use Rattle.std.specs.Option.{option_map}
-use Rattle.std.specs.List.{list_all}
-use Rattle.std.specs.Str.{bytes_eq}
-use Rattle.std.proofs.lemmas.Slice.Eq.{bytes_eq-Decides}
-use Rattle.vyrd_base.specs.declared.header.Header.{Header}
-use Rattle.vyrd_base.specs.declared.subject.Subject.{Subject}
-use Rattle.vyrd_base.specs.Subjects.{is_built_in, limits_of}
+use Rattle.vyrd_work.proofs.Prelude
+use Prelude.{◌≡◌, ℕ, ◌<◌, ◌^◌, Bool, true, false, cond, List, [], ◌∷◌, ◌++◌, Option, Some, None}
+use Prelude.{refl, ap, sym, ◌∙◌, arith, codes, decimal, option_map, list_all, bytes_eq}
+use Prelude.{bytes_eq-Decides, Header, Subject, fields_of, size_in_32_bits, callers_in_32_bits}
+use Prelude.{first_version_built_in, lacks, split-join, lacks-join, number_of_decimal, bytes_same}
+use Prelude.{is_plain_field, plain_number, plain_spaces, plain_line_feeds, both_true, Variant}
+use Prelude.{one_before_space, Workload, variant_name, work_header_line, begun, begun_in}
+use Rattle.vyrd_base.specs.Subjects.{limits_of, is_built_in}
 use Rattle.vyrd_base.specs.Spelling.{subject_name}
-use Rattle.vyrd_base.specs.Lines.{fields_of, number_of, subject_called, header_if, header_of}
-use Rattle.vyrd_base.proofs.HeaderLaws.{size_in_32_bits, callers_in_32_bits, first_version_built_in}
-use Rattle.vyrd_base.proofs.SplitLaws.{lacks, split-join, lacks-join, number_of_decimal, bytes_same}
-use Rattle.vyrd_base.proofs.SplitLaws.{is_plain_field}
-use Rattle.vyrd_base.proofs.LineLaws.{plain_number, plain_spaces, plain_line_feeds}
-use Rattle.vyrd_base.proofs.TestLaws.{both_true}
+use Rattle.vyrd_base.specs.Lines.{number_of, subject_called, header_if, header_of}
 use Rattle.vyrd_base.proofs.StructureLaws.{plain_subject}
 use Rattle.vyrd_base.proofs.SubjectLaws.{subject_read, one_name}
-use Rattle.vyrd_memory.specs.declared.op.Variant.{Variant}
-use Rattle.vyrd_text.proofs.PartLaws.{one_before_space}
 use Rattle.vyrd_text.proofs.HeaderLaws.{made, not_made}
-use Rattle.vyrd_work.specs.Workloads.{Workload, variant_name, work_header_line}
-use Rattle.vyrd_work.specs.WorkLines.{variant_called, begun, begun_if_spelled, begun_from, begun_in}
+use Rattle.vyrd_work.specs.WorkLines.{variant_called, begun_if_spelled, begun_from}
 use Rattle.vyrd_work.specs.Spelled.{IsVariantRead, AreBoundsRead, IsFirstRead}
 
 -- a size that no number of callers follows

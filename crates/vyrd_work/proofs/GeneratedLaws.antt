@@ -1,21 +1,13 @@
 -- Generated workloads, one operation at a time, and that they keep the limits.
-use Rattle.std.proofs.Common.{◌≡◌, ℕ, suc, zero, ◌+◌, ◌-◌, ◌<◌, ◌≤◌, ◌^◌, Bool, true}
-use Rattle.std.proofs.Common.{cond, ◌&&◌, List, ◌∷◌, length, refl, ap, sym, ◌∙◌, arith}
-use Rattle.std.specs.Prelude.{nat_lt}
-use Rattle.std.specs.List.{AllByRecursion}
+use Rattle.vyrd_work.proofs.Prelude.{◌≡◌, ℕ, suc, zero, ◌+◌, ◌-◌, ◌<◌, ◌≤◌, ◌^◌, Bool, true, cond}
+use Rattle.vyrd_work.proofs.Prelude.{◌&&◌, List, ◌∷◌, length, refl, ap, sym, ◌∙◌, arith, nat_lt}
+use Rattle.vyrd_work.proofs.Prelude.{AllByRecursion, Insert, subject_of, same_subject, are_args}
+use Rattle.vyrd_work.proofs.Prelude.{both_true, is_below, Op, WorkOp, are_small, most_ops, is_op_of}
+use Rattle.vyrd_work.proofs.Prelude.{KeepsLimits, ops_from, generated}
 use Rattle.vyrd_base.specs.declared.subject.Subject.TheVariants.{Multiset}
 use Rattle.vyrd_base.specs.declared.subject.Method.TheVariants.{Multiset as OfMultiset}
-use Rattle.vyrd_base.specs.declared.multiset.MultisetMethod.TheVariants.{Insert, InsertPair, Delete}
-use Rattle.vyrd_base.specs.declared.multiset.MultisetMethod.TheVariants.{Lookup}
-use Rattle.vyrd_base.specs.Subjects.{subject_of, same_subject, are_args}
-use Rattle.vyrd_base.proofs.TestLaws.{both_true, is_below}
-use Rattle.vyrd_memory.specs.declared.op.Op.{Op}
-use Rattle.vyrd_work.specs.declared.work.WorkOp.{WorkOp}
-use Rattle.vyrd_memory.specs.Arguments.{are_small}
-use Rattle.vyrd_memory.specs.Bounds.{most_ops}
-use Rattle.vyrd_work.specs.WorkLimits.{is_op_of, KeepsLimits}
-use Rattle.vyrd_work.specs.Generated.{next_draw, work_op_from, ops_from, generated_header}
-use Rattle.vyrd_work.specs.Generated.{generated}
+use Rattle.vyrd_base.specs.declared.multiset.MultisetMethod.TheVariants.{InsertPair, Delete, Lookup}
+use Rattle.vyrd_work.specs.Generated.{next_draw, work_op_from, generated_header}
 
 -- one more operation is drawn
 pub ops_step : (n i x y : ℕ) (o : WorkOp) → i < n → y ≡ next_draw x → o ≡ work_op_from i y

@@ -1,37 +1,16 @@
 -- A later line has one reading.
-use Rattle.std.proofs.Common.{◌≡◌, ℕ, ◌<◌, ◌^◌, Bool, true, false, cond, ◌&&◌, List, ◌∷◌, ◌++◌}
-use Rattle.std.proofs.Common.{get_or, Option, Some, None, refl, ap, sym, ◌∙◌, arith}
-use Rattle.std.specs.Prelude.{nat_lt, nat_le, codes, decimal}
-use Rattle.std.specs.Option.{option_map, option_and_then}
-use Rattle.std.specs.List.{list_all}
-use Rattle.std.specs.Str.{bytes_eq}
-use Rattle.std.proofs.lemmas.List.{append_cancel_left}
-use Rattle.std.proofs.lemmas.Bool.Decides.{nat_tests}
-use Rattle.std.proofs.lemmas.Slice.Eq.{bytes_eq-Decides}
-use Rattle.std.proofs.lemmas.Fmt.{decimal_injective}
-use Rattle.vyrd_base.specs.declared.subject.Subject.{Subject}
-use Rattle.vyrd_base.specs.declared.subject.Method.{Method}
-use Rattle.vyrd_base.specs.declared.subject.Args.{Args}
-use Rattle.vyrd_base.specs.declared.log.Kind.TheVariants.{Call}
-use Rattle.vyrd_base.specs.declared.log.Entry.{Entry}
-use Rattle.vyrd_base.specs.Subjects.{arity_of, are_padded, is_named}
-use Rattle.vyrd_base.specs.Spelling.{method_name, arg_fields, end_line, is_kind_of}
-use Rattle.vyrd_base.specs.Lines.{fields_of, method_called, args_from}
-use Rattle.vyrd_base.proofs.SplitLaws.{lacks, split-join, lacks-join, number_of_decimal, bytes_same}
-use Rattle.vyrd_base.proofs.SplitLaws.{is_plain_field}
-use Rattle.vyrd_base.proofs.LineLaws.{plain_number, plain_spaces, plain_line_feeds, call_guess}
-use Rattle.vyrd_base.proofs.LineLaws.{plain_entry, below_32}
-use Rattle.vyrd_base.proofs.TestLaws.{both_true, first_true, second_true, below_of}
-use Rattle.vyrd_memory.specs.declared.op.Turn.{Turn}
-use Rattle.vyrd_text.specs.Spelled.{call_text, IsCallRead}
-use Rattle.vyrd_text.proofs.PartLaws.{one_before_space}
-use Rattle.vyrd_work.specs.declared.work.WorkOp.{WorkOp}
-use Rattle.vyrd_work.specs.declared.line.Item.{Item}
+use Rattle.vyrd_work.proofs.Prelude
+use Prelude.{◌≡◌, ℕ, ◌<◌, ◌^◌, Bool, true, false, cond, ◌&&◌, List, ◌∷◌, ◌++◌, get_or, Option, Some}
+use Prelude.{None, refl, ap, sym, ◌∙◌, arith, nat_lt, nat_le, codes, decimal, option_map}
+use Prelude.{option_and_then, list_all, bytes_eq, append_cancel_left, nat_tests, bytes_eq-Decides}
+use Prelude.{decimal_injective, Subject, Method, Args, Call, Entry, arity_of, are_padded, is_named}
+use Prelude.{method_name, arg_fields, end_line, is_kind_of, fields_of, method_called, args_from}
+use Prelude.{lacks, split-join, lacks-join, number_of_decimal, bytes_same, is_plain_field}
+use Prelude.{plain_number, plain_spaces, plain_line_feeds, call_guess, plain_entry, below_32}
+use Prelude.{both_true, first_true, second_true, below_of, Turn, call_text, IsCallRead}
+use Prelude.{one_before_space, WorkOp, Item, item_fields, item_line, most_turns, are_small}
+use Prelude.{is_item_of, guessed_item, item_in, IsItemRead}
 use Rattle.vyrd_work.specs.declared.line.Item.TheVariants as item
-use Rattle.vyrd_work.specs.Workloads.{item_fields, item_line, most_turns}
-use Rattle.vyrd_memory.specs.Arguments.{are_small}
-use Rattle.vyrd_work.specs.WorkLines.{is_item_of, guessed_item, item_in}
-use Rattle.vyrd_work.specs.Spelled.{IsItemRead}
 
 -- what is read is spelled by the line, and its numbers are in range
 pub item_in_sound : (subject : Subject) (line : List ℕ) (x : Item) → item_in subject line ≡ Some x

@@ -1,3 +1,4 @@
+mod Prelude
 pub mod BuiltIn
 pub mod ItemLaws
 pub mod FirstLaws

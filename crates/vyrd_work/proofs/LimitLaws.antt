@@ -1,33 +1,22 @@
 -- What a broken rule says, and the limits of one more operation or of more turns.
-use Rattle.std.proofs.Common.{◌≡◌, ℕ, ◌+◌, ◌<◌, ◌≤◌, ◌^◌, Bool, true, false, cond, not, ◌&&◌, ◌||◌}
-use Rattle.std.proofs.Common.{List, []}
-use Rattle.std.proofs.Common.{◌∷◌, ◌++◌, map, length, Option, Some, None, refl, ap, sym, ◌∙◌, arith}
-use Rattle.std.proofs.Common.{append_assoc, length-append}
-use Rattle.std.specs.Prelude.{nat_lt, nat_le}
+use Rattle.vyrd_work.proofs.Prelude
+use Prelude.{◌≡◌, ℕ, ◌+◌, ◌<◌, ◌≤◌, ◌^◌, Bool, true, false, cond, ◌&&◌, List, [], ◌∷◌, ◌++◌, map}
+use Prelude.{length, Option, Some, None, refl, ap, sym, ◌∙◌, arith, append_assoc, length-append}
+use Prelude.{nat_lt, nat_le, nat_tests, Header, subject_of, same_subject, are_args, is_built_in}
+use Prelude.{callers_in_32_bits, both_true, first_true, second_true, Turn, WorkOp, Item, WorkRule}
+use Prelude.{Workload, items_of, most_turn_lines, most_turns, are_small, most_ops, is_item_of}
+use Prelude.{turns_in, broken_by, with_item, is_op_of, is_turn_of, KeepsLimits}
+use Rattle.std.proofs.Common.{not, ◌||◌}
 use Rattle.std.proofs.lemmas.List.Sums.{sum-map, sum_by-cons}
 use Rattle.std.proofs.lemmas.List.{map-append}
-use Rattle.std.proofs.lemmas.Bool.Decides.{nat_tests}
-use Rattle.vyrd_base.specs.declared.header.Header.{Header}
-use Rattle.vyrd_base.specs.Subjects.{subject_of, same_subject, are_args, is_built_in}
-use Rattle.vyrd_base.proofs.HeaderLaws.{callers_in_32_bits}
-use Rattle.vyrd_base.proofs.TestLaws.{both_true, first_true, second_true, above_then, above_of}
-use Rattle.vyrd_base.proofs.TestLaws.{not_below_of, isnt_at_most, neither_true}
+use Rattle.vyrd_base.proofs.TestLaws.{above_then, above_of, not_below_of, isnt_at_most}
+use Rattle.vyrd_base.proofs.TestLaws.{neither_true}
 use Rattle.vyrd_base.proofs.ListLaws.{all_push}
 use Rattle.vyrd_base.proofs.SubjectLaws.{named_same}
-use Rattle.vyrd_memory.specs.declared.op.Turn.{Turn}
-use Rattle.vyrd_work.specs.declared.work.WorkOp.{WorkOp}
-use Rattle.vyrd_work.specs.declared.line.Item.{Item}
 use Rattle.vyrd_work.specs.declared.line.Item.TheVariants as item
-use Rattle.vyrd_work.specs.declared.fault.WorkRule.{WorkRule}
 use Rattle.vyrd_work.specs.declared.fault.WorkRule.TheVariants.{CallerRange, ArgumentRange}
 use Rattle.vyrd_work.specs.declared.fault.WorkRule.TheVariants.{OpAfterTurn, TooManyOps}
 use Rattle.vyrd_work.specs.declared.fault.WorkRule.TheVariants.{TooManyTurns}
-use Rattle.vyrd_work.specs.Workloads.{Workload, items_of, most_turn_lines, most_turns}
-use Rattle.vyrd_memory.specs.Arguments.{are_small}
-use Rattle.vyrd_memory.specs.Bounds.{most_ops}
-use Rattle.vyrd_work.specs.WorkLines.{is_item_of}
-use Rattle.vyrd_work.specs.WorkReading.{turns_in, broken_by, with_item}
-use Rattle.vyrd_work.specs.WorkLimits.{is_op_of, is_turn_of, KeepsLimits}
 use Rattle.vyrd_work.proofs.ItemLaws.{op_named, op_small}
 
 not_broken : (b : Bool) (rule : WorkRule) (rest : Option WorkRule) → cond b (Some rule) rest ≡ None

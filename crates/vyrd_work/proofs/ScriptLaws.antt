@@ -1,19 +1,9 @@
 -- The operations of a caller: one more of the list, and that they may be called.
-use Rattle.std.proofs.Common.{◌≡◌, ℕ, suc, ◌+◌, ◌<◌, ◌≤◌, Bool, true, cond, List, [], ◌∷◌, ◌++◌}
-use Rattle.std.proofs.Common.{length, take, Option, Some, None, refl, arith}
-use Rattle.std.specs.Prelude.{◌==◌, ◌≢◌, get_or}
-use Rattle.std.specs.List.{AllByRecursion, cons_option}
-use Rattle.vyrd_base.specs.declared.header.Header.{Header}
-use Rattle.vyrd_base.proofs.ListLaws.{filter_map_more}
-use Rattle.vyrd_base.proofs.TestLaws.{both_true, second_true}
-use Rattle.vyrd_memory.specs.declared.op.Op.{Op}
-use Rattle.vyrd_memory.specs.Arguments.{are_small}
-use Rattle.vyrd_memory.specs.Players.{is_callable, are_callable}
-use Rattle.vyrd_memory.specs.Bounds.{most_ops}
-use Rattle.vyrd_work.specs.declared.work.WorkOp.{WorkOp}
-use Rattle.vyrd_work.specs.Workloads.{Workload}
-use Rattle.vyrd_work.specs.WorkLimits.{KeepsLimits, is_op_of}
-use Rattle.vyrd_work.specs.WorkScripts.{op_by, ops_of}
+use Rattle.vyrd_work.proofs.Prelude
+use Prelude.{◌≡◌, ℕ, suc, ◌+◌, ◌<◌, ◌≤◌, Bool, true, cond, List, [], ◌∷◌, ◌++◌, length, take}
+use Prelude.{Option, Some, None, refl, arith, ◌==◌, ◌≢◌, get_or, AllByRecursion, cons_option}
+use Prelude.{Header, filter_map_more, both_true, second_true, Op, are_small, is_callable}
+use Prelude.{are_callable, most_ops, WorkOp, Workload, KeepsLimits, is_op_of, op_by, ops_of}
 
 pub ops_more : (c : ℕ) (ops : List WorkOp) (i : ℕ) (d : WorkOp) → i < length ops
     → ops_of c (take (i + 1) ops) ≡ ops_of c (take i ops) ++ cons_option (op_by c (get_or ops i d))

@@ -1,29 +1,16 @@
 -- The bytes of the longest input settle what they say: the lines that are taken in are short and
 -- few, so reading ends at a line that begins in them.
-use Rattle.std.proofs.Common.{◌≡◌, ℕ, ◌+◌, ◌*◌, ◌<◌, ◌≤◌, Bool, true, false, cond, List, [], ◌∷◌}
-use Rattle.std.proofs.Common.{◌++◌, length, Option, Some, None, Result, Ok, Err, refl, ap, sym, ◌∙◌}
-use Rattle.std.proofs.Common.{arith, length-append}
-use Rattle.std.specs.Prelude.{◌==◌}
-use Rattle.std.specs.List.{onto_first, join_with_byte}
-use Rattle.std.specs.Str.{bytes_eq}
-use Rattle.std.proofs.lemmas.Slice.Eq.{bytes_eq-Decides}
-use Rattle.std.proofs.lemmas.List.Splits.{join_with_byte-slice_split}
-use Rattle.vyrd_base.specs.declared.subject.Subject.{Subject}
-use Rattle.vyrd_base.specs.Spelling.{end_line}
-use Rattle.vyrd_base.proofs.TestLaws.{is_below}
-use Rattle.vyrd_base.proofs.SplitLaws.{cut}
+use Rattle.vyrd_work.proofs.Prelude
+use Prelude.{◌≡◌, ℕ, ◌+◌, ◌<◌, ◌≤◌, Bool, true, false, cond, List, [], ◌∷◌, ◌++◌, length, Option}
+use Prelude.{Some, None, Result, Ok, Err, refl, ap, sym, ◌∙◌, arith, length-append, ◌==◌}
+use Prelude.{onto_first, join_with_byte, bytes_eq, bytes_eq-Decides, join_with_byte-slice_split}
+use Prelude.{Subject, end_line, is_below, cut, parts_of, Item, WorkRule, AfterEnd, BadHeader}
+use Prelude.{BadLine, Workload, item_line, begun_in, is_item_of, item_in, Refusal, refused}
+use Prelude.{broken_by, with_item, unless_broken, item_read, line_read, begun_or_bad}
+use Prelude.{unfinished_rule, ended, lines_read, text_read, work_reading, KeepsLimits}
+use Rattle.std.proofs.Common.{◌*◌}
 use Rattle.vyrd_base.proofs.LongLines.{long_isnt_end, longer}
-use Rattle.vyrd_text.proofs.AheadLaws.{parts_of}
-use Rattle.vyrd_work.specs.declared.line.Item.{Item}
 use Rattle.vyrd_work.specs.declared.line.Item.TheVariants as item
-use Rattle.vyrd_work.specs.declared.fault.WorkRule.{WorkRule}
-use Rattle.vyrd_work.specs.declared.fault.WorkRule.TheVariants.{AfterEnd, BadHeader, BadLine}
-use Rattle.vyrd_work.specs.Workloads.{Workload, item_line}
-use Rattle.vyrd_work.specs.WorkLines.{begun_in, is_item_of, item_in}
-use Rattle.vyrd_work.specs.WorkReading.{Refusal, refused, broken_by, with_item, unless_broken}
-use Rattle.vyrd_work.specs.WorkReading.{item_read, line_read, begun_or_bad}
-use Rattle.vyrd_work.specs.WorkReading.{unfinished_rule, ended, lines_read, text_read, work_reading}
-use Rattle.vyrd_work.specs.WorkLimits.{KeepsLimits}
 use Rattle.vyrd_work.specs.LongInputs.{longest_input}
 use Rattle.vyrd_work.proofs.ItemLaws.{item_in_sound}
 use Rattle.vyrd_work.proofs.FirstLaws.{IsBegun, begun_in_sound}

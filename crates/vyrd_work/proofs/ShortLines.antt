@@ -1,25 +1,13 @@
 -- No line of a workload has more than 64 bytes.
-use Rattle.std.proofs.Common.{◌≡◌, ◌≤◌, ◌^◌, true, List, [], ◌∷◌, ◌++◌, map, length, arith}
-use Rattle.std.proofs.Common.{length-append}
-use Rattle.std.specs.Prelude.{codes, decimal, nat_lt, nat_le}
-use Rattle.std.specs.List.{AllByRecursion}
-use Rattle.vyrd_base.specs.declared.header.Header.{Header}
-use Rattle.vyrd_base.specs.declared.subject.Subject.{Subject}
-use Rattle.vyrd_base.specs.Spelling.{end_line}
-use Rattle.vyrd_base.specs.Subjects.{is_built_in}
-use Rattle.vyrd_base.proofs.HeaderLaws.{size_in_32_bits, callers_in_32_bits}
+use Rattle.vyrd_work.proofs.Prelude
+use Prelude.{◌≡◌, ◌≤◌, ◌^◌, true, List, [], ◌∷◌, ◌++◌, map, length, arith, length-append, codes}
+use Prelude.{decimal, nat_lt, nat_le, AllByRecursion, Header, Subject, end_line, is_built_in}
+use Prelude.{size_in_32_bits, callers_in_32_bits, both_true, first_true, second_true, below_of}
+use Prelude.{Turn, Variant, call_text, WorkOp, Workload, variant_name, work_header_line, item_line}
+use Prelude.{lines_of, are_small, is_item_of, is_op_of, is_turn_of, KeepsLimits}
 use Rattle.vyrd_base.proofs.LongLines.{short_entry, short_number}
-use Rattle.vyrd_base.proofs.TestLaws.{both_true, first_true, second_true, below_of}
 use Rattle.vyrd_base.proofs.StructureLaws.{short_subject}
-use Rattle.vyrd_memory.specs.declared.op.Turn.{Turn}
-use Rattle.vyrd_memory.specs.declared.op.Variant.{Variant}
-use Rattle.vyrd_text.specs.Spelled.{call_text}
-use Rattle.vyrd_work.specs.declared.work.WorkOp.{WorkOp}
 use Rattle.vyrd_work.specs.declared.line.Item.TheVariants as item
-use Rattle.vyrd_work.specs.Workloads.{Workload, variant_name, work_header_line, item_line, lines_of}
-use Rattle.vyrd_memory.specs.Arguments.{are_small}
-use Rattle.vyrd_work.specs.WorkLines.{is_item_of}
-use Rattle.vyrd_work.specs.WorkLimits.{is_op_of, is_turn_of, KeepsLimits}
 use Rattle.vyrd_work.proofs.ItemLaws.{call_of, op_caller, op_call, turn_count_fits}
 use Rattle.vyrd_work.proofs.BuiltIn.{work_built_in}
 use Rattle.vyrd_work.proofs.LimitLaws.{op_is_item, turns_are_item}

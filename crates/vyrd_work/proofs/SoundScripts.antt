@@ -1,11 +1,8 @@
 -- The scripts of a workload that keeps its limits are sound.
+use Rattle.vyrd_work.proofs.Prelude.{Header, Subject, is_built_in, Variant, Workload, KeepsLimits}
 use Rattle.std.proofs.Common.{◌≡◌, ℕ, true, zero, suc, ◌+◌, ◌<◌, map, length, refl, ap, arith}
 use Rattle.std.specs.Prelude.{slice_index_or}
-use Rattle.vyrd_base.specs.declared.header.Header.{Header}
-use Rattle.vyrd_base.specs.declared.subject.Subject.{Subject}
 use Rattle.vyrd_base.specs.Places.{numbers_from}
-use Rattle.vyrd_base.specs.Subjects.{is_built_in}
-use Rattle.vyrd_memory.specs.declared.op.Variant.{Variant}
 use Rattle.vyrd_memory.specs.Scripts.{Script, stop}
 use Rattle.vyrd_memory.specs.Laws.Player.{AreSound, operations-sound, callable_method}
 use Rattle.vyrd_memory.specs.Laws.Player.{callable_args, callable_small}
@@ -14,8 +11,6 @@ use Rattle.vyrd_multiset.specs.Laws.{multiset_is_sound}
 use Rattle.vyrd_cache.specs.Laws.{cache_is_sound}
 use Rattle.vyrd_tree.specs.Laws.{tree_is_sound}
 use Rattle.vyrd_buffers.specs.Laws.{buffers_are_sound}
-use Rattle.vyrd_work.specs.Workloads.{Workload}
-use Rattle.vyrd_work.specs.WorkLimits.{KeepsLimits}
 use Rattle.vyrd_work.specs.WorkScripts.{procedure_in, work_scripts}
 use Rattle.vyrd_work.proofs.BuiltIn.{work_built_in}
 use Rattle.vyrd_work.proofs.ScriptLaws.{ops_are_callable}

@@ -1,36 +1,18 @@
 -- The text of a workload is read as that workload, and what is read is the text of a workload.
-use Rattle.std.proofs.Common.{◌≡◌, ℕ, ◌+◌, ◌≤◌, Bool, true, false, cond, List, [], ◌∷◌, ◌++◌, map}
-use Rattle.std.proofs.Common.{length}
-use Rattle.std.proofs.Common.{Option, Some, None, Result, Ok, Err, refl, ap, subst, sym, ◌∙◌, arith}
-use Rattle.std.proofs.Common.{append_assoc, length-append}
-use Rattle.std.specs.List.{join_with_byte, AllByRecursion}
-use Rattle.std.specs.Str.{bytes_eq}
-use Rattle.std.proofs.lemmas.List.{append-nil}
-use Rattle.std.proofs.lemmas.Slice.Eq.{bytes_eq-Decides}
-use Rattle.std.proofs.lemmas.List.Splits.{join_with_byte-slice_split}
-use Rattle.vyrd_base.specs.declared.header.Header.{Header}
-use Rattle.vyrd_base.specs.Spelling.{end_line}
-use Rattle.vyrd_base.specs.Subjects.{is_built_in}
+use Rattle.vyrd_work.proofs.Prelude
+use Prelude.{◌≡◌, ℕ, ◌+◌, ◌≤◌, Bool, true, false, cond, List, [], ◌∷◌, ◌++◌, map, length, Option}
+use Prelude.{Some, None, Result, Ok, Err, refl, ap, subst, sym, ◌∙◌, arith, append_assoc}
+use Prelude.{length-append, join_with_byte, AllByRecursion, bytes_eq, append-nil, bytes_eq-Decides}
+use Prelude.{join_with_byte-slice_split, Header, end_line, is_built_in, size_in_32_bits}
+use Prelude.{callers_in_32_bits, cut, both_true, Turn, Variant, WorkOp, Item, WorkRule, Workload}
+use Prelude.{work_header_line, item_line, items_of, lines_of, work_text, most_turn_lines}
+use Prelude.{most_turns, are_small, most_ops, begun, begun_in, is_item_of, item_in, Refusal}
+use Prelude.{refused, turns_in, broken_by, with_item, unless_broken, item_read, line_read}
+use Prelude.{begun_or_bad, ended, lines_read, text_read, work_reading, is_op_of, is_turn_of}
+use Prelude.{KeepsLimits}
 use Rattle.vyrd_base.specs.Reading.{has_any}
-use Rattle.vyrd_base.proofs.HeaderLaws.{size_in_32_bits, callers_in_32_bits}
-use Rattle.vyrd_base.proofs.SplitLaws.{cut, join_lines, cut_lines, all_lack}
-use Rattle.vyrd_base.proofs.TestLaws.{both_true}
-use Rattle.vyrd_memory.specs.declared.op.Turn.{Turn}
-use Rattle.vyrd_memory.specs.declared.op.Variant.{Variant}
-use Rattle.vyrd_work.specs.declared.work.WorkOp.{WorkOp}
-use Rattle.vyrd_work.specs.declared.line.Item.{Item}
+use Rattle.vyrd_base.proofs.SplitLaws.{join_lines, cut_lines, all_lack}
 use Rattle.vyrd_work.specs.declared.line.Item.TheVariants as item
-use Rattle.vyrd_work.specs.declared.fault.WorkRule.{WorkRule}
-use Rattle.vyrd_work.specs.Workloads.{Workload, work_header_line, item_line, items_of, lines_of}
-use Rattle.vyrd_work.specs.Workloads.{work_text, most_turn_lines, most_turns}
-use Rattle.vyrd_memory.specs.Arguments.{are_small}
-use Rattle.vyrd_memory.specs.Bounds.{most_ops}
-use Rattle.vyrd_work.specs.WorkLines.{begun, begun_in, is_item_of, item_in}
-use Rattle.vyrd_work.specs.WorkReading.{Refusal, refused, turns_in, broken_by, with_item}
-use Rattle.vyrd_work.specs.WorkReading.{unless_broken, item_read}
-use Rattle.vyrd_work.specs.WorkReading.{line_read, begun_or_bad, ended, lines_read, text_read}
-use Rattle.vyrd_work.specs.WorkReading.{work_reading}
-use Rattle.vyrd_work.specs.WorkLimits.{is_op_of, is_turn_of, KeepsLimits}
 use Rattle.vyrd_work.proofs.ItemLaws.{item_in_sound, item_in-item_line, item_line_isnt_end}
 use Rattle.vyrd_work.proofs.ItemLaws.{item_line_whole}
 use Rattle.vyrd_work.proofs.FirstLaws.{IsBegun, begun_in_sound, begun_in-first_line}

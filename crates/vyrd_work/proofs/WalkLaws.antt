@@ -1,21 +1,10 @@
 -- Lines are read one after the other.
-use Rattle.std.proofs.Common.{◌≡◌, ℕ, ◌+◌, Bool, true, false, cond, List, [], ◌∷◌, ◌++◌, Result, Ok}
-use Rattle.std.proofs.Common.{Err, refl, ap, sym, ◌∙◌}
-use Rattle.std.specs.Prelude.{◌==◌}
-use Rattle.std.specs.List.{onto_first}
-use Rattle.std.specs.Str.{bytes_eq}
-use Rattle.std.proofs.lemmas.Slice.Eq.{bytes_eq-Decides}
-use Rattle.vyrd_base.specs.Spelling.{end_line}
-use Rattle.vyrd_base.proofs.SplitLaws.{cut, lacks, split_at, split_whole, bytes_same}
-use Rattle.vyrd_text.proofs.AheadLaws.{parts_of}
-use Rattle.vyrd_work.specs.declared.fault.WorkRule.{WorkRule}
-use Rattle.vyrd_work.specs.declared.fault.WorkRule.TheVariants.{AfterEnd, BadHeader, BadLine}
-use Rattle.vyrd_work.specs.declared.fault.WorkFault.{WorkFault}
-use Rattle.vyrd_work.specs.declared.fault.WorkFault.TheVariants.{Refused, Memory}
-use Rattle.vyrd_work.specs.Workloads.{Workload}
-use Rattle.vyrd_work.specs.Refusals.{IsRefusal, IsRefusedAt}
-use Rattle.vyrd_work.specs.WorkReading.{Refusal, refused, line_read, first_read, unfinished_rule}
-use Rattle.vyrd_work.specs.WorkReading.{ended, lines_read, text_read, work_reading}
+use Rattle.vyrd_work.proofs.Prelude
+use Prelude.{◌≡◌, ℕ, ◌+◌, Bool, true, false, cond, List, [], ◌∷◌, ◌++◌, Result, Ok, Err, refl, ap}
+use Prelude.{sym, ◌∙◌, ◌==◌, onto_first, bytes_eq, bytes_eq-Decides, end_line, cut, lacks, split_at}
+use Prelude.{split_whole, bytes_same, parts_of, WorkRule, AfterEnd, BadHeader, BadLine, WorkFault}
+use Prelude.{Refused, Memory, Workload, IsRefusal, IsRefusedAt, Refusal, refused, line_read}
+use Prelude.{first_read, unfinished_rule, ended, lines_read, text_read, work_reading}
 
 -- what is read after a line
 abbrev pub then_lines : ℕ → List (List ℕ) → Result Workload WorkRule → Result Workload Refusal

@@ -1,11 +1,8 @@
 -- What is appended in turn is a workload's text.
-use Rattle.std.proofs.Common.{◌≡◌, ℕ, List, [], ◌∷◌, ◌++◌, map, refl, ap, sym, ◌∙◌, append_assoc}
-use Rattle.std.specs.Prelude.{codes, flat_map}
-use Rattle.vyrd_base.specs.Spelling.{ended_line, end_line}
-use Rattle.vyrd_memory.specs.declared.op.Turn.{Turn}
-use Rattle.vyrd_work.specs.declared.work.WorkOp.{WorkOp}
+use Rattle.vyrd_work.proofs.Prelude.{◌≡◌, ℕ, List, [], ◌∷◌, ◌++◌, map, refl, ap, sym, ◌∙◌}
+use Rattle.vyrd_work.proofs.Prelude.{append_assoc, codes, flat_map, ended_line, end_line, Turn}
+use Rattle.vyrd_work.proofs.Prelude.{WorkOp, Workload, work_header_line, item_line, work_text}
 use Rattle.vyrd_work.specs.declared.line.Item.TheVariants as item
-use Rattle.vyrd_work.specs.Workloads.{Workload, work_header_line, item_line, work_text}
 
 -- the lines of operations, and those of turns
 abbrev pub ops_text : List WorkOp → List ℕ

@@ -1,30 +1,14 @@
 -- The string buffers as a structure: a buffer's lock guards its words, and nothing is reserved.
-use Rattle.std.proofs.Common.{◌≡◌, ℕ, ◌+◌, ◌*◌, ◌/◌, ◌<◌, ◌≤◌, true, List, []}
-use Rattle.std.proofs.Common.{◌∷◌, map, refl, ap, ◌∙◌, sym, subst, arith}
-use Rattle.std.specs.Prelude.{flat_map, slice_index}
-use Rattle.vyrd_base.specs.declared.header.Header.{Header}
-use Rattle.vyrd_base.specs.declared.subject.Subject.TheVariants.{Buffers}
-use Rattle.vyrd_base.specs.declared.log.Entry.{Entry}
-use Rattle.vyrd_base.specs.Places.{numbers_below}
-use Rattle.vyrd_base.specs.Layout.{plain_words, plain_words_of}
-use Rattle.vyrd_base.specs.Amounts.{Amounts, collected, given}
+use Rattle.vyrd_every.proofs.Prelude
+use Prelude.{◌≡◌, ℕ, ◌+◌, ◌*◌, ◌/◌, ◌<◌, ◌≤◌, true, List, [], ◌∷◌, map, refl, ap, ◌∙◌, sym, subst}
+use Prelude.{arith, flat_map, slice_index, Header, Buffers, Entry, numbers_below, plain_words}
+use Prelude.{plain_words_of, Amounts, collected, given, start, ended_effects, ended_value}
+use Prelude.{ended_words, parts_of, view_of_words, is_sound, given_nothing, pass_all, words_in}
+use Prelude.{element_below, flat_map_alike, collected-is, Represents, buffer_of, shown, sound_at}
+use Prelude.{Fits, shown_by, buffers}
 use Rattle.vyrd_base.specs.Buffers.{Buffer, buffer_at, is_buffer, buffer_parts}
-use Rattle.vyrd_base.specs.Specification.{start}
-use Rattle.vyrd_base.specs.BlockEnds.{ended_effects, ended_value, ended_words}
-use Rattle.vyrd_base.specs.Views.{parts_of, view_of_words}
-use Rattle.vyrd_base.specs.Represented.{is_sound}
-use Rattle.vyrd_base.proofs.SumLaws.{given_nothing}
-use Rattle.vyrd_base.proofs.PlaceLaws.{pass_all}
-use Rattle.vyrd_memory.specs.Alone.{words_in}
-use Rattle.vyrd_memory.proofs.NumberLists.{element_below, flat_map_alike}
-use Rattle.vyrd_memory.proofs.PartSums.{collected-is}
-use Rattle.vyrd_memory.proofs.Memories.{Represents}
-use Rattle.vyrd_buffers.specs.Contents.{buffer_of, shown}
 use Rattle.vyrd_buffers.specs.Laws.Alone.Changes.{Alike, sound_alike, shown_alike, buffer_in}
-use Rattle.vyrd_buffers.specs.Laws.Alone.Changes.{sound_at}
 use Rattle.vyrd_buffers.specs.Laws.Sound.{lock_cell}
-use Rattle.vyrd_every.specs.Structures.{Fits, shown_by}
-use Rattle.vyrd_every.specs.Guarded.{buffers}
 
 -- what a buffer gives that has the same words as a sound one
 gives : (size k : ℕ) (a b : Buffer) → Alike a b → is_buffer b ≡ true → buffer_parts size k a

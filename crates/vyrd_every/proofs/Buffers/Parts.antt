@@ -1,37 +1,20 @@
 -- Each part of a procedure of string buffers does right, if what follows it does.
-use Rattle.std.proofs.Common.{◌≡◌, ℕ, zero, suc, ◌+◌, ◌*◌, ◌%◌, ◌^◌, ◌<◌, ◌≤◌, Bool, true, false}
-use Rattle.std.proofs.Common.{cond, not, List, [], ◌∷◌, ◌++◌, length, Some, refl, ap, ◌∙◌, sym}
-use Rattle.std.proofs.Common.{subst, append-nil, append_assoc, add-one, arith}
-use Rattle.std.specs.Prelude.{◌==◌, ◌||◌}
-use Rattle.vyrd_base.specs.declared.header.Header.{Header}
-use Rattle.vyrd_base.specs.declared.log.Kind.TheVariants.{Commit, BlockOpen, BlockCommit}
-use Rattle.vyrd_base.specs.Callers.{Called}
-use Rattle.vyrd_base.specs.Subjects.{is_observer}
-use Rattle.vyrd_base.specs.Amounts.{Amounts}
+use Rattle.vyrd_every.proofs.Prelude
+use Prelude.{◌≡◌, ℕ, zero, suc, ◌+◌, ◌*◌, ◌%◌, ◌^◌, ◌<◌, ◌≤◌, Bool, true, false, cond, not, List}
+use Prelude.{[], ◌∷◌, ◌++◌, length, Some, refl, ap, ◌∙◌, sym, subst, append-nil, append_assoc}
+use Prelude.{add-one, arith, ◌==◌, ◌||◌, Header, Commit, BlockOpen, BlockCommit, Called}
+use Prelude.{is_observer, Amounts, next_state, same_number, same_of, isnt_same, apart_of, text_same}
+use Prelude.{Load, Mark, Memory, Represents, Script, step, perform, returns, gone, load_from}
+use Prelude.{store_from, read_from, unlock_both, Locals, written, Guarantee, WillReturn, DoesRight}
+use Prelude.{buffers, never, at, without_slots, load_right, take_right, give_right, returns_right}
+use Prelude.{mutates, lone_commit_right, open_right, block_store_right, commit_right, writing}
 use Rattle.vyrd_base.specs.Buffers.{text_of}
-use Rattle.vyrd_base.specs.Specification.{next_state}
-use Rattle.vyrd_base.proofs.TestLaws.{same_number, same_of, isnt_same, apart_of}
-use Rattle.vyrd_base.proofs.TextLaws.{text_same}
-use Rattle.vyrd_memory.specs.declared.act.Act.TheVariants.{Load, Mark}
-use Rattle.vyrd_memory.specs.Alone.{Memory}
-use Rattle.vyrd_memory.proofs.Memories.{Represents}
-use Rattle.vyrd_memory.specs.Scripts.{Script, step, perform, returns}
-use Rattle.vyrd_memory.proofs.SoundActs.{gone}
 use Rattle.vyrd_buffers.specs.Cells.{character_cell, lock_of, lock, unlock, lock_other}
-use Rattle.vyrd_buffers.specs.Procedures.{commit_count, load_from, store_from, read_from}
-use Rattle.vyrd_buffers.specs.Procedures.{unlock_both}
+use Rattle.vyrd_buffers.specs.Procedures.{commit_count}
 use Rattle.vyrd_buffers.specs.Laws.Alone.Stores.{loaded}
-use Rattle.vyrd_every.specs.Locals.{Locals, written}
-use Rattle.vyrd_every.specs.Others.{Guarantee}
-use Rattle.vyrd_every.specs.RightScripts.{WillReturn, DoesRight}
-use Rattle.vyrd_every.specs.Guarded.{buffers}
-use Rattle.vyrd_every.proofs.Acts.{never, at, without_slots, load_right, take_right, give_right}
-use Rattle.vyrd_every.proofs.Acts.{returns_right, mutates, lone_commit_right, open_right}
-use Rattle.vyrd_every.proofs.Acts.{block_store_right, commit_right}
 use Rattle.vyrd_every.proofs.Buffers.Texts.{IsHeld, word_access, Stays, stays_so, stays_same}
 use Rattle.vyrd_every.proofs.Buffers.Texts.{stays_more, stays_character, writes_of, written_is}
 use Rattle.vyrd_every.proofs.Buffers.Texts.{after_block, block_leaves}
-use Rattle.vyrd_every.proofs.Acts.{writing}
 
 -- the last lock that was taken is held, and those before it
 held_last : (h : Header) (locks : List ℕ) (b : ℕ) → b < h.size → IsHeld h (lock_of h b ∷ locks) b

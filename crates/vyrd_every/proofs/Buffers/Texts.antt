@@ -1,30 +1,20 @@
 -- What is known of buffers while their locks are held, and what a block that stores into one makes
 -- of the state.
-use Rattle.std.proofs.Common.{◌≡◌, ℕ, ◌+◌, ◌*◌, ◌<◌, ◌≤◌, Bool, true, not, List, [], ◌∷◌}
-use Rattle.std.proofs.Common.{length, refl, ap, ◌∙◌, sym, arith}
-use Rattle.std.specs.Prelude.{◌==◌, nat_le, slice_index}
-use Rattle.std.specs.List.{list_any}
-use Rattle.vyrd_base.specs.declared.header.Header.{Header}
-use Rattle.vyrd_base.specs.declared.subject.Subject.TheVariants.{Buffers}
-use Rattle.vyrd_base.specs.Callers.{Called}
-use Rattle.vyrd_base.specs.Amounts.{Amounts, amount_of, with_amount}
+use Rattle.vyrd_every.proofs.Prelude
+use Prelude.{◌≡◌, ℕ, ◌+◌, ◌*◌, ◌<◌, ◌≤◌, Bool, true, not, List, [], ◌∷◌, length, refl, ap, ◌∙◌, sym}
+use Prelude.{arith, ◌==◌, nat_le, slice_index, list_any, Header, Buffers, Called, Amounts}
+use Prelude.{amount_of, with_amount, Memory, with_cell, Represents, other_cell, buffer_of, shown}
+use Prelude.{sound_at, shown_at, Locals, Access, written, Rely, buffers, at}
 use Rattle.vyrd_base.specs.Buffers.{text_of, text_length, has_room, joined, cut_to, are_characters}
 use Rattle.vyrd_base.specs.Buffers.{is_buffer}
-use Rattle.vyrd_memory.specs.Alone.{Memory, with_cell}
-use Rattle.vyrd_memory.proofs.Memories.{Represents, other_cell}
 use Rattle.vyrd_buffers.specs.Cells.{count_cell, character_cell, lock_of}
-use Rattle.vyrd_buffers.specs.Contents.{buffer_of, shown}
-use Rattle.vyrd_buffers.specs.Laws.Alone.Changes.{Leaves, sound_at, shown_at}
+use Rattle.vyrd_buffers.specs.Laws.Alone.Changes.{Leaves}
 use Rattle.vyrd_buffers.specs.Laws.Alone.Texts.{length_shown, room_for, room_for_one, cut_sound}
 use Rattle.vyrd_buffers.specs.Laws.Alone.Texts.{cut_shown, uncut_shown}
 use Rattle.vyrd_buffers.specs.Laws.Alone.Stores.{with_characters, with_characters-other}
 use Rattle.vyrd_buffers.specs.Laws.Alone.Stores.{with_appended, with_appended-other}
 use Rattle.vyrd_buffers.specs.Laws.Alone.Stores.{with_count-other, with_count-is}
 use Rattle.vyrd_buffers.specs.Laws.Alone.Done.{changed, appended}
-use Rattle.vyrd_every.specs.Locals.{Locals, Access, written}
-use Rattle.vyrd_every.specs.Others.{Rely}
-use Rattle.vyrd_every.specs.Guarded.{buffers}
-use Rattle.vyrd_every.proofs.Acts.{at}
 
 -- a buffer whose lock is among these
 pub record IsHeld (h : Header) (locks : List ℕ) (b : ℕ) : Type 0 where

@@ -1,56 +1,36 @@
 -- Each procedure of the correct string buffers does right: all of it happens under the locks of its
 -- buffers.
-use Rattle.std.proofs.Common.{◌≡◌, ℕ, ◌+◌, ◌*◌, ◌%◌, ◌<◌, ◌≤◌, Bool, true, false, cond, not, min}
-use Rattle.std.proofs.Common.{max, List, [], ◌∷◌, Some, refl, ap, ◌∙◌, sym, arith}
-use Rattle.std.specs.Prelude.{nat_le, slice_index}
-use Rattle.vyrd_base.specs.declared.header.Header.{Header}
-use Rattle.vyrd_base.specs.declared.subject.Subject.TheVariants.{Buffers}
-use Rattle.vyrd_base.specs.declared.subject.Method.{Method}
+use Rattle.vyrd_every.proofs.Prelude
+use Prelude.{◌≡◌, ℕ, ◌+◌, ◌*◌, ◌%◌, ◌<◌, ◌≤◌, Bool, true, false, cond, not, min, max, List, [], ◌∷◌}
+use Prelude.{Some, refl, ap, ◌∙◌, sym, arith, nat_le, slice_index, Header, Buffers, Method}
+use Prelude.{OwnNever, OwnAtMostOnce, OwnOnce, AppendFrom, Args, Commit, BlockOpen, Called}
+use Prelude.{subject_of, Amounts, amount_of, with_amount, first_true, second_true, below_of}
+use Prelude.{at_most_of, above_of, is_below, text_same, Load, Mark, Op, Correct, is_callable}
+use Prelude.{callable_method, Memory, Represents, Script, step, perform, returns, just_called}
+use Prelude.{load_from, store_from, unlock_both, read_from, buffers_procedure, buffer_of, sound_at}
+use Prelude.{shown_at, Locals, DoesRight, IsRight, buffers, at, answer_right}
 use Rattle.vyrd_base.specs.declared.subject.Method.TheVariants.{Multiset as OfMultiset}
 use Rattle.vyrd_base.specs.declared.subject.Method.TheVariants.{Cache as OfCache, Tree as OfTree}
 use Rattle.vyrd_base.specs.declared.subject.Method.TheVariants.{Buffers as OfBuffers}
-use Rattle.vyrd_base.specs.declared.subject.Method.TheVariants.{OwnNever, OwnAtMostOnce, OwnOnce}
-use Rattle.vyrd_base.specs.declared.buffers.BuffersMethod.TheVariants.{Append, AppendFrom, Cut}
-use Rattle.vyrd_base.specs.declared.buffers.BuffersMethod.TheVariants.{Length, Read}
-use Rattle.vyrd_base.specs.declared.subject.Args.{Args}
-use Rattle.vyrd_base.specs.declared.log.Kind.TheVariants.{Commit, BlockOpen}
-use Rattle.vyrd_base.specs.Callers.{Called}
-use Rattle.vyrd_base.specs.Subjects.{subject_of, are_ranged, are_args}
-use Rattle.vyrd_base.specs.Amounts.{Amounts, amount_of, with_amount}
+use Rattle.vyrd_base.specs.declared.buffers.BuffersMethod.TheVariants.{Append, Cut, Length, Read}
+use Rattle.vyrd_base.specs.Subjects.{are_ranged, are_args}
 use Rattle.vyrd_base.specs.Buffers.{text_of, has_room, joined, cut_to, are_characters, is_buffer}
-use Rattle.vyrd_base.proofs.TestLaws.{first_true, second_true, below_of, at_most_of, above_of}
-use Rattle.vyrd_base.proofs.TestLaws.{is_below}
-use Rattle.vyrd_base.proofs.TextLaws.{text_same, characters_same}
-use Rattle.vyrd_memory.specs.declared.act.Act.TheVariants.{Load, Mark}
-use Rattle.vyrd_memory.specs.declared.op.Op.{Op}
-use Rattle.vyrd_memory.specs.declared.op.Variant.TheVariants.{Correct}
-use Rattle.vyrd_memory.specs.Players.{is_callable}
-use Rattle.vyrd_memory.specs.Laws.Player.{callable_method, callable_args}
-use Rattle.vyrd_memory.specs.Alone.{Memory}
-use Rattle.vyrd_memory.proofs.Memories.{Represents}
-use Rattle.vyrd_memory.specs.Scripts.{Script, step, perform, returns}
-use Rattle.vyrd_memory.specs.Soundness.{just_called}
+use Rattle.vyrd_base.proofs.TextLaws.{characters_same}
+use Rattle.vyrd_memory.specs.Laws.Player.{callable_args}
 use Rattle.vyrd_buffers.specs.Cells.{count_cell, character_cell, lock_of, unlock}
 use Rattle.vyrd_buffers.specs.Procedures.{append_at, append, append_held, append_all, append_from}
-use Rattle.vyrd_buffers.specs.Procedures.{load_from, store_from, commit_count}
-use Rattle.vyrd_buffers.specs.Procedures.{unlock_both, cut_at, cut, length_of, read_from, read}
-use Rattle.vyrd_buffers.specs.Procedures.{procedure_of, buffers_procedure}
-use Rattle.vyrd_buffers.specs.Contents.{buffer_of}
-use Rattle.vyrd_buffers.specs.Laws.Alone.Changes.{count_at_most, sound_at, shown_at}
+use Rattle.vyrd_buffers.specs.Procedures.{commit_count, cut_at, cut, length_of, read, procedure_of}
+use Rattle.vyrd_buffers.specs.Laws.Alone.Changes.{count_at_most}
 use Rattle.vyrd_buffers.specs.Laws.Alone.Texts.{characters_in, character_in, one_text}
 use Rattle.vyrd_buffers.specs.Laws.Alone.Stores.{loaded, loaded-length, loaded-at}
 use Rattle.vyrd_buffers.specs.Laws.Alone.Done.{full_allowed, room_allowed}
-use Rattle.vyrd_every.specs.Locals.{Locals}
-use Rattle.vyrd_every.specs.RightScripts.{DoesRight, IsRight}
-use Rattle.vyrd_every.specs.Guarded.{buffers}
-use Rattle.vyrd_every.proofs.Acts.{at, answer_right}
 use Rattle.vyrd_every.proofs.Buffers.Texts.{IsHeld, Stays, stays_same, stays_more, stays_count}
-use Rattle.vyrd_every.proofs.Buffers.Texts.{stays_character, after_block}
-use Rattle.vyrd_every.proofs.Buffers.Texts.{appended_represents, cut_represents, uncut_represents}
-use Rattle.vyrd_every.proofs.Buffers.Texts.{length_at, room_for_one_at, room_at}
+use Rattle.vyrd_every.proofs.Buffers.Texts.{stays_character, after_block, appended_represents}
+use Rattle.vyrd_every.proofs.Buffers.Texts.{cut_represents, uncut_represents, length_at}
+use Rattle.vyrd_every.proofs.Buffers.Texts.{room_for_one_at, room_at}
 use Rattle.vyrd_every.proofs.Buffers.Parts.{word_right, load_from_right, read_from_right, Finishes}
-use Rattle.vyrd_every.proofs.Buffers.Parts.{LeadsTo, only_commit_right}
-use Rattle.vyrd_every.proofs.Buffers.Parts.{block_right, unlock_right, lock_right, lock_both_right}
+use Rattle.vyrd_every.proofs.Buffers.Parts.{LeadsTo, only_commit_right, block_right, unlock_right}
+use Rattle.vyrd_every.proofs.Buffers.Parts.{lock_right, lock_both_right}
 
 -- an append of one character
 append_right : (h : Header) (k : Locals) (before : Memory) (args : Args) → h.subject ≡ Buffers

@@ -1,22 +1,14 @@
 -- What is known of a chunk while its lock is held, and what a block that stores into it makes of
 -- the state.
-use Rattle.std.proofs.Common.{◌≡◌, ◌≢◌, ℕ, ◌+◌, ◌*◌, ◌<◌, ◌≤◌, true, ap, ◌∙◌, subst, arith}
-use Rattle.vyrd_base.specs.declared.header.Header.{Header}
-use Rattle.vyrd_base.specs.declared.subject.Subject.TheVariants.{Cache}
-use Rattle.vyrd_base.specs.Amounts.{Amounts, with_amount}
-use Rattle.vyrd_base.specs.Cache.{Chunk}
-use Rattle.vyrd_base.specs.Cache.{is_sound_chunk}
-use Rattle.vyrd_memory.specs.Alone.{Memory, with_cell}
-use Rattle.vyrd_memory.specs.Soundness.{Situation, holds}
-use Rattle.vyrd_memory.proofs.Memories.{Represents, changed_cell, other_cell}
+use Rattle.vyrd_every.proofs.Prelude.{◌≡◌, ◌≢◌, ℕ, ◌+◌, ◌*◌, ◌<◌, ◌≤◌, true, ap, ◌∙◌, subst, arith}
+use Rattle.vyrd_every.proofs.Prelude.{Header, Cache, Amounts, with_amount, Chunk, is_sound_chunk}
+use Rattle.vyrd_every.proofs.Prelude.{Memory, with_cell, Situation, holds, Represents, changed_cell}
+use Rattle.vyrd_every.proofs.Prelude.{other_cell, chunk_of, same_chunk, with_cached, with_stored}
+use Rattle.vyrd_every.proofs.Prelude.{with_state, Locals, Access, Rely, cache}
 use Rattle.vyrd_cache.specs.Cells.{lock_of}
-use Rattle.vyrd_cache.specs.Contents.{chunk_of, shown}
-use Rattle.vyrd_cache.specs.Laws.Alone.Changes.{same_chunk, Leaves, changed_chunk, kept_chunk}
-use Rattle.vyrd_cache.specs.Laws.Alone.Stores.{with_cached, with_stored, with_state}
+use Rattle.vyrd_cache.specs.Contents.{shown}
+use Rattle.vyrd_cache.specs.Laws.Alone.Changes.{Leaves, changed_chunk, kept_chunk}
 use Rattle.vyrd_cache.specs.Laws.Alone.{free_lock}
-use Rattle.vyrd_every.specs.Locals.{Locals, Access}
-use Rattle.vyrd_every.specs.Others.{Rely}
-use Rattle.vyrd_every.specs.Guarded.{cache}
 
 -- the words of a chunk whose lock is held
 pub chunk_access : (h : Header) (s : Situation) (n cell : ℕ) → n < h.size → holds s (lock_of h n)

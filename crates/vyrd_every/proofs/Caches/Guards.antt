@@ -1,29 +1,11 @@
 -- The cache as a structure: a chunk's lock guards its words, and nothing is reserved.
-use Rattle.std.proofs.Common.{◌≡◌, ℕ, ◌/◌, ◌<◌, true, List, [], refl, ap, ◌∙◌, sym, subst, arith}
-use Rattle.std.specs.Prelude.{flat_map}
-use Rattle.vyrd_base.specs.declared.header.Header.{Header}
-use Rattle.vyrd_base.specs.declared.subject.Subject.TheVariants.{Cache}
-use Rattle.vyrd_base.specs.declared.log.Entry.{Entry}
-use Rattle.vyrd_base.specs.Places.{numbers_below}
-use Rattle.vyrd_base.specs.Layout.{plain_words_of}
-use Rattle.vyrd_base.specs.Amounts.{Amounts, collected, given}
-use Rattle.vyrd_base.specs.Specification.{start}
-use Rattle.vyrd_base.specs.BlockEnds.{ended_words}
-use Rattle.vyrd_base.specs.Cache.{chunk_at, chunk_parts}
-use Rattle.vyrd_base.specs.Views.{parts_of, view_of_words}
-use Rattle.vyrd_base.specs.Represented.{is_sound}
-use Rattle.vyrd_base.specs.Cache.{is_sound_chunk}
-use Rattle.vyrd_base.proofs.SumLaws.{given_nothing}
-use Rattle.vyrd_base.proofs.PlaceLaws.{pass_all}
-use Rattle.vyrd_memory.specs.Alone.{words_in}
-use Rattle.vyrd_memory.proofs.NumberLists.{element_below, flat_map_alike}
-use Rattle.vyrd_memory.proofs.PartSums.{collected-is}
-use Rattle.vyrd_memory.proofs.Memories.{Represents}
-use Rattle.vyrd_cache.specs.Contents.{chunk_of}
-use Rattle.vyrd_cache.specs.Laws.Alone.Changes.{same_chunk, chunk_in}
+use Rattle.vyrd_every.proofs.Prelude
+use Prelude.{◌≡◌, ℕ, ◌/◌, ◌<◌, true, List, [], refl, ap, ◌∙◌, sym, subst, arith, flat_map, Header}
+use Prelude.{Cache, Entry, numbers_below, plain_words_of, Amounts, collected, given, start}
+use Prelude.{ended_words, chunk_at, chunk_parts, parts_of, view_of_words, is_sound, is_sound_chunk}
+use Prelude.{given_nothing, pass_all, words_in, element_below, flat_map_alike, collected-is}
+use Prelude.{Represents, chunk_of, same_chunk, chunk_in, Fits, shown_by, cache}
 use Rattle.vyrd_cache.specs.Laws.Sound.{lock_cell}
-use Rattle.vyrd_every.specs.Structures.{Fits, shown_by}
-use Rattle.vyrd_every.specs.Guarded.{cache}
 
 -- nothing was written yet
 nothing_given : (size q k : ℕ) → given q (chunk_parts size k (chunk_of (shown_by []) k)) ≡ 0

@@ -1,59 +1,35 @@
 -- Each procedure of the correct cache does right: all of it happens under the lock of its chunk.
-use Rattle.std.proofs.Common.{◌≡◌, ◌≢◌, ℕ, ◌+◌, ◌*◌, ◌/◌, ◌<◌, ◌≤◌, ◌^◌, Bool, true, false, cond}
-use Rattle.std.proofs.Common.{List, [], ◌∷◌, Some, refl, ap, ◌∙◌, sym, arith}
-use Rattle.std.specs.Prelude.{◌==◌, nat_lt}
-use Rattle.vyrd_base.specs.declared.header.Header.{Header}
-use Rattle.vyrd_base.specs.declared.subject.Subject.TheVariants.{Cache}
-use Rattle.vyrd_base.specs.declared.subject.Method.{Method}
+use Rattle.vyrd_every.proofs.Prelude
+use Prelude.{◌≡◌, ◌≢◌, ℕ, ◌+◌, ◌*◌, ◌/◌, ◌<◌, ◌≤◌, ◌^◌, Bool, true, false, cond, List, [], ◌∷◌}
+use Prelude.{Some, refl, ap, ◌∙◌, sym, arith, ◌==◌, nat_lt, Header, Cache, Method, OwnNever}
+use Prelude.{OwnAtMostOnce, OwnOnce, Args, Return, BlockOpen, BlockClose, BlockCommit, Called}
+use Prelude.{is_observer, subject_of, Amounts, with_amount, next_state, first_true, second_true}
+use Prelude.{Load, Store, Give, Mark, Op, Correct, is_callable, callable_method, Memory, with_cell}
+use Prelude.{Script, step, perform, returns, Situation, holds, just_called, Represents, other_cell}
+use Prelude.{gone, cache_procedure, chunk_of, with_cached, with_stored, with_state, Locals, Access}
+use Prelude.{Rely, Guarantee, DoesRight, IsRight, cache, never, at, holds_first, without_slots}
+use Prelude.{load_right, take_right, give_right, returns_right, mutates, lone_commit_right}
+use Prelude.{open_right, block_store_right, commit_right, answer_right, writing}
 use Rattle.vyrd_base.specs.declared.subject.Method.TheVariants.{Multiset as OfMultiset}
 use Rattle.vyrd_base.specs.declared.subject.Method.TheVariants.{Cache as OfCache, Tree as OfTree}
 use Rattle.vyrd_base.specs.declared.subject.Method.TheVariants.{Buffers as OfBuffers}
-use Rattle.vyrd_base.specs.declared.subject.Method.TheVariants.{OwnNever, OwnAtMostOnce, OwnOnce}
 use Rattle.vyrd_base.specs.declared.cache.CacheMethod.TheVariants.{Write, Flush, Evict, Read}
-use Rattle.vyrd_base.specs.declared.subject.Args.{Args}
-use Rattle.vyrd_base.specs.declared.log.Kind.TheVariants.{Return, BlockOpen, BlockClose}
-use Rattle.vyrd_base.specs.declared.log.Kind.TheVariants.{BlockCommit}
-use Rattle.vyrd_base.specs.Callers.{Called}
-use Rattle.vyrd_base.specs.Subjects.{is_observer, subject_of}
-use Rattle.vyrd_base.specs.Amounts.{Amounts, with_amount}
-use Rattle.vyrd_base.specs.Specification.{next_state}
-use Rattle.vyrd_base.specs.Cache.{Chunk, cached_pair}
-use Rattle.vyrd_base.specs.Cache.{is_sound_chunk}
-use Rattle.vyrd_base.proofs.TestLaws.{first_true, second_true}
-use Rattle.vyrd_memory.specs.declared.act.Act.TheVariants.{Load, Store, Give, Mark}
-use Rattle.vyrd_memory.specs.declared.op.Op.{Op}
-use Rattle.vyrd_memory.specs.declared.op.Variant.TheVariants.{Correct}
+use Rattle.vyrd_base.specs.Cache.{cached_pair, Chunk, is_sound_chunk}
 use Rattle.vyrd_memory.specs.Arguments.{are_small}
-use Rattle.vyrd_memory.specs.Players.{is_callable}
-use Rattle.vyrd_memory.specs.Laws.Player.{callable_method}
-use Rattle.vyrd_memory.specs.Alone.{Memory, with_cell}
-use Rattle.vyrd_memory.specs.Scripts.{Script, step, perform, returns}
-use Rattle.vyrd_memory.specs.Soundness.{Situation, holds, just_called}
-use Rattle.vyrd_memory.proofs.Memories.{Represents, other_cell}
-use Rattle.vyrd_memory.proofs.SoundActs.{gone}
 use Rattle.vyrd_cache.specs.Cells.{state_cell, lock_of, lock}
 use Rattle.vyrd_cache.specs.Procedures.{joined, in_order, put_cached, put_stored, forget}
-use Rattle.vyrd_cache.specs.Procedures.{only_commit, fetch, answer_cached}
-use Rattle.vyrd_cache.specs.Procedures.{write, flush, evict, read, procedure_of, cache_procedure}
+use Rattle.vyrd_cache.specs.Procedures.{only_commit, fetch, answer_cached, write, flush, evict}
+use Rattle.vyrd_cache.specs.Procedures.{read, procedure_of}
 use Rattle.vyrd_cache.specs.Laws.Sound.{chunk_below}
-use Rattle.vyrd_cache.specs.Contents.{chunk_of, shown}
+use Rattle.vyrd_cache.specs.Contents.{shown}
 use Rattle.vyrd_cache.specs.Laws.Alone.Changes.{sound_at, shown_at}
-use Rattle.vyrd_cache.specs.Laws.Alone.Stores.{with_cached, with_stored, with_state}
 use Rattle.vyrd_cache.specs.Laws.Alone.Pairs.{small, dirty_sound, fetched_sound, flushed_sound}
 use Rattle.vyrd_cache.specs.Laws.Alone.Pairs.{evicted_sound, forgotten_sound, shown_dirty}
 use Rattle.vyrd_cache.specs.Laws.Alone.Pairs.{shown_absent, shown_cached, shown_clean, joined_small}
-use Rattle.vyrd_every.specs.Locals.{Locals, Access}
-use Rattle.vyrd_every.specs.Others.{Rely, Guarantee}
-use Rattle.vyrd_every.specs.RightScripts.{DoesRight, IsRight}
-use Rattle.vyrd_every.specs.Guarded.{cache}
 use Rattle.vyrd_every.proofs.Relies.{rely_more}
-use Rattle.vyrd_every.proofs.Acts.{never, at, holds_first, without_slots, load_right, take_right}
-use Rattle.vyrd_every.proofs.Acts.{give_right, returns_right, mutates, lone_commit_right}
-use Rattle.vyrd_every.proofs.Acts.{open_right, block_store_right, commit_right, close_right}
-use Rattle.vyrd_every.proofs.Acts.{answer_right}
+use Rattle.vyrd_every.proofs.Acts.{close_right}
 use Rattle.vyrd_every.proofs.Caches.Chunks.{chunk_access, chunk_stays, thrice, thrice-other}
 use Rattle.vyrd_every.proofs.Caches.Chunks.{after_cached, after_stored, after_state, kept, changed}
-use Rattle.vyrd_every.proofs.Acts.{writing}
 
 -- the chunk's lock is held, and no other
 abbrev locked : Header → ℕ → Bool → Bool → Called → Situation

@@ -1,31 +1,15 @@
 -- What each procedure does at its end does right: blocks that commit, giving up, and returns.
-use Rattle.std.proofs.Common.{◌≡◌, ◌≢◌, ℕ, ◌+◌, ◌*◌, ◌/◌, ◌<◌, inl, true, false, List, [], ◌∷◌}
-use Rattle.std.proofs.Common.{Some, refl, ◌∙◌, sym, arith}
-use Rattle.vyrd_base.specs.declared.header.Header.{Header}
+use Rattle.vyrd_every.proofs.Prelude
+use Prelude.{◌≡◌, ◌≢◌, ℕ, ◌+◌, ◌*◌, ◌/◌, ◌<◌, inl, true, false, List, [], ◌∷◌, Some, refl, ◌∙◌, sym}
+use Prelude.{arith, Header, InsertPair, Args, BlockCommit, Called, is_observer, Amounts}
+use Prelude.{plus_amount, next_state, Store, Mark, Memory, with_cell, changed_cell, other_cell}
+use Prelude.{Script, perform, returns, gives_up, Situation, holds, validate_both, IsMultiset}
+use Prelude.{left_invalid, made_valid, Locals, Access, Guarantee, WillReturn, DoesRight, multiset}
+use Prelude.{never, lone_commit_right, at, holds_first, without_slots, returns_right, mutates}
+use Prelude.{open_right, block_store_right, commit_right}
 use Rattle.vyrd_base.specs.declared.subject.Method.TheVariants.{Multiset as OfMultiset}
-use Rattle.vyrd_base.specs.declared.multiset.MultisetMethod.TheVariants.{InsertPair}
-use Rattle.vyrd_base.specs.declared.subject.Args.{Args}
-use Rattle.vyrd_base.specs.declared.log.Kind.TheVariants.{BlockCommit}
-use Rattle.vyrd_base.specs.Callers.{Called}
-use Rattle.vyrd_base.specs.Subjects.{is_observer}
-use Rattle.vyrd_base.specs.Amounts.{Amounts, plus_amount}
-use Rattle.vyrd_base.specs.Specification.{next_state}
-use Rattle.vyrd_memory.specs.declared.act.Act.TheVariants.{Store, Mark}
-use Rattle.vyrd_memory.specs.Alone.{Memory, with_cell}
-use Rattle.vyrd_memory.proofs.Memories.{changed_cell, other_cell}
-use Rattle.vyrd_memory.specs.Scripts.{Script, perform, returns, gives_up}
-use Rattle.vyrd_memory.specs.Soundness.{Situation, holds}
 use Rattle.vyrd_multiset.specs.Cells.{bucket_of, lock_of, unlock}
-use Rattle.vyrd_multiset.specs.Procedures.{commit_state, undo, validate_both, unlock_both}
-use Rattle.vyrd_multiset.specs.Contents.{IsMultiset}
-use Rattle.vyrd_multiset.specs.Laws.Alone.Changes.{left_invalid, made_valid}
-use Rattle.vyrd_every.specs.Locals.{Locals, Access}
-use Rattle.vyrd_every.specs.Others.{Guarantee}
-use Rattle.vyrd_every.specs.RightScripts.{WillReturn, DoesRight}
-use Rattle.vyrd_every.specs.Guarded.{multiset}
-use Rattle.vyrd_every.proofs.Acts.{never, lone_commit_right, at, holds_first, without_slots}
-use Rattle.vyrd_every.proofs.Acts.{returns_right, mutates, open_right, block_store_right}
-use Rattle.vyrd_every.proofs.Acts.{commit_right}
+use Rattle.vyrd_multiset.specs.Procedures.{commit_state, undo, unlock_both}
 use Rattle.vyrd_every.proofs.Multisets.Parts.{one_two, state_access, value_access, take_right}
 use Rattle.vyrd_every.proofs.Multisets.Parts.{give_last, store_right, Keeps, keeps_rely}
 

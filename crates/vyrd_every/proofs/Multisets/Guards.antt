@@ -1,21 +1,10 @@
 -- The multiset as a structure: a bucket's lock guards the words of its slots, and a slot with state
 -- 1 is reserved.
-use Rattle.std.proofs.Common.{◌≡◌, ◌/◌, ◌<◌, List, [], sym, subst, arith}
-use Rattle.vyrd_base.specs.declared.header.Header.{Header}
-use Rattle.vyrd_base.specs.declared.subject.Subject.TheVariants.{Multiset}
-use Rattle.vyrd_base.specs.declared.log.Entry.{Entry}
-use Rattle.vyrd_base.specs.Layout.{plain_words_of}
-use Rattle.vyrd_base.specs.Amounts.{Amounts, collected}
-use Rattle.vyrd_base.specs.Specification.{start}
-use Rattle.vyrd_base.specs.BlockEnds.{ended_words}
-use Rattle.vyrd_base.specs.Views.{parts_of, view_of_words}
-use Rattle.vyrd_base.proofs.SumLaws.{given_nothing}
-use Rattle.vyrd_memory.proofs.NumberLists.{element_below, flat_map_alike}
-use Rattle.vyrd_memory.proofs.PartSums.{collected-is}
-use Rattle.vyrd_multiset.specs.Contents.{IsMultiset}
+use Rattle.vyrd_every.proofs.Prelude
+use Prelude.{◌≡◌, ◌/◌, ◌<◌, List, [], sym, subst, arith, Header, Multiset, Entry, plain_words_of}
+use Prelude.{Amounts, collected, start, ended_words, parts_of, view_of_words, given_nothing}
+use Prelude.{element_below, flat_map_alike, collected-is, IsMultiset, Fits, shown_by, multiset}
 use Rattle.vyrd_multiset.specs.Laws.Sound.{is_its_lock}
-use Rattle.vyrd_every.specs.Structures.{Fits, shown_by}
-use Rattle.vyrd_every.specs.Guarded.{multiset}
 
 -- the view of the words that the log leaves is the state that they represent
 view_is : (h : Header) (log : List Entry) (state : Amounts) → h.subject ≡ Multiset

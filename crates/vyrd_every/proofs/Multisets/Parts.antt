@@ -1,28 +1,13 @@
 -- Each part of a procedure of the multiset does right, if what follows it does.
-use Rattle.std.proofs.Common.{◌≡◌, ◌≢◌, ℕ, zero, suc, ◌+◌, ◌*◌, ◌/◌, ◌<◌, ◌≤◌, ◌⊎◌, inl, inr, Bool}
-use Rattle.std.proofs.Common.{true, false, cond, List, [], ◌∷◌, Option, Some, None, refl, ap, ◌∙◌}
-use Rattle.std.proofs.Common.{sym, arith}
-use Rattle.std.specs.Prelude.{◌==◌}
-use Rattle.vyrd_base.specs.declared.header.Header.{Header}
-use Rattle.vyrd_base.specs.Callers.{Called}
-use Rattle.vyrd_base.specs.Amounts.{Amounts}
-use Rattle.vyrd_base.proofs.TestLaws.{same_of, same_number, apart_of}
-use Rattle.vyrd_memory.specs.declared.act.Act.TheVariants.{Store, Take, Give}
-use Rattle.vyrd_memory.specs.declared.op.Variant.TheVariants.{Correct}
-use Rattle.vyrd_memory.specs.Alone.{Memory, with_cell}
-use Rattle.vyrd_memory.proofs.Memories.{changed_cell, other_cell}
-use Rattle.vyrd_memory.specs.Scripts.{Script, perform}
-use Rattle.vyrd_memory.specs.Soundness.{Situation, holds, after_act}
-use Rattle.vyrd_memory.proofs.SoundActs.{gone}
+use Rattle.vyrd_every.proofs.Prelude
+use Prelude.{◌≡◌, ◌≢◌, ℕ, zero, suc, ◌+◌, ◌*◌, ◌/◌, ◌<◌, ◌≤◌, ◌⊎◌, inl, inr, Bool, true, false}
+use Prelude.{cond, List, [], ◌∷◌, Option, Some, None, refl, ap, ◌∙◌, sym, arith, ◌==◌, Header}
+use Prelude.{Called, Amounts, same_of, same_number, apart_of, Store, Take, Give, Correct, Memory}
+use Prelude.{with_cell, changed_cell, other_cell, Script, perform, Situation, holds, after_act}
+use Prelude.{gone, reserve, find_from, find, compare, search_from, IsMultiset, left_invalid}
+use Prelude.{zero_one, multiset, Locals, Access, Rely, DoesRight, never, load_right, at}
 use Rattle.vyrd_multiset.specs.Cells.{bucket_of, lock_of, lock, unlock}
-use Rattle.vyrd_multiset.specs.Procedures.{reserve, find_from, find, compare, search_from}
-use Rattle.vyrd_multiset.specs.Contents.{IsMultiset}
-use Rattle.vyrd_multiset.specs.Laws.Alone.Changes.{left_invalid}
-use Rattle.vyrd_every.specs.Guarded.{zero_one, multiset}
-use Rattle.vyrd_every.specs.Locals.{Locals, Access}
-use Rattle.vyrd_every.specs.Others.{Rely}
-use Rattle.vyrd_every.specs.RightScripts.{DoesRight}
-use Rattle.vyrd_every.proofs.Acts.{never, load_right, take_right as take, give_right as give, at}
+use Rattle.vyrd_every.proofs.Acts.{take_right as take, give_right as give}
 use Rattle.vyrd_every.proofs.Relies.{rely_same, rely_more}
 
 pub one_two : (n : ℕ) → n ≡ 1 → n ≡ 2 → ⊥

@@ -1,44 +1,23 @@
 -- Each procedure of the correct multiset does right.
-use Rattle.std.proofs.Common.{◌≡◌, ℕ, ◌+◌, ◌-◌, ◌*◌, ◌/◌, ◌<◌, ◌≤◌, ◌⊎◌, Bool, true}
-use Rattle.std.proofs.Common.{false, cond, not, List, [], ◌∷◌, Option, Some, None, min, max, refl}
-use Rattle.std.proofs.Common.{ap, ◌∙◌, sym, subst, arith}
-use Rattle.std.specs.Prelude.{◌==◌, ◌||◌}
-use Rattle.std.proofs.lemmas.Bool.Decides.{nat_tests}
-use Rattle.vyrd_base.specs.declared.header.Header.{Header}
-use Rattle.vyrd_base.specs.declared.subject.Subject.TheVariants.{Multiset}
-use Rattle.vyrd_base.specs.declared.subject.Method.{Method}
+use Rattle.vyrd_every.proofs.Prelude
+use Prelude.{◌≡◌, ℕ, ◌+◌, ◌-◌, ◌*◌, ◌/◌, ◌<◌, ◌≤◌, ◌⊎◌, Bool, true, false, cond, not, List, [], ◌∷◌}
+use Prelude.{Option, Some, None, min, max, refl, ap, ◌∙◌, sym, subst, arith, ◌==◌, ◌||◌, nat_tests}
+use Prelude.{Header, Multiset, Method, OwnNever, OwnAtMostOnce, OwnOnce, InsertPair, Args, Called}
+use Prelude.{is_observer, subject_of, amount_of, with_amount, plus_amount, at_most_of, above_of}
+use Prelude.{same_of, isnt_same, apart_of, Op, Correct, is_callable, callable_method, Memory}
+use Prelude.{with_cell, changed_cell, other_cell, Script, returns, just_called, gone, find}
+use Prelude.{validate_both, multiset_procedure, made_valid, Locals, Access, WillReturn, DoesRight}
+use Prelude.{IsRight, multiset, at, holds_first, without_slots, returns_right, mutates}
+use Prelude.{answer_right, lone_commit_right}
 use Rattle.vyrd_base.specs.declared.subject.Method.TheVariants.{Multiset as OfMultiset}
 use Rattle.vyrd_base.specs.declared.subject.Method.TheVariants.{Cache as OfCache, Tree as OfTree}
 use Rattle.vyrd_base.specs.declared.subject.Method.TheVariants.{Buffers as OfBuffers}
-use Rattle.vyrd_base.specs.declared.subject.Method.TheVariants.{OwnNever, OwnAtMostOnce, OwnOnce}
-use Rattle.vyrd_base.specs.declared.multiset.MultisetMethod.TheVariants.{Insert, InsertPair, Delete}
-use Rattle.vyrd_base.specs.declared.multiset.MultisetMethod.TheVariants.{Lookup}
-use Rattle.vyrd_base.specs.declared.subject.Args.{Args}
-use Rattle.vyrd_base.specs.Callers.{Called}
-use Rattle.vyrd_base.specs.Subjects.{is_observer, subject_of}
-use Rattle.vyrd_base.specs.Amounts.{amount_of, with_amount, plus_amount}
-use Rattle.vyrd_base.proofs.TestLaws.{at_most_of, above_of, same_of, isnt_same}
-use Rattle.vyrd_base.proofs.TestLaws.{apart_of}
-use Rattle.vyrd_memory.specs.declared.op.Op.{Op}
-use Rattle.vyrd_memory.specs.declared.op.Variant.TheVariants.{Correct}
-use Rattle.vyrd_memory.specs.Players.{is_callable}
-use Rattle.vyrd_memory.specs.Laws.Player.{callable_method}
-use Rattle.vyrd_memory.specs.Alone.{Memory, with_cell}
-use Rattle.vyrd_memory.proofs.Memories.{changed_cell, other_cell}
-use Rattle.vyrd_memory.specs.Scripts.{Script, returns}
-use Rattle.vyrd_memory.specs.Soundness.{just_called}
-use Rattle.vyrd_memory.proofs.SoundActs.{gone}
+use Rattle.vyrd_base.specs.declared.multiset.MultisetMethod.TheVariants.{Insert, Delete, Lookup}
 use Rattle.vyrd_multiset.specs.Cells.{bucket_of, lock_of, lock, unlock, lock_other}
-use Rattle.vyrd_multiset.specs.Procedures.{find, search_in, validate_both, commit_both, inserted}
-use Rattle.vyrd_multiset.specs.Procedures.{second_found, first_found, deleted, looked_up}
-use Rattle.vyrd_multiset.specs.Procedures.{procedure_of, multiset_procedure}
-use Rattle.vyrd_multiset.specs.Laws.Alone.Changes.{made_valid, made_free, is_there, isnt_there}
+use Rattle.vyrd_multiset.specs.Procedures.{search_in, commit_both, inserted, second_found}
+use Rattle.vyrd_multiset.specs.Procedures.{first_found, deleted, looked_up, procedure_of}
+use Rattle.vyrd_multiset.specs.Laws.Alone.Changes.{made_free, is_there, isnt_there}
 use Rattle.vyrd_multiset.specs.Laws.Sound.{bucket_low}
-use Rattle.vyrd_every.specs.Locals.{Locals, Access}
-use Rattle.vyrd_every.specs.RightScripts.{WillReturn, DoesRight, IsRight}
-use Rattle.vyrd_every.specs.Guarded.{multiset}
-use Rattle.vyrd_every.proofs.Acts.{at, holds_first, without_slots, returns_right, mutates}
-use Rattle.vyrd_every.proofs.Acts.{answer_right, lone_commit_right}
 use Rattle.vyrd_every.proofs.Multisets.Parts.{one_two, state_access, take_right, give_right}
 use Rattle.vyrd_every.proofs.Multisets.Parts.{give_last, keeps_rely, with_slot, has_slot, had_slot}
 use Rattle.vyrd_every.proofs.Multisets.Parts.{bucket_slots, find_right, search_from_right}

@@ -1,40 +1,19 @@
 -- An ascent does right, where a new root does.
-use Rattle.std.proofs.Common.{◌≡◌, ◌≢◌, ℕ, ◌+◌, ◌<◌, ◌≤◌, ◌⊎◌, inr, Bool, true, false, List, []}
-use Rattle.std.proofs.Common.{◌∷◌, ◌++◌, Option, Some, None, length, refl, ap, ◌∙◌, sym, subst}
-use Rattle.std.proofs.Common.{arith}
-use Rattle.std.proofs.lemmas.Option.{same_Some}
-use Rattle.std.specs.Prelude.{◌||◌}
+use Rattle.vyrd_every.proofs.Prelude
+use Prelude.{◌≡◌, ◌≢◌, ℕ, ◌+◌, ◌<◌, ◌≤◌, ◌⊎◌, inr, Bool, true, false, List, [], ◌∷◌, ◌++◌, Option}
+use Prelude.{Some, None, length, refl, ap, ◌∙◌, sym, subst, arith, same_Some, ◌||◌, Header, Insert}
+use Prelude.{Args, BlockOpen, BlockClose, Called, Store, Mark, Give, Memory, Script, perform}
+use Prelude.{returns, Situation, count_cell, lock_of, used_lock, unlock_node, with_unused}
+use Prelude.{with_entry, write_entries, rewrite, add_entry, split, split_entry, split_key}
+use Prelude.{lower_half, upper_half, first_key, holding, level_at, count_at, bound_at, right_at}
+use Prelude.{entries_at, AreEntries, Covers, Entries, each_front, each_back, between, IsBetween}
+use Prelude.{drop_front, length_join, entries_added, with_entry_is, place_below_is, AreHalves}
+use Prelude.{halves, length-entries, Rewritten, loaded_at, never, written, Shape, LeadsDown}
+use Prelude.{HasEntries, LeadsRight, IsLinked, Hangs, TreeLocals, TreeRely, TreeRight, new_low}
 use Rattle.std.specs.List.{AllByRecursion as Each}
-use Rattle.vyrd_base.specs.declared.header.Header.{Header}
 use Rattle.vyrd_base.specs.declared.subject.Method.TheVariants.{Tree as OfTree}
-use Rattle.vyrd_base.specs.declared.tree.TreeMethod.TheVariants.{Insert}
-use Rattle.vyrd_base.specs.declared.subject.Args.{Args}
-use Rattle.vyrd_base.specs.declared.log.Kind.TheVariants.{BlockOpen, BlockClose}
-use Rattle.vyrd_base.specs.Callers.{Called}
-use Rattle.vyrd_memory.specs.declared.act.Act.TheVariants.{Store, Mark, Give}
-use Rattle.vyrd_memory.specs.Alone.{Memory}
-use Rattle.vyrd_memory.specs.Scripts.{Script, perform, returns}
-use Rattle.vyrd_memory.specs.Soundness.{Situation}
-use Rattle.vyrd_tree.specs.Cells.{count_cell, lock_of, used_lock, unlock_node}
-use Rattle.vyrd_tree.specs.Procedures.Split.{with_unused, with_entry, write_entries, rewrite}
-use Rattle.vyrd_tree.specs.Procedures.Split.{add_entry, split, split_entry, split_key, lower_half}
-use Rattle.vyrd_tree.specs.Procedures.Split.{upper_half, first_key}
-use Rattle.vyrd_tree.specs.Laws.Sound.Acts.{holding}
-use Rattle.vyrd_tree.specs.Contents.{level_at, count_at, bound_at, right_at, BeginsAt, entries_at}
-use Rattle.vyrd_tree.specs.Contents.{AreEntries, Covers, Entries}
-use Rattle.vyrd_tree.specs.Laws.Alone.Entries.{each_join, each_front, each_back, between, IsBetween}
-use Rattle.vyrd_tree.specs.Laws.Alone.Entries.{drop_front}
-use Rattle.vyrd_tree.specs.Laws.Alone.EntriesStaySound.{length_join, entries_added, with_entry_is}
-use Rattle.vyrd_tree.specs.Laws.Alone.EntriesStaySound.{place_below_is, AreHalves, halves}
-use Rattle.vyrd_tree.specs.Laws.Alone.Tested.{length-entries}
-use Rattle.vyrd_tree.specs.Laws.Alone.Changes.{Rewritten}
-use Rattle.vyrd_tree.specs.Laws.Alone.WalkArrives.{loaded_at}
-use Rattle.vyrd_every.proofs.Acts.{never}
-use Rattle.vyrd_every.specs.Locals.{written}
-use Rattle.vyrd_every.specs.Trees.Shapes.{Shape, LeadsDown, HasEntries, LeadsRight, IsLinked, Hangs}
-use Rattle.vyrd_every.specs.Trees.Locals.{TreeLocals}
-use Rattle.vyrd_every.specs.Trees.Others.{TreeRely}
-use Rattle.vyrd_every.specs.Trees.RightScripts.{TreeRight}
+use Rattle.vyrd_tree.specs.Contents.{BeginsAt}
+use Rattle.vyrd_tree.specs.Laws.Alone.Entries.{each_join}
 use Rattle.vyrd_every.proofs.Trees.Parts.{OwnsUnseen, unseen_stays, tree_rely_more, tree_give_last}
 use Rattle.vyrd_every.proofs.Trees.Parts.{Changeless, changeless}
 use Rattle.vyrd_every.proofs.Trees.Walks.{AtNode, Onward}
@@ -50,7 +29,6 @@ use Rattle.vyrd_every.proofs.Trees.Unused.{with_fresh, unused_right}
 use Rattle.vyrd_every.proofs.Trees.SplitBlocks.{split_writes, split_stands, split_stores, Splits}
 use Rattle.vyrd_every.proofs.Trees.SplitBlocks.{splits}
 use Rattle.vyrd_every.proofs.Trees.Fulls.{Ascending, three_two, loaded_same}
-use Rattle.vyrd_tree.specs.Laws.Alone.SplitKeepsTree.{new_low}
 
 -- the call of an insert
 abbrev pub insert_of : Args → Called

@@ -1,33 +1,12 @@
 -- A block that writes other entries into a node whose lock is held.
-use Rattle.std.proofs.Common.{◌≡◌, ◌≢◌, ℕ, ◌+◌, ◌*◌, ◌<◌, ◌≤◌, ◌⊎◌, inl, inr, Bool, true, false}
-use Rattle.std.proofs.Common.{cond, List, [], ◌∷◌, ◌++◌, Some, length, refl, ap, ◌∙◌, sym, subst}
-use Rattle.std.proofs.Common.{arith}
-use Rattle.std.specs.Prelude.{◌==◌}
-use Rattle.std.specs.List.{AllByRecursion}
-use Rattle.vyrd_base.specs.declared.header.Header.{Header}
-use Rattle.vyrd_base.specs.declared.subject.Method.{Method}
-use Rattle.vyrd_base.specs.declared.log.Kind.TheVariants.{BlockOpen}
-use Rattle.vyrd_base.proofs.TestLaws.{isnt_same}
-use Rattle.vyrd_memory.specs.declared.act.Act.TheVariants.{Store, Mark}
-use Rattle.vyrd_memory.specs.Alone.{Memory, with_cell}
-use Rattle.vyrd_memory.proofs.Memories.{changed_cell, other_cell}
-use Rattle.vyrd_memory.specs.Scripts.{Script, perform}
-use Rattle.vyrd_memory.specs.Soundness.{Situation, holds}
-use Rattle.vyrd_tree.specs.Cells.{root_cell, lock_of}
-use Rattle.vyrd_tree.specs.Procedures.Split.{write_entries}
-use Rattle.vyrd_tree.specs.Laws.Sound.Acts.{holding}
-use Rattle.vyrd_tree.specs.Contents.{level_at, bound_at, last_in, root_in, entries_at, entries_from}
-use Rattle.vyrd_tree.specs.Contents.{Entries}
-use Rattle.vyrd_tree.specs.Laws.Alone.EntriesStaySound.{length_join}
-use Rattle.vyrd_tree.specs.Laws.Alone.Changes.{entries_alike, Rewritten, apart_or}
-use Rattle.vyrd_tree.specs.Laws.Alone.Played.{Written, front_stands}
-use Rattle.vyrd_every.proofs.Acts.{never}
-use Rattle.vyrd_every.specs.Locals.{written}
-use Rattle.vyrd_every.specs.Trees.Shapes.{Shape, HasEntries, IsLinked, Hangs}
-use Rattle.vyrd_every.specs.Trees.Others.{Grows}
-use Rattle.vyrd_every.specs.Trees.Locals.{TreeLocals}
-use Rattle.vyrd_every.specs.Trees.Others.{TreeRely, TreeLeaves}
-use Rattle.vyrd_every.specs.Trees.RightScripts.{TreeRight}
+use Rattle.vyrd_every.proofs.Prelude
+use Prelude.{◌≡◌, ◌≢◌, ℕ, ◌+◌, ◌*◌, ◌<◌, ◌≤◌, ◌⊎◌, inl, inr, Bool, true, false, cond, List, [], ◌∷◌}
+use Prelude.{◌++◌, Some, length, refl, ap, ◌∙◌, sym, subst, arith, ◌==◌, AllByRecursion, Header}
+use Prelude.{Method, BlockOpen, isnt_same, Store, Mark, Memory, with_cell, changed_cell, other_cell}
+use Prelude.{Script, perform, Situation, holds, root_cell, lock_of, write_entries, holding}
+use Prelude.{level_at, bound_at, last_in, root_in, entries_at, entries_from, Entries, length_join}
+use Prelude.{entries_alike, Rewritten, apart_or, Written, front_stands, never, written, Shape}
+use Prelude.{HasEntries, IsLinked, Hangs, Grows, TreeLocals, TreeRely, TreeLeaves, TreeRight}
 use Rattle.vyrd_every.proofs.Trees.Parts.{OwnsUnseen, unseen_stays, tree_rely_more, Changeless}
 use Rattle.vyrd_every.proofs.Trees.Parts.{changeless}
 use Rattle.vyrd_every.proofs.Trees.Walks.{AtNode}

@@ -1,16 +1,9 @@
 -- What one caller may load or store, no other caller's open block has written.
-use Rattle.std.proofs.Common.{◌≡◌, ◌≢◌, ℕ, ◌+◌, ◌*◌, ◌<◌, ◌≤◌, ◌⊎◌, inl, inr, true, false, Some, ap}
-use Rattle.std.proofs.Common.{◌∙◌, sym, arith}
-use Rattle.vyrd_base.specs.declared.header.Header.{Header}
-use Rattle.vyrd_memory.specs.Alone.{Memory}
-use Rattle.vyrd_memory.specs.Soundness.{Situation, holds}
-use Rattle.vyrd_tree.specs.Cells.{root_cell, used_cell, lock_of, root_lock}
-use Rattle.vyrd_tree.specs.Contents.{level_at, root_in}
-use Rattle.vyrd_every.specs.Trees.Shapes.{Shape, IsLinked}
-use Rattle.vyrd_every.specs.Trees.Locals.{TreeLocals, Owns, AreApart, IsWordOf, MayLoad, InNode}
-use Rattle.vyrd_every.specs.Trees.Locals.{MayStore}
-use Rattle.vyrd_every.specs.Trees.Between.{MayHold}
-use Rattle.vyrd_every.proofs.Acts.{never}
+use Rattle.vyrd_every.proofs.Prelude.{◌≡◌, ◌≢◌, ℕ, ◌+◌, ◌*◌, ◌<◌, ◌≤◌, ◌⊎◌, inl, inr, true, false}
+use Rattle.vyrd_every.proofs.Prelude.{Some, ap, ◌∙◌, sym, arith, Header, Memory, Situation, holds}
+use Rattle.vyrd_every.proofs.Prelude.{root_cell, used_cell, lock_of, root_lock, level_at, root_in}
+use Rattle.vyrd_every.proofs.Prelude.{Shape, IsLinked, TreeLocals, Owns, AreApart, IsWordOf}
+use Rattle.vyrd_every.proofs.Prelude.{MayLoad, InNode, MayStore, MayHold, never}
 use Rattle.vyrd_every.proofs.Trees.Kept.{linked_low}
 
 -- two callers, each with its locals

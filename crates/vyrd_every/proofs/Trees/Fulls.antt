@@ -1,47 +1,20 @@
 -- What an insert does in a full leaf, where its ascent does right: there is no node and nothing
 -- changes, or the leaf is split.
-use Rattle.std.proofs.Common.{◌≡◌, ◌≢◌, ℕ, ◌+◌, ◌<◌, ◌≤◌, ◌^◌, ◌⊎◌, inr, true, false, cond, not}
-use Rattle.std.proofs.Common.{List, [], ◌∷◌, ◌++◌, Option, Some, None, length, refl, ap, ◌∙◌, sym}
-use Rattle.std.proofs.Common.{subst, arith}
-use Rattle.std.specs.Bool.{then_some}
+use Rattle.vyrd_every.proofs.Prelude
+use Prelude.{◌≡◌, ◌≢◌, ℕ, ◌+◌, ◌<◌, ◌≤◌, ◌^◌, ◌⊎◌, inr, true, false, cond, not, List, [], ◌∷◌, ◌++◌}
+use Prelude.{Option, Some, None, length, refl, ap, ◌∙◌, sym, subst, arith, then_some, Header}
+use Prelude.{Insert, Args, BlockOpen, BlockCommit, Called, amount_of, with_amount, isnt_same, Mark}
+use Prelude.{Correct, Memory, Script, perform, returns, Situation, isnt_there, lock_of, used_lock}
+use Prelude.{unlock_node, with_entry, split, split_entry, split_key, lower_half, upper_half}
+use Prelude.{first_key, ascend, changes_nothing, holding, level_at, count_at, bound_at, right_at}
+use Prelude.{IsLeafEntry, entries_at, Covers, Entries, gives, gives_none, entry_gives_it}
+use Prelude.{entry_gives_none, between, IsBetween, length_join, entries_added, gives_around}
+use Prelude.{with_entry_is, place_below_is, AreHalves, halves, length-entries, loaded_at}
+use Prelude.{changed_inside, written, WillReturn, Shape, HasEntries, IsLinked, Hangs, TreeLocals}
+use Prelude.{TreeRely, TreeRight, never, new_low}
 use Rattle.std.specs.List.{AllByRecursion as Each}
-use Rattle.vyrd_base.specs.declared.header.Header.{Header}
 use Rattle.vyrd_base.specs.declared.subject.Method.TheVariants.{Tree as OfTree}
-use Rattle.vyrd_base.specs.declared.tree.TreeMethod.TheVariants.{Insert}
-use Rattle.vyrd_base.specs.declared.subject.Args.{Args}
-use Rattle.vyrd_base.specs.declared.log.Kind.TheVariants.{BlockOpen, BlockCommit}
-use Rattle.vyrd_base.specs.Callers.{Called}
-use Rattle.vyrd_base.specs.Amounts.{amount_of, with_amount}
 use Rattle.vyrd_base.proofs.AmountLaws.{amount_of-with_amount, IsAmounts-with_amount}
-use Rattle.vyrd_base.proofs.TestLaws.{isnt_same}
-use Rattle.vyrd_memory.specs.declared.act.Act.TheVariants.{Mark}
-use Rattle.vyrd_memory.specs.declared.op.Variant.TheVariants.{Correct}
-use Rattle.vyrd_memory.specs.Alone.{Memory}
-use Rattle.vyrd_memory.specs.Scripts.{Script, perform, returns}
-use Rattle.vyrd_memory.specs.Soundness.{Situation}
-use Rattle.vyrd_memory.proofs.AloneLaws.{isnt_there}
-use Rattle.vyrd_tree.specs.Cells.{lock_of, used_lock, unlock_node}
-use Rattle.vyrd_tree.specs.Procedures.Split.{with_entry, split, split_entry, split_key, lower_half}
-use Rattle.vyrd_tree.specs.Procedures.Split.{upper_half, first_key}
-use Rattle.vyrd_tree.specs.Procedures.Ascent.{ascend}
-use Rattle.vyrd_tree.specs.Procedures.{changes_nothing}
-use Rattle.vyrd_tree.specs.Laws.Sound.Acts.{holding}
-use Rattle.vyrd_tree.specs.Contents.{level_at, count_at, bound_at, right_at, IsLeafEntry}
-use Rattle.vyrd_tree.specs.Contents.{entries_at, Covers, Entries, gives}
-use Rattle.vyrd_tree.specs.Laws.Alone.Entries.{gives_none, entry_gives_it, entry_gives_none}
-use Rattle.vyrd_tree.specs.Laws.Alone.Entries.{between, IsBetween}
-use Rattle.vyrd_tree.specs.Laws.Alone.EntriesStaySound.{length_join, entries_added, gives_around}
-use Rattle.vyrd_tree.specs.Laws.Alone.EntriesStaySound.{with_entry_is, place_below_is, AreHalves}
-use Rattle.vyrd_tree.specs.Laws.Alone.EntriesStaySound.{halves}
-use Rattle.vyrd_tree.specs.Laws.Alone.Tested.{length-entries}
-use Rattle.vyrd_tree.specs.Laws.Alone.WalkArrives.{loaded_at}
-use Rattle.vyrd_tree.specs.Laws.Alone.Done.{changed_inside}
-use Rattle.vyrd_every.specs.Locals.{written}
-use Rattle.vyrd_every.specs.RightScripts.{WillReturn}
-use Rattle.vyrd_every.specs.Trees.Shapes.{Shape, HasEntries, IsLinked, Hangs}
-use Rattle.vyrd_every.specs.Trees.Locals.{TreeLocals}
-use Rattle.vyrd_every.specs.Trees.Others.{TreeRely}
-use Rattle.vyrd_every.specs.Trees.RightScripts.{TreeRight}
 use Rattle.vyrd_every.proofs.Trees.Parts.{OwnsUnseen, unseen_stays, tree_give_last}
 use Rattle.vyrd_every.proofs.Trees.Walks.{AtNode}
 use Rattle.vyrd_every.proofs.Trees.Order.{one_cover_in}
@@ -54,8 +27,6 @@ use Rattle.vyrd_every.proofs.Trees.Splits.{with_node, IsSplitAt, split_state}
 use Rattle.vyrd_every.proofs.Trees.Unused.{with_fresh, unused_right}
 use Rattle.vyrd_every.proofs.Trees.SplitBlocks.{split_writes, split_stands, split_stores, Splits}
 use Rattle.vyrd_every.proofs.Trees.SplitBlocks.{splits}
-use Rattle.vyrd_every.proofs.Acts.{never}
-use Rattle.vyrd_tree.specs.Laws.Alone.SplitKeepsTree.{new_low}
 
 -- where an ascent is: a linked node hangs, whose level and low are these
 pub record Ascending (k : TreeLocals) (g : Shape) (m : Memory) (called : Called)

@@ -1,52 +1,23 @@
 -- What an insert does in the leaf of its key: another value for a key that is there, or an entry if
 -- there is room. What it does in a full leaf is taken from elsewhere.
-use Rattle.std.proofs.Common.{◌≡◌, ◌≢◌, ℕ, ◌+◌, ◌*◌, ◌<◌, ◌≤◌, ◌^◌, ◌⊎◌, inl, inr, Bool, true}
-use Rattle.std.proofs.Common.{false, cond, not, List, [], ◌∷◌, ◌++◌, Option, Some, None, length}
-use Rattle.std.proofs.Common.{refl, ap, ◌∙◌, sym, subst, arith}
-use Rattle.std.specs.Prelude.{nat_lt}
-use Rattle.std.specs.Bool.{then_some}
+use Rattle.vyrd_every.proofs.Prelude
+use Prelude.{◌≡◌, ◌≢◌, ℕ, ◌+◌, ◌*◌, ◌<◌, ◌≤◌, ◌^◌, ◌⊎◌, inl, inr, Bool, true, false, cond, not}
+use Prelude.{List, [], ◌∷◌, ◌++◌, Option, Some, None, length, refl, ap, ◌∙◌, sym, subst, arith}
+use Prelude.{nat_lt, then_some, Header, Insert, Args, BlockCommit, Called, Amounts, with_amount}
+use Prelude.{is_below, isnt_below, Store, Mark, Correct, Memory, with_cell, other_cell, Script}
+use Prelude.{perform, returns, gives_up, Situation, is_there, isnt_there, value_cell, lock_of}
+use Prelude.{unlock_node, with_unused, add_entry, rewrite, with_entry, split_entry, split_key}
+use Prelude.{ascend, changes_nothing, place_of, insert_entry, holding, le_or, level_at, count_at}
+use Prelude.{bound_at, IsLeafEntry, entries_at, entries_from, Entries, gives, gives-append}
+use Prelude.{gives_none, gives_one, entry_gives_it, entry_gives_none, between, IsBetween}
+use Prelude.{found_around, not_found, IsAround, each_back, length_join, entries_added, gives_around}
+use Prelude.{with_entry_is, place_below_is, length-entries, Rewritten, loaded_at, written, Shape}
+use Prelude.{HasEntries, IsLinked, ShowsState, TreeLocals, TreeRely, TreeRight, TreeCommits}
 use Rattle.std.specs.List.{AllByRecursion as Each}
-use Rattle.vyrd_base.specs.declared.header.Header.{Header}
 use Rattle.vyrd_base.specs.declared.subject.Method.TheVariants.{Tree as OfTree}
-use Rattle.vyrd_base.specs.declared.tree.TreeMethod.TheVariants.{Insert}
-use Rattle.vyrd_base.specs.declared.subject.Args.{Args}
-use Rattle.vyrd_base.specs.declared.log.Kind.TheVariants.{BlockCommit}
-use Rattle.vyrd_base.specs.Callers.{Called}
-use Rattle.vyrd_base.specs.Amounts.{Amounts, with_amount}
-use Rattle.vyrd_base.proofs.TestLaws.{is_below, isnt_below}
-use Rattle.vyrd_memory.specs.declared.act.Act.TheVariants.{Store, Mark}
-use Rattle.vyrd_memory.specs.declared.op.Variant.TheVariants.{Correct}
-use Rattle.vyrd_memory.specs.Alone.{Memory, with_cell}
-use Rattle.vyrd_memory.proofs.Memories.{other_cell}
-use Rattle.vyrd_memory.specs.Scripts.{Script, perform, returns, gives_up}
-use Rattle.vyrd_memory.specs.Soundness.{Situation}
-use Rattle.vyrd_memory.proofs.AloneLaws.{is_there, isnt_there}
-use Rattle.vyrd_tree.specs.Cells.{value_cell, lock_of, unlock_node}
-use Rattle.vyrd_tree.specs.Procedures.Split.{with_unused, add_entry, rewrite, with_entry}
-use Rattle.vyrd_tree.specs.Procedures.Split.{split_entry, split_key}
-use Rattle.vyrd_tree.specs.Procedures.Ascent.{ascend}
-use Rattle.vyrd_tree.specs.Procedures.{changes_nothing, place_of, replace_value, insert_new}
-use Rattle.vyrd_tree.specs.Procedures.{insert_in, insert_entry}
-use Rattle.vyrd_tree.specs.Laws.Sound.Acts.{holding}
-use Rattle.vyrd_tree.specs.Laws.Alone.Counts.{le_or}
-use Rattle.vyrd_tree.specs.Contents.{level_at, count_at, bound_at, IsLeafEntry}
-use Rattle.vyrd_tree.specs.Contents.{entries_at, entries_from, Entries, gives}
-use Rattle.vyrd_tree.specs.Laws.Alone.Entries.{gives-append, gives_none, gives_one, entry_gives_it}
-use Rattle.vyrd_tree.specs.Laws.Alone.Entries.{entry_gives_none, between, IsBetween, found_around}
-use Rattle.vyrd_tree.specs.Laws.Alone.Entries.{not_found, IsAround, each_back}
-use Rattle.vyrd_tree.specs.Laws.Alone.EntriesStaySound.{length_join, entries_added}
-use Rattle.vyrd_tree.specs.Laws.Alone.EntriesStaySound.{entries_replaced, gives_around}
-use Rattle.vyrd_tree.specs.Laws.Alone.EntriesStaySound.{with_entry_is, place_below_is}
-use Rattle.vyrd_tree.specs.Laws.Alone.Tested.{length-entries}
-use Rattle.vyrd_tree.specs.Laws.Alone.Changes.{Rewritten}
-use Rattle.vyrd_tree.specs.Laws.Alone.WalkArrives.{loaded_at}
+use Rattle.vyrd_tree.specs.Procedures.{replace_value, insert_new, insert_in}
+use Rattle.vyrd_tree.specs.Laws.Alone.EntriesStaySound.{entries_replaced}
 use Rattle.vyrd_tree.specs.Laws.Alone.Inserted.{value_stored}
-use Rattle.vyrd_every.specs.Locals.{written}
-use Rattle.vyrd_every.specs.Trees.Shapes.{Shape, HasEntries, IsLinked}
-use Rattle.vyrd_every.specs.Trees.States.{ShowsState}
-use Rattle.vyrd_every.specs.Trees.Locals.{TreeLocals}
-use Rattle.vyrd_every.specs.Trees.Others.{TreeRely}
-use Rattle.vyrd_every.specs.Trees.RightScripts.{TreeRight, TreeCommits}
 use Rattle.vyrd_every.proofs.Trees.Parts.{OwnsUnseen, unseen_stays, tree_rely_more}
 use Rattle.vyrd_every.proofs.Trees.Walks.{AtNode, Onward, Arrives}
 use Rattle.vyrd_every.proofs.Trees.Kept.{coded, code, uncode, linked_low}

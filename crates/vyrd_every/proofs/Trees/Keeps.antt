@@ -1,25 +1,10 @@
 -- The invariant of the tree, as what the rest of the proof asks for.
-use Rattle.std.proofs.Common.{◌≡◌, ℕ, ◌<◌, inl, true, false, List, [], refl, ap, subst}
-use Rattle.vyrd_base.specs.declared.header.Header.{Header}
-use Rattle.vyrd_base.specs.declared.subject.Subject.TheVariants.{Tree}
-use Rattle.vyrd_base.specs.declared.history.Stamped.{Stamped}
-use Rattle.vyrd_base.specs.Amounts.{Amounts}
-use Rattle.vyrd_base.specs.Specification.{start}
-use Rattle.vyrd_memory.specs.declared.act.Act.{Act}
-use Rattle.vyrd_memory.specs.declared.act.Act.TheVariants.{Load, Store, Take, Give, Mark, Done}
-use Rattle.vyrd_memory.specs.Alone.{Memory}
-use Rattle.vyrd_memory.specs.Scripts.{Script, stop, step, next_act, left_after}
-use Rattle.vyrd_memory.specs.Soundness.{Situation, holds, at_rest}
-use Rattle.vyrd_memory.specs.Runs.{AreSoundScripts}
-use Rattle.vyrd_memory.specs.Turns.{part_of, script_of, is_done}
-use Rattle.vyrd_memory.proofs.Situations.{situation_after}
-use Rattle.vyrd_memory.proofs.LegalRuns.{IsRun}
-use Rattle.vyrd_every.specs.Structures.{shown_by}
-use Rattle.vyrd_every.specs.Trees.Shapes.{Shape, IsLinked}
-use Rattle.vyrd_every.specs.Trees.Locals.{TreeLocals, empty_tree_locals}
-use Rattle.vyrd_every.specs.Trees.RightScripts.{TreeReaches, TreeRight}
-use Rattle.vyrd_every.specs.Trees.Between.{TreeInvariant}
-use Rattle.vyrd_every.specs.Trees.Starts.{first_shape}
+use Rattle.vyrd_every.proofs.Prelude
+use Prelude.{◌≡◌, ℕ, ◌<◌, inl, true, false, List, [], refl, ap, subst, Header, Tree, Stamped}
+use Prelude.{Amounts, start, Act, Load, Store, Take, Give, Mark, Done, Memory, Script, stop, step}
+use Prelude.{next_act, left_after, Situation, holds, at_rest, AreSoundScripts, part_of, script_of}
+use Prelude.{is_done, situation_after, IsRun, shown_by, Shape, IsLinked, TreeLocals}
+use Prelude.{empty_tree_locals, TreeReaches, TreeRight, TreeInvariant, first_shape}
 use Rattle.vyrd_every.proofs.Keeping.{Keeping}
 use Rattle.vyrd_every.proofs.Trees.Starts.{starts_linked, starts_state}
 use Rattle.vyrd_every.proofs.Trees.NextEvent.{tree_next_event, tree_calm}

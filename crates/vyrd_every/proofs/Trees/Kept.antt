@@ -1,18 +1,10 @@
 -- The linked nodes after one of them has other entries.
-use Rattle.std.proofs.Common.{◌≡◌, ◌≢◌, ℕ, ◌+◌, ◌*◌, ◌<◌, ◌≤◌, ◌⊎◌, inl, inr, true, cond, refl, ap}
-use Rattle.std.proofs.Common.{◌∙◌, sym, subst, arith}
-use Rattle.std.specs.List.{AllByRecursion}
-use Rattle.vyrd_base.specs.Amounts.{Amounts, IsAmounts, amount_of}
-use Rattle.vyrd_memory.specs.Alone.{Memory}
-use Rattle.vyrd_tree.specs.Contents.{level_at, count_at, bound_at, right_at, last_in, root_in}
-use Rattle.vyrd_tree.specs.Contents.{IsChild, AreEntries, entries_at, entries_from, Covers, Entries}
-use Rattle.vyrd_tree.specs.Contents.{gives}
-use Rattle.vyrd_tree.specs.Laws.Alone.Entries.{each_more}
-use Rattle.vyrd_tree.specs.Laws.Alone.Changes.{entries_alike, Rewritten, off_node, apart_or}
-use Rattle.vyrd_every.specs.Trees.Shapes.{Shape, LeadsDown, HasEntries, LeadsRight, IsLinked}
-use Rattle.vyrd_every.specs.Trees.Shapes.{Unnamed, Hangs}
-use Rattle.vyrd_every.specs.Trees.States.{ShowsState}
-use Rattle.vyrd_every.specs.Trees.Others.{Grows}
+use Rattle.vyrd_every.proofs.Prelude
+use Prelude.{◌≡◌, ◌≢◌, ℕ, ◌+◌, ◌*◌, ◌<◌, ◌≤◌, ◌⊎◌, inl, inr, true, cond, refl, ap, ◌∙◌, sym, subst}
+use Prelude.{arith, AllByRecursion, Amounts, IsAmounts, amount_of, Memory, level_at, count_at}
+use Prelude.{bound_at, right_at, last_in, root_in, IsChild, AreEntries, entries_at, entries_from}
+use Prelude.{Covers, Entries, gives, each_more, entries_alike, Rewritten, off_node, apart_or, Shape}
+use Prelude.{LeadsDown, HasEntries, LeadsRight, IsLinked, Unnamed, Hangs, ShowsState, Grows}
 
 -- Lemmas about entries in vyrd_tree take a last node and levels. A node that isn't linked gets a
 -- level that is no child's.

@@ -1,53 +1,22 @@
 -- What the operations of the tree do in the leaf of their key: lookups, deletes, and the commits of
 -- others that split no node.
-use Rattle.std.proofs.Common.{◌≡◌, ◌≢◌, ℕ, suc, ◌+◌, ◌-◌, ◌<◌, ◌≤◌, ◌^◌, ◌⊎◌, inl, inr, Bool, true}
-use Rattle.std.proofs.Common.{false, cond, not, List, [], ◌∷◌, ◌++◌, Option, Some, None, length}
-use Rattle.std.proofs.Common.{refl, ap, ◌∙◌, sym, subst, arith}
-use Rattle.std.specs.Prelude.{◌||◌, drop, remove}
-use Rattle.std.specs.Bool.{then_some}
+use Rattle.vyrd_every.proofs.Prelude
+use Prelude.{◌≡◌, ◌≢◌, ℕ, suc, ◌+◌, ◌-◌, ◌<◌, ◌≤◌, ◌^◌, ◌⊎◌, inl, inr, Bool, true, false, cond, not}
+use Prelude.{List, [], ◌∷◌, ◌++◌, Option, Some, None, length, refl, ap, ◌∙◌, sym, subst, arith}
+use Prelude.{◌||◌, drop, remove, then_some, Header, Method, Delete, Lookup, Args, BlockCommit}
+use Prelude.{Called, is_observer, Amounts, amount_of, with_amount, next_state, answer_in, isnt_same}
+use Prelude.{Store, Mark, Correct, Memory, Script, perform, returns, gives_up, Situation, holds}
+use Prelude.{gone, is_there, isnt_there, count_cell, root_cell, lock_of, unlock_node, Arrived}
+use Prelude.{walk_from, write_entries, rewrite, changes_nothing, walk_down, place_of, reply_of}
+use Prelude.{look_in, lookup, delete_in, delete, holding, level_at, count_at, bound_at, root_in}
+use Prelude.{Rising, IsLeafEntry, entries_at, Covers, Entries, gives, gives-append, gives_none}
+use Prelude.{gives_one, entry_gives_none, take_front, drop_front, found_around, not_found, IsAround}
+use Prelude.{each_back, length_join, entries_removed, gives_around, length-entries, Rewritten}
+use Prelude.{loaded_at, changed_inside, value_is, never, written, Shape, HasEntries, IsLinked}
+use Prelude.{ShowsState, TreeLocals, TreeRely, TreeRight, TreeCommits}
 use Rattle.std.specs.List.{AllByRecursion as Each}
-use Rattle.vyrd_base.specs.declared.header.Header.{Header}
-use Rattle.vyrd_base.specs.declared.subject.Method.{Method}
 use Rattle.vyrd_base.specs.declared.subject.Method.TheVariants.{Tree as OfTree}
-use Rattle.vyrd_base.specs.declared.tree.TreeMethod.TheVariants.{Delete, Lookup}
-use Rattle.vyrd_base.specs.declared.subject.Args.{Args}
-use Rattle.vyrd_base.specs.declared.log.Kind.TheVariants.{BlockCommit}
-use Rattle.vyrd_base.specs.Callers.{Called}
-use Rattle.vyrd_base.specs.Subjects.{is_observer}
-use Rattle.vyrd_base.specs.Amounts.{Amounts, amount_of, with_amount}
-use Rattle.vyrd_base.specs.Specification.{next_state, answer_in}
 use Rattle.vyrd_base.proofs.AmountLaws.{amount_of-with_amount, IsAmounts-with_amount}
-use Rattle.vyrd_base.proofs.TestLaws.{isnt_same}
-use Rattle.vyrd_memory.specs.declared.act.Act.TheVariants.{Store, Mark}
-use Rattle.vyrd_memory.specs.declared.op.Variant.TheVariants.{Correct}
-use Rattle.vyrd_memory.specs.Alone.{Memory}
-use Rattle.vyrd_memory.specs.Scripts.{Script, perform, returns, gives_up}
-use Rattle.vyrd_memory.specs.Soundness.{Situation, holds}
-use Rattle.vyrd_memory.proofs.SoundActs.{gone}
-use Rattle.vyrd_memory.proofs.AloneLaws.{is_there, isnt_there}
-use Rattle.vyrd_tree.specs.Cells.{count_cell, root_cell, lock_of, unlock_node}
-use Rattle.vyrd_tree.specs.Procedures.Walk.{Arrived, walk_from}
-use Rattle.vyrd_tree.specs.Procedures.Split.{write_entries, rewrite}
-use Rattle.vyrd_tree.specs.Procedures.{changes_nothing, walk_down, place_of}
-use Rattle.vyrd_tree.specs.Procedures.{reply_of, look_in, lookup, delete_in, delete}
-use Rattle.vyrd_tree.specs.Laws.Sound.Acts.{holding}
-use Rattle.vyrd_tree.specs.Contents.{level_at, count_at, bound_at, root_in, Rising, IsLeafEntry}
-use Rattle.vyrd_tree.specs.Contents.{entries_at, Covers, Entries, gives}
-use Rattle.vyrd_tree.specs.Laws.Alone.Entries.{gives-append, gives_none, gives_one}
-use Rattle.vyrd_tree.specs.Laws.Alone.Entries.{entry_gives_none, take_front, drop_front}
-use Rattle.vyrd_tree.specs.Laws.Alone.Entries.{found_around, not_found, IsAround, each_back}
-use Rattle.vyrd_tree.specs.Laws.Alone.EntriesStaySound.{length_join, entries_removed, gives_around}
-use Rattle.vyrd_tree.specs.Laws.Alone.Tested.{length-entries}
-use Rattle.vyrd_tree.specs.Laws.Alone.Changes.{Rewritten}
-use Rattle.vyrd_tree.specs.Laws.Alone.WalkArrives.{loaded_at}
-use Rattle.vyrd_tree.specs.Laws.Alone.Done.{changed_inside, value_is}
-use Rattle.vyrd_every.proofs.Acts.{never}
-use Rattle.vyrd_every.specs.Locals.{written}
-use Rattle.vyrd_every.specs.Trees.Shapes.{Shape, HasEntries, IsLinked}
-use Rattle.vyrd_every.specs.Trees.States.{ShowsState}
-use Rattle.vyrd_every.specs.Trees.Locals.{TreeLocals}
-use Rattle.vyrd_every.specs.Trees.Others.{TreeRely}
-use Rattle.vyrd_every.specs.Trees.RightScripts.{TreeRight, TreeCommits}
 use Rattle.vyrd_every.proofs.Trees.Parts.{OwnsUnseen, unseen_stays, tree_rely_more, tree_load}
 use Rattle.vyrd_every.proofs.Trees.Parts.{tree_give_last, Changeless, changeless}
 use Rattle.vyrd_every.proofs.Trees.Walks.{AtNode, Onward, Arrives, walk_right}

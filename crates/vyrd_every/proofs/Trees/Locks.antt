@@ -1,23 +1,10 @@
 -- No lock is held by two callers.
-use Rattle.std.proofs.Common.{◌≡◌, ℕ, Bool, true, false, cond, not, ◌||◌, List, [], ◌∷◌, refl}
-use Rattle.std.proofs.Common.{arith}
-use Rattle.std.specs.Prelude.{◌==◌, filter}
-use Rattle.std.specs.List.{list_any}
-use Rattle.std.proofs.lemmas.Bool.Decides.{nat_tests}
-use Rattle.vyrd_base.specs.declared.header.Header.{Header}
-use Rattle.vyrd_base.specs.declared.log.Kind.TheVariants.{Call, Return, Write, Commit, BlockOpen}
-use Rattle.vyrd_base.specs.declared.log.Kind.TheVariants.{BlockClose, BlockCommit}
-use Rattle.vyrd_base.specs.declared.history.Did.{Did}
-use Rattle.vyrd_base.specs.declared.history.Did.TheVariants.{Read, Wrote, Took, Gave, Marked}
-use Rattle.vyrd_base.specs.declared.history.Stamped.{Stamped}
-use Rattle.vyrd_base.specs.Histories.{cells_of, is_lock}
-use Rattle.vyrd_base.proofs.TestLaws.{first_true, same_of}
-use Rattle.vyrd_memory.specs.Soundness.{holds}
-use Rattle.vyrd_memory.specs.Turns.{part_of}
-use Rattle.vyrd_memory.proofs.Situations.{situation_after, KeepsTo}
-use Rattle.vyrd_memory.proofs.LegalEvents.{AreLegal}
-use Rattle.vyrd_memory.proofs.HeldLocks.{held_is}
-use Rattle.vyrd_every.proofs.Acts.{never}
+use Rattle.vyrd_every.proofs.Prelude.{◌≡◌, ℕ, Bool, true, false, cond, not, ◌||◌, List, [], ◌∷◌}
+use Rattle.vyrd_every.proofs.Prelude.{refl, arith, ◌==◌, filter, list_any, nat_tests, Header, Call}
+use Rattle.vyrd_every.proofs.Prelude.{Return, Write, Commit, BlockOpen, BlockClose, BlockCommit}
+use Rattle.vyrd_every.proofs.Prelude.{Did, Read, Wrote, Took, Gave, Marked, Stamped, cells_of}
+use Rattle.vyrd_every.proofs.Prelude.{is_lock, first_true, same_of, holds, part_of, situation_after}
+use Rattle.vyrd_every.proofs.Prelude.{KeepsTo, AreLegal, held_is, never}
 
 any_kept : (p q : ℕ → Bool) (xs : List ℕ) → list_any p (filter q xs) ≡ true → list_any p xs ≡ true
 any_kept p q [] e = e

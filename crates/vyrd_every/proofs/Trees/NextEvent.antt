@@ -1,55 +1,21 @@
 -- One more event keeps the invariant of the tree.
-use Rattle.std.proofs.Common.{◌≡◌, ℕ, ◌<◌, ◌≤◌, ◌⊎◌, inl, inr, Bool, true, false, cond, List, []}
-use Rattle.std.proofs.Common.{◌∷◌, ◌++◌, length, refl, ap, ◌∙◌, sym, subst}
-use Rattle.std.proofs.lemmas.Option.{same_Some}
-use Rattle.std.specs.Prelude.{◌==◌, ◌&&◌, is_some, unwrap_or}
-use Rattle.std.specs.List.{cons_option}
-use Rattle.vyrd_base.specs.declared.header.Header.{Header}
-use Rattle.vyrd_base.specs.declared.log.Kind.{Kind}
-use Rattle.vyrd_base.specs.declared.log.Kind.TheVariants.{Call, Return, Write, Commit, BlockOpen}
-use Rattle.vyrd_base.specs.declared.log.Kind.TheVariants.{BlockClose, BlockCommit}
-use Rattle.vyrd_base.specs.declared.log.Entry.{Entry}
-use Rattle.vyrd_base.specs.declared.history.Did.{Did}
-use Rattle.vyrd_base.specs.declared.history.Did.TheVariants.{Read, Wrote, Took, Gave, Marked}
-use Rattle.vyrd_base.specs.declared.history.Stamped.{Stamped}
-use Rattle.vyrd_base.specs.Callers.{open_call, has_block, holds_word, entries_before_call}
-use Rattle.vyrd_base.specs.Amounts.{Amounts}
-use Rattle.vyrd_base.specs.Specification.{answer_in}
-use Rattle.vyrd_base.specs.Commits.{commit_count}
-use Rattle.vyrd_base.specs.Layout.{plain_words}
-use Rattle.vyrd_base.specs.Histories.{cells_of, value_in, may_do, is_plain, logged}
-use Rattle.vyrd_base.specs.Front.{WellFormed}
-use Rattle.vyrd_base.proofs.BlockLaws.{by_same, wrote, wrote_is}
-use Rattle.vyrd_base.proofs.HistoryLaws.{last_is_value}
-use Rattle.vyrd_base.proofs.ShadowLaws.{well_formed_sound}
-use Rattle.vyrd_base.proofs.TestLaws.{first_true, second_true, same_of, same_number, below_of}
+use Rattle.vyrd_every.proofs.Prelude
+use Prelude.{◌≡◌, ℕ, ◌<◌, ◌≤◌, ◌⊎◌, inl, inr, Bool, true, false, cond, List, [], ◌∷◌, ◌++◌, length}
+use Prelude.{refl, ap, ◌∙◌, sym, subst, same_Some, ◌==◌, ◌&&◌, is_some, unwrap_or, cons_option}
+use Prelude.{Header, Kind, Call, Return, Write, Commit, BlockOpen, BlockClose, BlockCommit, Entry}
+use Prelude.{Did, Read, Wrote, Took, Gave, Marked, Stamped, open_call, has_block, holds_word}
+use Prelude.{entries_before_call, Amounts, answer_in, commit_count, plain_words, cells_of, value_in}
+use Prelude.{may_do, is_plain, logged, WellFormed, by_same, wrote, wrote_is, last_is_value}
+use Prelude.{well_formed_sound, first_true, second_true, same_of, same_number, below_of}
+use Prelude.{commits_before_call, Mark, Memory, Script, after_answer, answer_of, left_after, Plays}
+use Prelude.{Situation, holds, may_act, after_act, part_of, script_of, AreSoundScripts}
+use Prelude.{act_of_event, situation_after, KeepsTo, AreLegal, caller_low, does, Agrees, agrees}
+use Prelude.{write_kept, mark_kept, IsRun, run_keeps, root_lock, level_at, root_in, shown_by}
+use Prelude.{Locals, written, answer_at, called_after, log_in, has_answer, Shape, ShowsState}
+use Prelude.{TreeLocals, AreApart, MayLoad, MayStore, seen_after, TreeRely, TreeReaches}
+use Prelude.{TreeCommits, TreeDoes, MayHold, OfTreeCaller, NoneOut, OneOut, TreeInvariant, never}
 use Rattle.vyrd_base.proofs.TestLaws.{flipped}
-use Rattle.vyrd_base.proofs.StateLaws.{commits_before_call}
-use Rattle.vyrd_memory.specs.declared.act.Act.TheVariants.{Mark}
-use Rattle.vyrd_memory.specs.Alone.{Memory}
-use Rattle.vyrd_memory.specs.Scripts.{Script, after_answer, answer_of, left_after, Plays}
-use Rattle.vyrd_memory.specs.Soundness.{Situation, holds, may_act, after_act}
-use Rattle.vyrd_memory.specs.Turns.{part_of, script_of}
-use Rattle.vyrd_memory.specs.Runs.{AreSoundScripts}
-use Rattle.vyrd_memory.proofs.Situations.{act_of_event, situation_after, KeepsTo}
-use Rattle.vyrd_memory.proofs.LegalEvents.{AreLegal, caller_low, does}
-use Rattle.vyrd_memory.proofs.Agreements.{Agrees, agrees}
-use Rattle.vyrd_memory.proofs.KeptRules.{write_kept, mark_kept}
-use Rattle.vyrd_memory.proofs.LegalRuns.{IsRun, run_keeps}
-use Rattle.vyrd_tree.specs.Cells.{root_lock}
-use Rattle.vyrd_tree.specs.Contents.{level_at, root_in}
-use Rattle.vyrd_every.specs.Structures.{shown_by}
-use Rattle.vyrd_every.specs.Locals.{Locals, written, answer_at, called_after}
-use Rattle.vyrd_every.specs.Between.{log_in, has_answer}
-use Rattle.vyrd_every.specs.Trees.Shapes.{Shape}
-use Rattle.vyrd_every.specs.Trees.States.{ShowsState}
-use Rattle.vyrd_every.specs.Trees.Locals.{TreeLocals, AreApart, MayLoad, MayStore}
-use Rattle.vyrd_every.specs.Trees.Seen.{seen_after}
-use Rattle.vyrd_every.specs.Trees.Others.{TreeRely}
-use Rattle.vyrd_every.specs.Trees.RightScripts.{TreeReaches, TreeCommits, TreeSees, TreeAnswers}
-use Rattle.vyrd_every.specs.Trees.RightScripts.{TreeDoes}
-use Rattle.vyrd_every.specs.Trees.Between.{MayHold, OfTreeCaller, NoneOut, OneOut, TreeInvariant}
-use Rattle.vyrd_every.proofs.Acts.{never}
+use Rattle.vyrd_every.specs.Trees.RightScripts.{TreeSees, TreeAnswers}
 use Rattle.vyrd_every.proofs.Logs.{held_by_none, write_unraced, IsNoWrite, mark_unraced}
 use Rattle.vyrd_every.proofs.Raw.{legal_too}
 use Rattle.vyrd_every.proofs.Answered.{commits_now, passed_after, passed_step, answer_more}

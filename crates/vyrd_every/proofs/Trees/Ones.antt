@@ -1,42 +1,17 @@
 -- What holds of one caller of the tree between any two events, and how one more event keeps it: its
 -- own, or another caller's.
-use Rattle.std.proofs.Common.{◌≡◌, ◌≢◌, ℕ, ◌<◌, ◌≤◌, ◌⊎◌, inl, inr, Bool, true, false, cond, List}
-use Rattle.std.proofs.Common.{◌∷◌, Some, None, refl, ap, ◌∙◌, sym, subst, arith}
-use Rattle.std.specs.Prelude.{◌==◌, ◌&&◌, is_some, unwrap_or}
-use Rattle.std.specs.Option.{option_or}
-use Rattle.std.specs.List.{cons_option}
-use Rattle.std.proofs.lemmas.Bool.{or_right}
-use Rattle.vyrd_base.specs.declared.header.Header.{Header}
-use Rattle.vyrd_base.specs.declared.log.Kind.TheVariants.{Call, Return, Write, Commit, BlockOpen}
-use Rattle.vyrd_base.specs.declared.log.Kind.TheVariants.{BlockClose, BlockCommit}
-use Rattle.vyrd_base.specs.declared.log.Entry.{Entry}
-use Rattle.vyrd_base.specs.declared.history.Did.{Did}
-use Rattle.vyrd_base.specs.declared.history.Did.TheVariants.{Read, Wrote, Took, Gave, Marked}
-use Rattle.vyrd_base.specs.Places.{first_answer}
-use Rattle.vyrd_base.specs.Callers.{by_caller, write_or_open, has_block, holds_word}
-use Rattle.vyrd_base.specs.Words.{block_writes}
-use Rattle.vyrd_base.specs.Histories.{logged}
-use Rattle.vyrd_base.proofs.BlockLaws.{entry, wrote, wrote_is, own_block, own_wrote}
-use Rattle.vyrd_base.proofs.TestLaws.{second_true, same_of, same_number, both_of}
-use Rattle.vyrd_memory.specs.declared.act.Act.{Act}
-use Rattle.vyrd_memory.specs.declared.act.Act.TheVariants.{Store, Take}
-use Rattle.vyrd_memory.specs.Alone.{Memory}
-use Rattle.vyrd_memory.specs.Scripts.{Script, stop, step, next_act, after_answer, event_of}
-use Rattle.vyrd_memory.specs.Scripts.{answer_of, left_after}
-use Rattle.vyrd_memory.specs.Soundness.{Situation, holds, may_act}
-use Rattle.vyrd_memory.specs.Soundness.{after_act}
-use Rattle.vyrd_memory.proofs.Situations.{act_of_event, situation_after, event_act}
-use Rattle.vyrd_memory.proofs.Agreements.{Agrees, four_true}
-use Rattle.vyrd_tree.specs.Cells.{root_cell, lock_of, root_lock}
-use Rattle.vyrd_tree.specs.Contents.{level_at, root_in}
-use Rattle.vyrd_every.specs.Locals.{written, pending_after, called_after, answer_at}
-use Rattle.vyrd_every.specs.Trees.Shapes.{Shape, IsLinked}
-use Rattle.vyrd_every.specs.Trees.Locals.{TreeLocals, IsWordOf, InNode, MayStore}
-use Rattle.vyrd_every.specs.Trees.Seen.{seen_after}
-use Rattle.vyrd_every.specs.Trees.Others.{TreeRely}
-use Rattle.vyrd_every.specs.Trees.RightScripts.{TreeReaches, TreeDoes, TreeRight}
-use Rattle.vyrd_every.specs.Trees.Between.{MayHold, OfTreeCaller}
-use Rattle.vyrd_every.proofs.Acts.{never}
+use Rattle.vyrd_every.proofs.Prelude
+use Prelude.{◌≡◌, ◌≢◌, ℕ, ◌<◌, ◌≤◌, ◌⊎◌, inl, inr, Bool, true, false, cond, List, ◌∷◌, Some, None}
+use Prelude.{refl, ap, ◌∙◌, sym, subst, arith, ◌==◌, ◌&&◌, is_some, unwrap_or, option_or}
+use Prelude.{cons_option, or_right, Header, Call, Return, Write, Commit, BlockOpen, BlockClose}
+use Prelude.{BlockCommit, Entry, Did, Read, Wrote, Took, Gave, Marked, first_answer, by_caller}
+use Prelude.{write_or_open, has_block, holds_word, block_writes, logged, entry, wrote, wrote_is}
+use Prelude.{own_block, own_wrote, second_true, same_of, same_number, both_of, Act, Store, Take}
+use Prelude.{Memory, Script, stop, step, next_act, after_answer, event_of, answer_of, left_after}
+use Prelude.{Situation, holds, may_act, after_act, act_of_event, situation_after, event_act, Agrees}
+use Prelude.{four_true, root_cell, lock_of, root_lock, level_at, root_in, written, pending_after}
+use Prelude.{called_after, answer_at, Shape, IsLinked, TreeLocals, IsWordOf, InNode, MayStore}
+use Prelude.{seen_after, TreeRely, TreeReaches, TreeDoes, TreeRight, MayHold, OfTreeCaller, never}
 use Rattle.vyrd_every.proofs.Logs.{pending_step, pending_other, called_step, called_other}
 use Rattle.vyrd_every.proofs.Logs.{word_other}
 use Rattle.vyrd_every.proofs.Trees.Parts.{grows_same, tree_rely_more}

@@ -1,11 +1,8 @@
 -- What follows of the rules of the linked nodes: those of a level have ranges of keys that share
 -- none.
-use Rattle.std.proofs.Common.{◌≡◌, ◌≢◌, ℕ, zero, suc, ◌<◌, ◌≤◌, ◌⊎◌, inl, inr, true, ap, ◌∙◌, sym}
-use Rattle.std.proofs.Common.{arith}
-use Rattle.vyrd_memory.specs.Alone.{Memory}
-use Rattle.vyrd_tree.specs.Contents.{level_at, bound_at, right_at, Below, Covers}
-use Rattle.vyrd_tree.specs.Laws.Alone.Counts.{zero_or, le_or}
-use Rattle.vyrd_every.specs.Trees.Shapes.{Shape, IsLinked}
+use Rattle.vyrd_every.proofs.Prelude.{◌≡◌, ◌≢◌, ℕ, zero, suc, ◌<◌, ◌≤◌, ◌⊎◌, inl, inr, true, ap}
+use Rattle.vyrd_every.proofs.Prelude.{◌∙◌, sym, arith, Memory, level_at, bound_at, right_at, Below}
+use Rattle.vyrd_every.proofs.Prelude.{Covers, zero_or, le_or, Shape, IsLinked}
 
 -- the node on the left, with what the link says
 pub record IsLeftIn (size : ℕ) (g : Shape) (m : Memory) (n node : ℕ) : Type 0 where

@@ -1,18 +1,9 @@
 -- What one caller's act leaves alone is what the others rely on.
-use Rattle.std.proofs.Common.{◌≡◌, ℕ, ◌<◌, ◌⊎◌, inl, inr, true, false, Some, ap, ◌∙◌, sym, arith}
-use Rattle.vyrd_base.specs.declared.header.Header.{Header}
-use Rattle.vyrd_memory.specs.declared.act.Act.{Act}
-use Rattle.vyrd_memory.specs.Alone.{Memory}
-use Rattle.vyrd_memory.specs.Scripts.{Script}
-use Rattle.vyrd_memory.specs.Soundness.{Situation, holds}
-use Rattle.vyrd_tree.specs.Cells.{lock_of, root_lock, used_lock}
-use Rattle.vyrd_tree.specs.Contents.{level_at, last_in, root_in}
-use Rattle.vyrd_every.proofs.Acts.{never}
-use Rattle.vyrd_every.specs.Trees.Shapes.{Shape, IsLinked}
-use Rattle.vyrd_every.specs.Trees.Locals.{TreeLocals, Owns, AreApart}
-use Rattle.vyrd_every.specs.Trees.Seen.{seen_after}
-use Rattle.vyrd_every.specs.Trees.Others.{TreeRely}
-use Rattle.vyrd_every.specs.Trees.RightScripts.{TreeDoes}
+use Rattle.vyrd_every.proofs.Prelude.{◌≡◌, ℕ, ◌<◌, ◌⊎◌, inl, inr, true, false, Some, ap, ◌∙◌, sym}
+use Rattle.vyrd_every.proofs.Prelude.{arith, Header, Act, Memory, Script, Situation, holds, lock_of}
+use Rattle.vyrd_every.proofs.Prelude.{root_lock, used_lock, level_at, last_in, root_in, never}
+use Rattle.vyrd_every.proofs.Prelude.{Shape, IsLinked, TreeLocals, Owns, AreApart, seen_after}
+use Rattle.vyrd_every.proofs.Prelude.{TreeRely, TreeDoes}
 
 -- The act of one caller, for another one. No lock is held by both.
 pub others_rely : (h : Header) (s its : Situation) (k other : TreeLocals) (g : Shape) (m : Memory)

@@ -1,24 +1,11 @@
 -- Single acts of a script of the tree that change nothing, and what a caller knows still, whatever
 -- the others do.
-use Rattle.std.proofs.Common.{◌≡◌, ℕ, ◌<◌, ◌≤◌, ◌⊎◌, inl, Bool, true, false, List, [], ◌∷◌, Some}
-use Rattle.std.proofs.Common.{refl, ◌∙◌, sym, subst, arith}
-use Rattle.std.specs.Prelude.{◌||◌}
-use Rattle.vyrd_base.specs.declared.header.Header.{Header}
-use Rattle.vyrd_base.specs.declared.subject.Method.{Method}
-use Rattle.vyrd_memory.specs.declared.act.Act.TheVariants.{Load, Take, Give}
-use Rattle.vyrd_memory.specs.Alone.{Memory}
-use Rattle.vyrd_memory.specs.Scripts.{Script, step, perform}
-use Rattle.vyrd_memory.specs.Soundness.{Situation, holds, after_act}
-use Rattle.vyrd_memory.proofs.SoundActs.{gone}
-use Rattle.vyrd_tree.specs.Cells.{lock_of, root_lock}
-use Rattle.vyrd_tree.specs.Contents.{level_at, last_in, root_in}
-use Rattle.vyrd_tree.specs.Laws.Sound.Acts.{holding}
-use Rattle.vyrd_every.proofs.Acts.{never}
-use Rattle.vyrd_every.specs.Trees.Shapes.{Shape, IsLinked, Hangs}
-use Rattle.vyrd_every.specs.Trees.Others.{Grows}
-use Rattle.vyrd_every.specs.Trees.Locals.{TreeLocals, MayLoad}
-use Rattle.vyrd_every.specs.Trees.Others.{TreeRely, TreeLeaves}
-use Rattle.vyrd_every.specs.Trees.RightScripts.{TreeRight}
+use Rattle.vyrd_every.proofs.Prelude.{◌≡◌, ℕ, ◌<◌, ◌≤◌, ◌⊎◌, inl, Bool, true, false, List, [], ◌∷◌}
+use Rattle.vyrd_every.proofs.Prelude.{Some, refl, ◌∙◌, sym, subst, arith, ◌||◌, Header, Method}
+use Rattle.vyrd_every.proofs.Prelude.{Load, Take, Give, Memory, Script, step, perform, Situation}
+use Rattle.vyrd_every.proofs.Prelude.{holds, after_act, gone, lock_of, root_lock, level_at, last_in}
+use Rattle.vyrd_every.proofs.Prelude.{root_in, holding, never, Shape, IsLinked, Hangs, Grows}
+use Rattle.vyrd_every.proofs.Prelude.{TreeLocals, MayLoad, TreeRely, TreeLeaves, TreeRight}
 
 -- What a caller's locals say between two of its acts, but while a new root is seen before its block
 -- is closed: they own what

@@ -1,29 +1,13 @@
 -- Whatever an ascent finds, the insert returns 1 after it. So every insert does right.
-use Rattle.std.proofs.Common.{ℕ, zero, suc, ◌+◌, ◌<◌, ◌^◌, Bool, true, false, cond, List, [], ◌∷◌}
-use Rattle.std.proofs.Common.{length, refl}
-use Rattle.std.specs.Prelude.{◌==◌, nat_lt, nat_le, min, drop}
-use Rattle.vyrd_base.specs.declared.header.Header.{Header}
+use Rattle.vyrd_every.proofs.Prelude
+use Prelude.{ℕ, zero, suc, ◌+◌, ◌<◌, ◌^◌, Bool, true, false, cond, List, [], ◌∷◌, length, refl}
+use Prelude.{◌==◌, nat_lt, nat_le, min, drop, Header, Insert, Args, BlockOpen, BlockClose, Correct}
+use Prelude.{Store, Mark, Memory, Script, perform, returns, root_cell, unlock_node, unlock_root}
+use Prelude.{Arrived, load_keys, load_values, to_child, load_rest, is_past, walk_from, with_unused}
+use Prelude.{write_entries, write_node, with_entry, place_below, split_entry, split_key, lower_half}
+use Prelude.{upper_half, add_child, ascend_once, ascend, insert_entry, holding, WillReturn, Shape}
+use Prelude.{IsLinked, TreeLocals, TreeRight}
 use Rattle.vyrd_base.specs.declared.subject.Method.TheVariants.{Tree as OfTree}
-use Rattle.vyrd_base.specs.declared.tree.TreeMethod.TheVariants.{Insert}
-use Rattle.vyrd_base.specs.declared.subject.Args.{Args}
-use Rattle.vyrd_base.specs.declared.log.Kind.TheVariants.{BlockOpen, BlockClose}
-use Rattle.vyrd_memory.specs.declared.op.Variant.TheVariants.{Correct}
-use Rattle.vyrd_memory.specs.declared.act.Act.TheVariants.{Store, Mark}
-use Rattle.vyrd_memory.specs.Alone.{Memory}
-use Rattle.vyrd_memory.specs.Scripts.{Script, perform, returns}
-use Rattle.vyrd_tree.specs.Cells.{root_cell, unlock_node, unlock_root}
-use Rattle.vyrd_tree.specs.Procedures.Walk.{Arrived, load_keys, load_values, to_child, load_rest}
-use Rattle.vyrd_tree.specs.Procedures.Walk.{is_past, walk_from}
-use Rattle.vyrd_tree.specs.Procedures.Split.{with_unused, write_entries, write_node, with_entry}
-use Rattle.vyrd_tree.specs.Procedures.Split.{place_below, split_entry, split_key, lower_half}
-use Rattle.vyrd_tree.specs.Procedures.Split.{upper_half}
-use Rattle.vyrd_tree.specs.Procedures.Ascent.{add_child, ascend_once, ascend}
-use Rattle.vyrd_tree.specs.Procedures.{insert_entry}
-use Rattle.vyrd_tree.specs.Laws.Sound.Acts.{holding}
-use Rattle.vyrd_every.specs.RightScripts.{WillReturn}
-use Rattle.vyrd_every.specs.Trees.Shapes.{Shape, IsLinked}
-use Rattle.vyrd_every.specs.Trees.Locals.{TreeLocals}
-use Rattle.vyrd_every.specs.Trees.RightScripts.{TreeRight}
 use Rattle.vyrd_every.proofs.Trees.Parts.{OwnsUnseen}
 use Rattle.vyrd_every.proofs.Trees.Leafs.{IsBare}
 use Rattle.vyrd_every.proofs.Trees.Inserts.{insert_right}

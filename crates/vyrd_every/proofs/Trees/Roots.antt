@@ -1,39 +1,17 @@
 -- A new root does right: it is seen from the moment on when the root's word is stored, and shown
 -- when its block is closed.
-use Rattle.std.proofs.Common.{◌≡◌, ◌≢◌, ℕ, ◌+◌, ◌*◌, ◌<◌, ◌≤◌, ◌⊎◌, inl, inr, true, false, cond}
-use Rattle.std.proofs.Common.{List, [], ◌∷◌, Some, None, refl, ap, ◌∙◌, sym, subst, arith}
-use Rattle.std.specs.Prelude.{◌==◌}
+use Rattle.vyrd_every.proofs.Prelude
+use Prelude.{◌≡◌, ◌≢◌, ℕ, ◌+◌, ◌*◌, ◌<◌, ◌≤◌, ◌⊎◌, inl, inr, true, false, cond, List, [], ◌∷◌, Some}
+use Prelude.{None, refl, ap, ◌∙◌, sym, subst, arith, ◌==◌, Header, Insert, Args, BlockOpen}
+use Prelude.{BlockClose, Amounts, amount_of, same_of, same_number, is_same, isnt_same, Store, Mark}
+use Prelude.{Memory, with_cell, changed_cell, other_cell, Script, perform, returns, Situation}
+use Prelude.{holds, root_cell, root_lock, unlock_root, write_node, grow_root, holding, level_at}
+use Prelude.{count_at, bound_at, right_at, last_in, root_in, entries_at, entries_from, Covers}
+use Prelude.{Entries, gives, entries_alike, new_low, old_low, off_words, NodeWritten, never}
+use Prelude.{written, Shape, HasEntries, LeadsRight, HasNeighbour, IsLinked, Hangs, ShowsState}
+use Prelude.{Grows, TreeLocals, IsWordOf, TreeRely, TreeLeaves, TreeRight}
 use Rattle.std.specs.List.{AllByRecursion as Each}
-use Rattle.vyrd_base.specs.declared.header.Header.{Header}
 use Rattle.vyrd_base.specs.declared.subject.Method.TheVariants.{Tree as OfTree}
-use Rattle.vyrd_base.specs.declared.tree.TreeMethod.TheVariants.{Insert}
-use Rattle.vyrd_base.specs.declared.subject.Args.{Args}
-use Rattle.vyrd_base.specs.declared.log.Kind.TheVariants.{BlockOpen, BlockClose}
-use Rattle.vyrd_base.specs.Amounts.{Amounts, amount_of}
-use Rattle.vyrd_base.proofs.TestLaws.{same_of, same_number, is_same, isnt_same}
-use Rattle.vyrd_memory.specs.declared.act.Act.TheVariants.{Store, Mark}
-use Rattle.vyrd_memory.specs.Alone.{Memory, with_cell}
-use Rattle.vyrd_memory.proofs.Memories.{changed_cell, other_cell}
-use Rattle.vyrd_memory.specs.Scripts.{Script, perform, returns}
-use Rattle.vyrd_memory.specs.Soundness.{Situation, holds}
-use Rattle.vyrd_tree.specs.Cells.{root_cell, root_lock, unlock_root}
-use Rattle.vyrd_tree.specs.Procedures.Split.{write_node}
-use Rattle.vyrd_tree.specs.Procedures.Ascent.{grow_root}
-use Rattle.vyrd_tree.specs.Laws.Sound.Acts.{holding}
-use Rattle.vyrd_tree.specs.Contents.{level_at, count_at, bound_at, right_at, last_in, root_in}
-use Rattle.vyrd_tree.specs.Contents.{entries_at, entries_from, Covers, Entries, gives}
-use Rattle.vyrd_tree.specs.Laws.Alone.Changes.{entries_alike}
-use Rattle.vyrd_tree.specs.Laws.Alone.SplitKeepsTree.{new_low, old_low, off_words}
-use Rattle.vyrd_tree.specs.Laws.Alone.SplitWrites.{NodeWritten}
-use Rattle.vyrd_every.proofs.Acts.{never}
-use Rattle.vyrd_every.specs.Locals.{written}
-use Rattle.vyrd_every.specs.Trees.Shapes.{Shape, HasEntries, LeadsRight, HasNeighbour, IsLinked}
-use Rattle.vyrd_every.specs.Trees.Shapes.{Hangs}
-use Rattle.vyrd_every.specs.Trees.States.{ShowsState}
-use Rattle.vyrd_every.specs.Trees.Others.{Grows}
-use Rattle.vyrd_every.specs.Trees.Locals.{TreeLocals, IsWordOf}
-use Rattle.vyrd_every.specs.Trees.Others.{TreeRely, TreeLeaves}
-use Rattle.vyrd_every.specs.Trees.RightScripts.{TreeRight}
 use Rattle.vyrd_every.proofs.Trees.Parts.{OwnsUnseen, unseen_stays, tree_rely_more, Changeless}
 use Rattle.vyrd_every.proofs.Trees.Parts.{changeless}
 use Rattle.vyrd_every.proofs.Trees.Kept.{entries_grow, linked_low}

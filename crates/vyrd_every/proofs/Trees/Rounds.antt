@@ -1,32 +1,14 @@
 -- The rounds of an ascent, where a new root does right.
-use Rattle.std.proofs.Common.{◌≡◌, ℕ, zero, suc, ◌+◌, ◌<◌, ◌≤◌, ◌⊎◌, inl, inr, Bool, true, false}
-use Rattle.std.proofs.Common.{cond, [], ◌∷◌, length, refl, ap, ◌∙◌, sym, subst, arith}
-use Rattle.std.specs.Prelude.{nat_lt, nat_le}
-use Rattle.vyrd_base.specs.declared.header.Header.{Header}
+use Rattle.vyrd_every.proofs.Prelude
+use Prelude.{◌≡◌, ℕ, zero, suc, ◌+◌, ◌<◌, ◌≤◌, ◌⊎◌, inl, inr, Bool, true, false, cond, [], ◌∷◌}
+use Prelude.{length, refl, ap, ◌∙◌, sym, subst, arith, nat_lt, nat_le, Header, Insert, Args}
+use Prelude.{BlockClose, is_at_most, same_number, is_below, isnt_below, isnt_at_most, Load, Correct}
+use Prelude.{Memory, Script, step, returns, Situation, holds, level_cell, root_cell, root_lock}
+use Prelude.{lock_of, unlock_node, unlock_root, walk_from, with_unused, add_entry, split_entry}
+use Prelude.{split_key, grow_root, add_child, ascend_once, ascend, holding, le_or, level_at}
+use Prelude.{count_at, root_in, entries_at, length-entries, loaded_at, Shape, IsLinked, TreeLocals}
+use Prelude.{TreeRely, TreeRight}
 use Rattle.vyrd_base.specs.declared.subject.Method.TheVariants.{Tree as OfTree}
-use Rattle.vyrd_base.specs.declared.tree.TreeMethod.TheVariants.{Insert}
-use Rattle.vyrd_base.specs.declared.subject.Args.{Args}
-use Rattle.vyrd_base.specs.declared.log.Kind.TheVariants.{BlockClose}
-use Rattle.vyrd_base.proofs.TestLaws.{is_at_most, same_number, is_below, isnt_below, isnt_at_most}
-use Rattle.vyrd_memory.specs.declared.act.Act.TheVariants.{Load}
-use Rattle.vyrd_memory.specs.declared.op.Variant.TheVariants.{Correct}
-use Rattle.vyrd_memory.specs.Alone.{Memory}
-use Rattle.vyrd_memory.specs.Scripts.{Script, step, returns}
-use Rattle.vyrd_memory.specs.Soundness.{Situation, holds}
-use Rattle.vyrd_tree.specs.Cells.{level_cell, root_cell, root_lock, lock_of, unlock_node}
-use Rattle.vyrd_tree.specs.Cells.{unlock_root}
-use Rattle.vyrd_tree.specs.Procedures.Walk.{walk_from}
-use Rattle.vyrd_tree.specs.Procedures.Split.{with_unused, add_entry, split_entry, split_key}
-use Rattle.vyrd_tree.specs.Procedures.Ascent.{grow_root, add_child, ascend_once, ascend}
-use Rattle.vyrd_tree.specs.Laws.Sound.Acts.{holding}
-use Rattle.vyrd_tree.specs.Laws.Alone.Counts.{le_or}
-use Rattle.vyrd_tree.specs.Contents.{level_at, count_at, root_in, entries_at}
-use Rattle.vyrd_tree.specs.Laws.Alone.Tested.{length-entries}
-use Rattle.vyrd_tree.specs.Laws.Alone.WalkArrives.{loaded_at}
-use Rattle.vyrd_every.specs.Trees.Shapes.{Shape, IsLinked}
-use Rattle.vyrd_every.specs.Trees.Locals.{TreeLocals}
-use Rattle.vyrd_every.specs.Trees.Others.{TreeRely}
-use Rattle.vyrd_every.specs.Trees.RightScripts.{TreeRight}
 use Rattle.vyrd_every.proofs.Trees.Parts.{OwnsUnseen, unseen_stays, tree_load, tree_take}
 use Rattle.vyrd_every.proofs.Trees.Parts.{tree_give_last}
 use Rattle.vyrd_every.proofs.Trees.Walks.{Onward, walk_right}

@@ -1,42 +1,16 @@
 -- What the log shows has the leaves that callers see. So the state that the tree shows is the view
 -- of the log's words.
-use Rattle.std.proofs.Common.{◌≡◌, ◌≢◌, ℕ, zero, suc, ◌+◌, ◌*◌, ◌<◌, ◌⊎◌, inl, inr, Bool, true}
-use Rattle.std.proofs.Common.{false, List, [], ◌∷◌, ◌++◌, map, refl, ap, ◌∙◌, sym, subst, arith}
-use Rattle.std.specs.Prelude.{◌==◌, ◌&&◌, ◌||◌, nat_le, slice_index, is_some}
-use Rattle.std.specs.List.{list_any}
-use Rattle.vyrd_base.proofs.PlaceLaws.{map_alike_from}
-use Rattle.vyrd_base.specs.declared.header.Header.{Header}
-use Rattle.vyrd_base.specs.declared.subject.Subject.TheVariants.{Tree}
-use Rattle.vyrd_base.specs.declared.log.Entry.{Entry}
-use Rattle.vyrd_base.specs.declared.history.Stamped.{Stamped}
-use Rattle.vyrd_base.specs.Places.{numbers_below}
-use Rattle.vyrd_base.specs.Callers.{has_block}
-use Rattle.vyrd_base.specs.Layout.{plain_words, plain_words_of}
-use Rattle.vyrd_base.specs.Amounts.{Amounts, amount_of, collected, given}
-use Rattle.vyrd_base.specs.BlockEnds.{ended_effects, ended_value, ended_words}
-use Rattle.vyrd_base.specs.Views.{view_of_words, parts_of}
-use Rattle.vyrd_base.specs.Tree.{right_of, node_parts, damage, chain_parts_from, chain_parts}
-use Rattle.vyrd_base.proofs.BlockLaws.{wrote, wrote_is}
-use Rattle.vyrd_memory.specs.Alone.{Memory}
-use Rattle.vyrd_memory.specs.Scripts.{Script}
-use Rattle.vyrd_memory.specs.Turns.{part_of}
-use Rattle.vyrd_memory.specs.Runs.{AreSoundScripts}
-use Rattle.vyrd_memory.proofs.Situations.{situation_after}
-use Rattle.vyrd_memory.proofs.Agreements.{agrees}
-use Rattle.vyrd_memory.proofs.LegalRuns.{IsRun, run_keeps}
-use Rattle.vyrd_memory.proofs.NumberLists.{element_below}
-use Rattle.vyrd_memory.proofs.PartSums.{collected-is}
-use Rattle.vyrd_tree.specs.Cells.{root_cell}
-use Rattle.vyrd_tree.specs.Laws.Alone.Counts.{zero_or}
-use Rattle.vyrd_tree.specs.Contents.{level_at, last_in, root_in}
-use Rattle.vyrd_tree.specs.Laws.Alone.Order.{after_few}
-use Rattle.vyrd_every.specs.Structures.{shown_by}
-use Rattle.vyrd_every.specs.Between.{log_in}
-use Rattle.vyrd_every.specs.Trees.Shapes.{Shape, IsLinked}
-use Rattle.vyrd_every.specs.Trees.States.{ShowsState}
-use Rattle.vyrd_every.specs.Trees.Locals.{TreeLocals, IsWordOf}
-use Rattle.vyrd_every.specs.Trees.Between.{MayHold, NoneOut, OneOut, TreeInvariant}
-use Rattle.vyrd_every.proofs.Acts.{never}
+use Rattle.vyrd_every.proofs.Prelude
+use Prelude.{◌≡◌, ◌≢◌, ℕ, zero, suc, ◌+◌, ◌*◌, ◌<◌, ◌⊎◌, inl, inr, Bool, true, false, List, [], ◌∷◌}
+use Prelude.{◌++◌, map, refl, ap, ◌∙◌, sym, subst, arith, ◌==◌, ◌&&◌, ◌||◌, nat_le, slice_index}
+use Prelude.{is_some, list_any, map_alike_from, Header, Tree, Entry, Stamped, numbers_below}
+use Prelude.{has_block, plain_words, plain_words_of, Amounts, amount_of, collected, given}
+use Prelude.{ended_effects, ended_value, ended_words, view_of_words, parts_of, right_of, node_parts}
+use Prelude.{damage, chain_parts_from, chain_parts, wrote, wrote_is, Memory, Script, part_of}
+use Prelude.{AreSoundScripts, situation_after, agrees, IsRun, run_keeps, element_below}
+use Prelude.{collected-is, root_cell, zero_or, level_at, last_in, root_in, after_few, shown_by}
+use Prelude.{log_in, Shape, IsLinked, ShowsState, TreeLocals, IsWordOf, MayHold, NoneOut, OneOut}
+use Prelude.{TreeInvariant, never}
 use Rattle.vyrd_every.proofs.Trees.Kept.{linked_low}
 use Rattle.vyrd_every.proofs.Trees.Unused.{SameNodes, nodes_linked, nodes_state}
 use Rattle.vyrd_every.proofs.Trees.Written.{given_by, not_written}

@@ -1,38 +1,16 @@
 -- The block of a split: its stores, and what they leave.
-use Rattle.std.proofs.Common.{◌≡◌, ◌≢◌, ℕ, ◌+◌, ◌*◌, ◌<◌, ◌≤◌, ◌⊎◌, inl, inr, Bool, true, false}
-use Rattle.std.proofs.Common.{cond, List, [], ◌∷◌, ◌++◌, Some, length, refl, ap, ◌∙◌, sym, subst}
-use Rattle.std.proofs.Common.{arith}
-use Rattle.std.specs.Prelude.{◌==◌, drop}
+use Rattle.vyrd_every.proofs.Prelude
+use Prelude.{◌≡◌, ◌≢◌, ℕ, ◌+◌, ◌*◌, ◌<◌, ◌≤◌, ◌⊎◌, inl, inr, Bool, true, false, cond, List, [], ◌∷◌}
+use Prelude.{◌++◌, Some, length, refl, ap, ◌∙◌, sym, subst, arith, ◌==◌, drop, Header, Method}
+use Prelude.{is_same, isnt_same, Store, Memory, with_cell, changed_cell, other_cell, Script}
+use Prelude.{perform, Situation, holds, root_cell, lock_of, write_entries, lower_half, upper_half}
+use Prelude.{first_key, split, holding, level_at, count_at, bound_at, right_at, last_in, root_in}
+use Prelude.{entries_at, entries_from, Entries, each_front, each_back, length_join, AreHalves}
+use Prelude.{length-entries, entries_alike, Written, front_stands, old_low, off_words, NodeWritten}
+use Prelude.{loaded_at, never, written, Shape, IsLinked, Hangs, Grows, TreeLocals, TreeLeaves}
 use Rattle.std.specs.List.{AllByRecursion as Each}
-use Rattle.vyrd_base.specs.declared.header.Header.{Header}
-use Rattle.vyrd_base.specs.declared.subject.Method.{Method}
-use Rattle.vyrd_base.proofs.TestLaws.{is_same, isnt_same}
-use Rattle.vyrd_memory.specs.declared.act.Act.TheVariants.{Store}
-use Rattle.vyrd_memory.specs.Alone.{Memory, with_cell}
-use Rattle.vyrd_memory.proofs.Memories.{changed_cell, other_cell}
-use Rattle.vyrd_memory.specs.Scripts.{Script, perform}
-use Rattle.vyrd_memory.specs.Soundness.{Situation, holds}
-use Rattle.vyrd_tree.specs.Cells.{root_cell, lock_of}
-use Rattle.vyrd_tree.specs.Procedures.Split.{write_entries, lower_half, upper_half, first_key}
-use Rattle.vyrd_tree.specs.Procedures.Split.{split}
-use Rattle.vyrd_tree.specs.Laws.Sound.Acts.{holding}
-use Rattle.vyrd_tree.specs.Contents.{level_at, count_at, bound_at, right_at, last_in, root_in}
-use Rattle.vyrd_tree.specs.Contents.{entries_at, entries_from, Entries}
-use Rattle.vyrd_tree.specs.Laws.Alone.Entries.{each_front, each_back}
-use Rattle.vyrd_tree.specs.Laws.Alone.EntriesStaySound.{length_join, AreHalves}
-use Rattle.vyrd_tree.specs.Laws.Alone.Tested.{length-entries}
-use Rattle.vyrd_tree.specs.Laws.Alone.Changes.{entries_alike}
-use Rattle.vyrd_tree.specs.Laws.Alone.Played.{Written, front_stands}
-use Rattle.vyrd_tree.specs.Laws.Alone.SplitKeepsTree.{old_low, off_words}
-use Rattle.vyrd_tree.specs.Laws.Alone.SplitWrites.{NodeWritten, IsLower, lower_stood}
-use Rattle.vyrd_tree.specs.Laws.Alone.SplitWrites.{written_nowhere, written_at}
-use Rattle.vyrd_tree.specs.Laws.Alone.WalkArrives.{loaded_at}
-use Rattle.vyrd_every.proofs.Acts.{never}
-use Rattle.vyrd_every.specs.Locals.{written}
-use Rattle.vyrd_every.specs.Trees.Shapes.{Shape, IsLinked, Hangs}
-use Rattle.vyrd_every.specs.Trees.Others.{Grows}
-use Rattle.vyrd_every.specs.Trees.Locals.{TreeLocals}
-use Rattle.vyrd_every.specs.Trees.Others.{TreeLeaves}
+use Rattle.vyrd_tree.specs.Laws.Alone.SplitWrites.{IsLower, lower_stood, written_nowhere}
+use Rattle.vyrd_tree.specs.Laws.Alone.SplitWrites.{written_at}
 use Rattle.vyrd_every.proofs.Trees.Parts.{OwnsUnseen, unseen_stays, tree_rely_more, Changeless}
 use Rattle.vyrd_every.proofs.Trees.Parts.{changeless}
 use Rattle.vyrd_every.proofs.Trees.Walks.{AtNode}

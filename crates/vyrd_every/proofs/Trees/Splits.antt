@@ -1,24 +1,13 @@
 -- The linked nodes after one of them was split, and the new node is linked on its right.
-use Rattle.std.proofs.Common.{◌≡◌, ◌≢◌, ℕ, ◌+◌, ◌*◌, ◌<◌, ◌≤◌, ◌⊎◌, inl, inr, true, false, cond}
-use Rattle.std.proofs.Common.{refl, ap, ◌∙◌, sym, subst, arith}
-use Rattle.std.specs.Prelude.{◌==◌}
+use Rattle.vyrd_every.proofs.Prelude
+use Prelude.{◌≡◌, ◌≢◌, ℕ, ◌+◌, ◌*◌, ◌<◌, ◌≤◌, ◌⊎◌, inl, inr, true, false, cond, refl, ap, ◌∙◌, sym}
+use Prelude.{subst, arith, ◌==◌, Amounts, IsAmounts, amount_of, same_of, is_same, isnt_same, Memory}
+use Prelude.{level_at, count_at, bound_at, right_at, last_in, root_in, entries_at, Covers, Entries}
+use Prelude.{gives, each_more, gives-append, gives_none, AreHalves, entries_alike, new_low, old_low}
+use Prelude.{off_words, lower_half, upper_half, first_key, never, Shape, LeadsDown, HasEntries}
+use Prelude.{LeadsRight, HasNeighbour, IsLinked, Unnamed, Hangs, ShowsState, Grows}
 use Rattle.std.specs.List.{AllByRecursion as Each}
-use Rattle.vyrd_base.specs.Amounts.{Amounts, IsAmounts, amount_of}
-use Rattle.vyrd_base.proofs.TestLaws.{same_of, is_same, isnt_same}
-use Rattle.vyrd_memory.specs.Alone.{Memory}
-use Rattle.vyrd_tree.specs.Contents.{level_at, count_at, bound_at, right_at, last_in, root_in}
-use Rattle.vyrd_tree.specs.Contents.{entries_at, Covers, Entries, gives}
-use Rattle.vyrd_tree.specs.Laws.Alone.Entries.{each_more, gives-append, gives_none}
-use Rattle.vyrd_tree.specs.Laws.Alone.EntriesStaySound.{AreHalves}
-use Rattle.vyrd_tree.specs.Laws.Alone.Changes.{entries_alike}
-use Rattle.vyrd_tree.specs.Laws.Alone.SplitKeepsTree.{with_low, new_low, old_low, same_or}
-use Rattle.vyrd_tree.specs.Laws.Alone.SplitKeepsTree.{off_words}
-use Rattle.vyrd_tree.specs.Procedures.Split.{lower_half, upper_half, first_key}
-use Rattle.vyrd_every.proofs.Acts.{never}
-use Rattle.vyrd_every.specs.Trees.Shapes.{Shape, LeadsDown, HasEntries, LeadsRight, HasNeighbour}
-use Rattle.vyrd_every.specs.Trees.Shapes.{IsLinked, Unnamed, Hangs}
-use Rattle.vyrd_every.specs.Trees.States.{ShowsState}
-use Rattle.vyrd_every.specs.Trees.Others.{Grows}
+use Rattle.vyrd_tree.specs.Laws.Alone.SplitKeepsTree.{with_low, same_or}
 use Rattle.vyrd_every.proofs.Trees.Kept.{coded, uncode, entries_grow, linked_low}
 
 -- the nodes with one more linked

@@ -1,10 +1,6 @@
 -- The words at the start hold a tree: node 0 alone is linked, and it is an empty leaf.
-use Rattle.std.proofs.Common.{ℕ, ◌<◌, [], arith}
-use Rattle.vyrd_base.specs.Specification.{start}
-use Rattle.vyrd_every.specs.Structures.{shown_by}
-use Rattle.vyrd_every.specs.Trees.Starts.{first_shape}
-use Rattle.vyrd_every.specs.Trees.Shapes.{IsLinked}
-use Rattle.vyrd_every.specs.Trees.States.{ShowsState}
+use Rattle.vyrd_every.proofs.Prelude.{ℕ, ◌<◌, [], arith, start, shown_by, first_shape, IsLinked}
+use Rattle.vyrd_every.proofs.Prelude.{ShowsState}
 
 pub starts_linked : (size : ℕ) → 0 < size → IsLinked size first_shape (shown_by [])
 starts_linked size some = grind arith

@@ -1,28 +1,12 @@
 -- Callers see what the log shows, or one block's writes besides: how one more event keeps that.
-use Rattle.std.proofs.Common.{◌≡◌, ℕ, ◌<◌, ◌⊎◌, inl, inr, Bool, true, false, cond, not, List, []}
-use Rattle.std.proofs.Common.{◌∷◌, Some, None, refl, ap, ◌∙◌, sym, subst}
-use Rattle.std.specs.Prelude.{◌==◌, is_some}
-use Rattle.std.specs.Option.{option_or}
-use Rattle.std.proofs.lemmas.Bool.{not-true}
-use Rattle.vyrd_base.specs.declared.header.Header.{Header}
-use Rattle.vyrd_base.specs.declared.log.Kind.TheVariants.{Call, Return, Write, Commit, BlockOpen}
-use Rattle.vyrd_base.specs.declared.log.Kind.TheVariants.{BlockClose, BlockCommit}
-use Rattle.vyrd_base.proofs.BlockLaws.{by_same}
-use Rattle.vyrd_base.proofs.TestLaws.{second_true, same_of, same_number}
-use Rattle.vyrd_memory.specs.declared.act.Act.{Act}
-use Rattle.vyrd_memory.specs.declared.act.Act.TheVariants.{Load, Store, Take, Give, Mark, Done}
-use Rattle.vyrd_memory.specs.Alone.{Memory}
-use Rattle.vyrd_memory.specs.Scripts.{Script}
-use Rattle.vyrd_memory.specs.Soundness.{Situation, holds, observes, may_act, after_act}
-use Rattle.vyrd_memory.proofs.Agreements.{four_true}
-use Rattle.vyrd_tree.specs.Cells.{root_lock}
-use Rattle.vyrd_every.specs.Locals.{written, pending_after}
-use Rattle.vyrd_every.specs.Trees.Shapes.{Shape}
-use Rattle.vyrd_every.specs.Trees.Locals.{TreeLocals, MayStore}
-use Rattle.vyrd_every.specs.Trees.Seen.{seen_after, out_after}
-use Rattle.vyrd_every.specs.Trees.RightScripts.{TreeReaches, TreeDoes}
-use Rattle.vyrd_every.specs.Trees.Between.{NoneOut, OneOut}
-use Rattle.vyrd_every.proofs.Acts.{never}
+use Rattle.vyrd_every.proofs.Prelude
+use Prelude.{◌≡◌, ℕ, ◌<◌, ◌⊎◌, inl, inr, Bool, true, false, cond, not, List, [], ◌∷◌, Some, None}
+use Prelude.{refl, ap, ◌∙◌, sym, subst, ◌==◌, is_some, option_or, not-true, Header, Call, Return}
+use Prelude.{Write, Commit, BlockOpen, BlockClose, BlockCommit, by_same, second_true, same_of}
+use Prelude.{same_number, Act, Load, Store, Take, Give, Mark, Done, Memory, Script, Situation}
+use Prelude.{holds, observes, may_act, after_act, four_true, root_lock, written, pending_after}
+use Prelude.{Shape, TreeLocals, MayStore, seen_after, out_after, TreeReaches, TreeDoes, NoneOut}
+use Prelude.{OneOut, never}
 use Rattle.vyrd_every.proofs.Trees.Written.{given_by, either_order, takes_effect, seen_more}
 use Rattle.vyrd_every.proofs.Trees.Written.{ComesOut, when_out}
 use Rattle.vyrd_every.proofs.Trees.Ones.{still_out, alone_after}

@@ -1,33 +1,15 @@
 -- An unused node is taken, or there is none.
-use Rattle.std.proofs.Common.{◌≡◌, ◌≢◌, ℕ, ◌+◌, ◌*◌, ◌<◌, ◌≤◌, ◌⊎◌, inl, inr, Bool, true, false}
-use Rattle.std.proofs.Common.{cond, not, List, [], ◌∷◌, Option, Some, None, refl, ap, ◌∙◌, sym}
-use Rattle.std.proofs.Common.{subst, arith}
-use Rattle.std.specs.Prelude.{◌==◌, ◌||◌, nat_le, filter}
+use Rattle.vyrd_every.proofs.Prelude
+use Prelude.{◌≡◌, ◌≢◌, ℕ, ◌+◌, ◌*◌, ◌<◌, ◌≤◌, ◌⊎◌, inl, inr, Bool, true, false, cond, not, List, []}
+use Prelude.{◌∷◌, Option, Some, None, refl, ap, ◌∙◌, sym, subst, arith, ◌==◌, ◌||◌, nat_le, filter}
+use Prelude.{Header, Method, Amounts, is_at_most, same_of, same_number, isnt_same, isnt_at_most}
+use Prelude.{Load, Store, Memory, with_cell, changed_cell, other_cell, Script, step, perform}
+use Prelude.{Situation, holds, gone, used_cell, used_lock, root_lock, with_unused, holding, le_or}
+use Prelude.{level_at, count_at, bound_at, right_at, last_in, root_in, entries_at, entries_from}
+use Prelude.{gives, entries_alike, never, Shape, HasEntries, LeadsRight, IsLinked, Hangs}
+use Prelude.{ShowsState, Grows, TreeLocals, TreeRely, TreeRight}
 use Rattle.std.specs.List.{AllByRecursion as Each}
-use Rattle.vyrd_base.specs.declared.header.Header.{Header}
-use Rattle.vyrd_base.specs.declared.subject.Method.{Method}
-use Rattle.vyrd_base.specs.Amounts.{Amounts}
-use Rattle.vyrd_base.proofs.TestLaws.{is_at_most, same_of, same_number, isnt_same, isnt_at_most}
-use Rattle.vyrd_memory.specs.declared.act.Act.TheVariants.{Load, Store}
-use Rattle.vyrd_memory.specs.Alone.{Memory, with_cell}
-use Rattle.vyrd_memory.proofs.Memories.{changed_cell, other_cell}
-use Rattle.vyrd_memory.specs.Scripts.{Script, step, perform}
-use Rattle.vyrd_memory.specs.Soundness.{Situation, holds}
-use Rattle.vyrd_memory.proofs.SoundActs.{gone}
-use Rattle.vyrd_tree.specs.Cells.{used_cell, used_lock, root_lock, unlock_used}
-use Rattle.vyrd_tree.specs.Procedures.Split.{with_unused}
-use Rattle.vyrd_tree.specs.Laws.Sound.Acts.{holding}
-use Rattle.vyrd_tree.specs.Laws.Alone.Counts.{le_or}
-use Rattle.vyrd_tree.specs.Contents.{level_at, count_at, bound_at, right_at, last_in, root_in}
-use Rattle.vyrd_tree.specs.Contents.{entries_at, entries_from, gives}
-use Rattle.vyrd_tree.specs.Laws.Alone.Changes.{entries_alike}
-use Rattle.vyrd_every.proofs.Acts.{never}
-use Rattle.vyrd_every.specs.Trees.Shapes.{Shape, HasEntries, LeadsRight, IsLinked, Hangs}
-use Rattle.vyrd_every.specs.Trees.States.{ShowsState}
-use Rattle.vyrd_every.specs.Trees.Others.{Grows}
-use Rattle.vyrd_every.specs.Trees.Locals.{TreeLocals}
-use Rattle.vyrd_every.specs.Trees.Others.{TreeRely}
-use Rattle.vyrd_every.specs.Trees.RightScripts.{TreeRight}
+use Rattle.vyrd_tree.specs.Cells.{unlock_used}
 use Rattle.vyrd_every.proofs.Trees.Parts.{OwnsUnseen, unseen_stays, tree_rely_more, tree_rely_less}
 use Rattle.vyrd_every.proofs.Trees.Parts.{tree_load, tree_take, tree_give}
 use Rattle.vyrd_every.proofs.Trees.Walks.{Onward}

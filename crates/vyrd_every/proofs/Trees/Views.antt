@@ -1,33 +1,15 @@
 -- What the linked nodes show: the chain from node 0 visits each leaf once, so a key has the amount
 -- that the leaf of its range
 -- gives.
-use Rattle.std.proofs.Common.{◌≡◌, ◌≢◌, ℕ, zero, suc, ◌+◌, ◌*◌, ◌<◌, ◌≤◌, ◌⊎◌, inl, inr, true}
-use Rattle.std.proofs.Common.{false, List, [], ◌∷◌, map, min, refl, ap, ◌∙◌, sym, subst, arith}
-use Rattle.std.specs.Prelude.{◌==◌, ◌||◌, nat_le}
-use Rattle.std.specs.Prelude.{slice_index}
-use Rattle.std.specs.List.{list_any}
-use Rattle.vyrd_base.specs.declared.header.Header.{Header}
-use Rattle.vyrd_base.specs.declared.subject.Subject.TheVariants.{Tree}
-use Rattle.vyrd_base.specs.declared.log.Entry.{Entry}
-use Rattle.vyrd_base.specs.Places.{numbers_below}
-use Rattle.vyrd_base.specs.Layout.{plain_words}
-use Rattle.vyrd_base.specs.Amounts.{Amounts, amount_of, given}
-use Rattle.vyrd_base.specs.BlockEnds.{ended_effects, ended_value, ended_words}
-use Rattle.vyrd_base.specs.Views.{view_of_words}
-use Rattle.vyrd_base.specs.Tree.{right_of, node_parts, chain_parts_from, chain_parts}
-use Rattle.vyrd_base.proofs.TestLaws.{isnt_same, isnt_at_most}
-use Rattle.vyrd_memory.specs.Alone.{Memory}
-use Rattle.vyrd_memory.proofs.NumberLists.{element_below}
-use Rattle.vyrd_memory.proofs.PartSums.{collected-is}
-use Rattle.vyrd_tree.specs.Laws.Alone.Counts.{zero_or, le_or}
-use Rattle.vyrd_tree.specs.Contents.{level_at, count_at, bound_at, Below, right_at}
-use Rattle.vyrd_tree.specs.Contents.{last_in, InRange, entries_at, Covers, gives}
-use Rattle.vyrd_tree.specs.Laws.Alone.Order.{after_of, after_falls, after_few}
-use Rattle.vyrd_tree.specs.Laws.Alone.Entries.{gives_none, each_more}
-use Rattle.vyrd_tree.specs.Laws.Alone.View.{step_ends, step_on}
-use Rattle.vyrd_every.specs.Structures.{shown_by}
-use Rattle.vyrd_every.specs.Trees.Shapes.{Shape, LeadsRight, IsLinked}
-use Rattle.vyrd_every.specs.Trees.States.{ShowsState}
+use Rattle.vyrd_every.proofs.Prelude
+use Prelude.{◌≡◌, ◌≢◌, ℕ, zero, suc, ◌+◌, ◌*◌, ◌<◌, ◌≤◌, ◌⊎◌, inl, inr, true, false, List, [], ◌∷◌}
+use Prelude.{map, min, refl, ap, ◌∙◌, sym, subst, arith, ◌==◌, ◌||◌, nat_le, slice_index, list_any}
+use Prelude.{Header, Tree, Entry, numbers_below, plain_words, Amounts, amount_of, given}
+use Prelude.{ended_effects, ended_value, ended_words, view_of_words, right_of, node_parts}
+use Prelude.{chain_parts_from, chain_parts, isnt_same, isnt_at_most, Memory, element_below}
+use Prelude.{collected-is, zero_or, le_or, level_at, count_at, bound_at, Below, right_at, last_in}
+use Prelude.{InRange, entries_at, Covers, gives, after_of, after_falls, after_few, gives_none}
+use Prelude.{each_more, step_ends, step_on, shown_by, Shape, LeadsRight, IsLinked, ShowsState}
 use Rattle.vyrd_every.proofs.Trees.Unused.{SameNodes, nodes_linked, nodes_state}
 use Rattle.vyrd_every.proofs.Trees.Order.{one_cover_in}
 

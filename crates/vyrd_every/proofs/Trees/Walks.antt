@@ -1,35 +1,17 @@
 -- A walk is never lost, whatever the others do: it visits each node at most once, since every node
 -- that it comes to is after
 -- all that it has visited, and levels and lows of linked nodes never change.
-use Rattle.std.proofs.Common.{◌≡◌, ◌≢◌, ℕ, zero, suc, ◌+◌, ◌*◌, ◌<◌, ◌≤◌, ◌⊎◌, inl, inr, Bool, true}
-use Rattle.std.proofs.Common.{false, cond, min, List, [], ◌∷◌, map, refl, subst, arith}
-use Rattle.std.specs.Prelude.{◌==◌, ◌||◌, nat_lt}
-use Rattle.vyrd_base.specs.declared.header.Header.{Header}
-use Rattle.vyrd_base.specs.declared.subject.Method.{Method}
-use Rattle.vyrd_base.specs.Places.{numbers_from}
-use Rattle.vyrd_base.proofs.TestLaws.{same_of, same_number, isnt_same, is_below, isnt_below}
-use Rattle.vyrd_memory.specs.declared.act.Act.TheVariants.{Load}
-use Rattle.vyrd_memory.specs.declared.op.Variant.TheVariants.{Correct}
-use Rattle.vyrd_memory.specs.Alone.{Memory}
-use Rattle.vyrd_memory.specs.Scripts.{Script, step}
-use Rattle.vyrd_memory.specs.Soundness.{Situation, holds}
-use Rattle.vyrd_tree.specs.Cells.{level_cell, count_cell, bound_cell, right_cell, value_cell}
-use Rattle.vyrd_tree.specs.Cells.{lock_of, unlock_node}
-use Rattle.vyrd_tree.specs.Procedures.Walk.{Arrived, load_keys, load_values, is_past, child_place}
-use Rattle.vyrd_tree.specs.Procedures.Walk.{pass_on, walk_from}
-use Rattle.vyrd_tree.specs.Laws.Sound.Acts.{holding}
-use Rattle.vyrd_tree.specs.Laws.Alone.Counts.{passing, passing_less, passing_most, zero_or, le_or}
-use Rattle.vyrd_tree.specs.Contents.{level_at, count_at, bound_at, right_at, key_at, value_at}
-use Rattle.vyrd_tree.specs.Contents.{Below, entries_at, entries_from, Covers, Entries}
-use Rattle.vyrd_tree.specs.Laws.Alone.Order.{IsAfter}
-use Rattle.vyrd_tree.specs.Laws.Alone.Tested.{length-entries}
-use Rattle.vyrd_tree.specs.Laws.Alone.Played.{child_is, any_from, begins_at, each_number}
-use Rattle.vyrd_tree.specs.Laws.Alone.WalkArrives.{loaded_at, past, not_past, passed}
-use Rattle.vyrd_every.specs.Trees.Shapes.{Shape, LeadsDown, IsInner, LeadsRight, IsLinked}
-use Rattle.vyrd_every.specs.Trees.Others.{Grows}
-use Rattle.vyrd_every.specs.Trees.Locals.{TreeLocals}
-use Rattle.vyrd_every.specs.Trees.Others.{TreeRely}
-use Rattle.vyrd_every.specs.Trees.RightScripts.{TreeRight}
+use Rattle.vyrd_every.proofs.Prelude
+use Prelude.{◌≡◌, ◌≢◌, ℕ, zero, suc, ◌+◌, ◌*◌, ◌<◌, ◌≤◌, ◌⊎◌, inl, inr, Bool, true, false, cond}
+use Prelude.{min, List, [], ◌∷◌, map, refl, subst, arith, ◌==◌, ◌||◌, nat_lt, Header, Method}
+use Prelude.{numbers_from, same_of, same_number, isnt_same, is_below, isnt_below, Load, Correct}
+use Prelude.{Memory, Script, step, Situation, holds, level_cell, count_cell, bound_cell, right_cell}
+use Prelude.{value_cell, lock_of, unlock_node, Arrived, load_keys, load_values, is_past}
+use Prelude.{child_place, pass_on, walk_from, holding, passing, passing_less, passing_most, zero_or}
+use Prelude.{le_or, level_at, count_at, bound_at, right_at, key_at, value_at, Below, entries_at}
+use Prelude.{entries_from, Covers, Entries, IsAfter, length-entries, child_is, any_from, begins_at}
+use Prelude.{each_number, loaded_at, past, not_past, passed, Shape, LeadsDown, IsInner, LeadsRight}
+use Prelude.{IsLinked, Grows, TreeLocals, TreeRely, TreeRight}
 use Rattle.vyrd_every.proofs.Trees.Parts.{OwnsUnseen, unseen_stays, tree_rely_more, tree_rely_less}
 use Rattle.vyrd_every.proofs.Trees.Parts.{tree_load, tree_take, tree_give_last}
 

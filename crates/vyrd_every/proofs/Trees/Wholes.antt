@@ -1,45 +1,22 @@
 -- The whole script of a caller of the tree does right, whatever the others do.
-use Rattle.std.proofs.Common.{◌≡◌, ℕ, ◌+◌, ◌<◌, ◌^◌, Bool, true, false, List, [], ◌∷◌, Option, Some}
-use Rattle.std.proofs.Common.{None, refl, ap, ◌∙◌, sym, subst, arith}
-use Rattle.std.specs.Prelude.{◌||◌, ◌&&◌, nat_lt}
-use Rattle.vyrd_base.specs.declared.header.Header.{Header}
-use Rattle.vyrd_base.specs.declared.subject.Subject.TheVariants.{Tree}
-use Rattle.vyrd_base.specs.declared.subject.Method.{Method}
+use Rattle.vyrd_every.proofs.Prelude
+use Prelude.{◌≡◌, ℕ, ◌+◌, ◌<◌, ◌^◌, Bool, true, false, List, [], ◌∷◌, Option, Some, None, refl, ap}
+use Prelude.{◌∙◌, sym, subst, arith, ◌||◌, ◌&&◌, nat_lt, Header, Tree, Method, OwnNever}
+use Prelude.{OwnAtMostOnce, OwnOnce, Insert, Delete, Lookup, Args, Call, Return, Write, Commit}
+use Prelude.{BlockOpen, BlockClose, BlockCommit, subject_of, Amounts, Act, Load, Store, Take, Give}
+use Prelude.{Mark, Done, Op, Correct, Memory, Script, stop, step, followed_by, operations}
+use Prelude.{Situation, at_rest, just_called, after_act, is_callable, are_callable, callable_method}
+use Prelude.{script_of, first_true, second_true, below_of, Workload, KeepsLimits, procedure_in}
+use Prelude.{ops_of, work_script, work_scripts, ops_are_callable, script_at, answer_at, never}
+use Prelude.{Shape, IsLinked, IsCorrectTree, seen_after, TreeCommits, TreeDoes, TreeRight}
 use Rattle.vyrd_base.specs.declared.subject.Method.TheVariants.{Multiset as OfMultiset}
 use Rattle.vyrd_base.specs.declared.subject.Method.TheVariants.{Cache as OfCache, Tree as OfTree}
 use Rattle.vyrd_base.specs.declared.subject.Method.TheVariants.{Buffers as OfBuffers}
-use Rattle.vyrd_base.specs.declared.subject.Method.TheVariants.{OwnNever, OwnAtMostOnce, OwnOnce}
-use Rattle.vyrd_base.specs.declared.tree.TreeMethod.TheVariants.{Insert, Delete, Lookup}
-use Rattle.vyrd_base.specs.declared.subject.Args.{Args}
-use Rattle.vyrd_base.specs.declared.log.Kind.TheVariants.{Call, Return, Write, Commit, BlockOpen}
-use Rattle.vyrd_base.specs.declared.log.Kind.TheVariants.{BlockClose, BlockCommit}
-use Rattle.vyrd_base.specs.Subjects.{subject_of}
-use Rattle.vyrd_base.specs.Amounts.{Amounts}
-use Rattle.vyrd_memory.specs.declared.act.Act.{Act}
-use Rattle.vyrd_memory.specs.declared.act.Act.TheVariants.{Load, Store, Take, Give, Mark, Done}
-use Rattle.vyrd_memory.specs.declared.op.Op.{Op}
-use Rattle.vyrd_memory.specs.declared.op.Variant.TheVariants.{Correct}
-use Rattle.vyrd_memory.specs.Alone.{Memory}
-use Rattle.vyrd_memory.specs.Scripts.{Script, stop, step, followed_by, operations}
-use Rattle.vyrd_memory.specs.Soundness.{Situation, at_rest, just_called, after_act}
-use Rattle.vyrd_memory.specs.Players.{is_callable, are_callable}
-use Rattle.vyrd_memory.specs.Laws.Player.{callable_method, callable_small}
-use Rattle.vyrd_memory.specs.Turns.{script_of}
-use Rattle.vyrd_base.proofs.TestLaws.{first_true, second_true, below_of}
-use Rattle.vyrd_work.specs.Workloads.{Workload}
-use Rattle.vyrd_work.specs.WorkLimits.{KeepsLimits}
-use Rattle.vyrd_work.specs.WorkScripts.{procedure_in, ops_of, work_script, work_scripts}
-use Rattle.vyrd_work.proofs.ScriptLaws.{ops_are_callable}
-use Rattle.vyrd_work.proofs.SoundScripts.{script_at}
+use Rattle.vyrd_memory.specs.Laws.Player.{callable_small}
 use Rattle.vyrd_tree.specs.Procedures.{procedure_of, tree_procedure}
-use Rattle.vyrd_every.specs.Locals.{answer_at}
-use Rattle.vyrd_every.proofs.Acts.{never}
 use Rattle.vyrd_every.proofs.Followed.{follows_return}
-use Rattle.vyrd_every.specs.Trees.Shapes.{Shape, IsLinked}
-use Rattle.vyrd_every.specs.Trees.Locals.{TreeLocals, TreeRests, empty_tree_locals}
-use Rattle.vyrd_every.specs.Trees.Starts.{IsCorrectTree}
-use Rattle.vyrd_every.specs.Trees.Seen.{seen_after}
-use Rattle.vyrd_every.specs.Trees.RightScripts.{TreeCommits, TreeLeads, TreeDoes, TreeRight}
+use Rattle.vyrd_every.specs.Trees.Locals.{TreeRests, TreeLocals, empty_tree_locals}
+use Rattle.vyrd_every.specs.Trees.RightScripts.{TreeLeads}
 use Rattle.vyrd_every.proofs.Trees.Parts.{OwnsUnseen, unseen_stays, Changeless, changeless}
 use Rattle.vyrd_every.proofs.Trees.Leafs.{IsBare, lookup_right, delete_right}
 use Rattle.vyrd_every.proofs.Trees.Returns.{every_insert}

@@ -1,32 +1,12 @@
 -- What writes make of a memory, word by word, and what an act makes of the memory that the log
 -- shows and of the one that
 -- callers see.
-use Rattle.std.proofs.Common.{◌≡◌, ℕ, Bool, true, false, cond, List, [], ◌∷◌, Option, Some, None}
-use Rattle.std.proofs.Common.{refl, arith}
-use Rattle.std.specs.Prelude.{◌==◌, ◌||◌, is_some, unwrap_or}
-use Rattle.std.specs.Option.{option_or}
-use Rattle.std.specs.List.{cons_option, AllByRecursion}
-use Rattle.vyrd_base.specs.declared.header.Header.{Header}
-use Rattle.vyrd_base.specs.declared.log.Kind.TheVariants.{BlockClose, BlockCommit}
-use Rattle.vyrd_base.specs.declared.log.Entry.{Entry}
-use Rattle.vyrd_base.specs.declared.history.Did.{Did}
-use Rattle.vyrd_base.specs.Places.{first_answer}
-use Rattle.vyrd_base.specs.Callers.{has_block}
-use Rattle.vyrd_base.specs.Words.{block_writes, given_to}
-use Rattle.vyrd_base.specs.Histories.{logged}
-use Rattle.vyrd_base.proofs.TestLaws.{same_of}
-use Rattle.vyrd_memory.specs.declared.act.Act.{Act}
-use Rattle.vyrd_memory.specs.declared.act.Act.TheVariants.{Store, Mark}
-use Rattle.vyrd_memory.specs.Alone.{Memory}
-use Rattle.vyrd_memory.specs.Soundness.{Situation}
-use Rattle.vyrd_memory.proofs.Situations.{act_of_event}
-use Rattle.vyrd_tree.specs.Cells.{root_cell}
-use Rattle.vyrd_every.specs.Structures.{shown_by}
-use Rattle.vyrd_every.specs.Locals.{written, pending_after}
-use Rattle.vyrd_every.specs.Trees.Shapes.{Shape}
-use Rattle.vyrd_every.specs.Trees.Locals.{TreeLocals}
-use Rattle.vyrd_every.specs.Trees.Seen.{seen_after, out_after}
-use Rattle.vyrd_every.specs.Trees.RightScripts.{TreeReaches}
+use Rattle.vyrd_every.proofs.Prelude
+use Prelude.{◌≡◌, ℕ, Bool, true, false, cond, List, [], ◌∷◌, Option, Some, None, refl, arith, ◌==◌}
+use Prelude.{◌||◌, is_some, unwrap_or, option_or, cons_option, AllByRecursion, Header, BlockClose}
+use Prelude.{BlockCommit, Entry, Did, first_answer, has_block, block_writes, given_to, logged}
+use Prelude.{same_of, Act, Store, Mark, Memory, Situation, act_of_event, root_cell, shown_by}
+use Prelude.{written, pending_after, Shape, TreeLocals, seen_after, out_after, TreeReaches}
 use Rattle.vyrd_every.proofs.Logs.{one_more, more}
 
 -- what the writes give the word, if they give it something

@@ -1,28 +1,13 @@
 -- One more entry in a node.
-use Rattle.std.proofs.Common.{◌≡◌, ℕ, zero, suc, ◌+◌, ◌<◌, ◌≤◌, List, [], ◌∷◌, length, take, drop}
-use Rattle.std.proofs.Common.{refl, ap, ◌∙◌, sym, arith}
-use Rattle.std.specs.Prelude.{cond, insert, Option, None}
-use Rattle.std.proofs.lemmas.List.{length-take-le}
-use Rattle.vyrd_base.specs.declared.header.Header.{Header}
-use Rattle.vyrd_base.specs.declared.log.Kind.{Kind}
-use Rattle.vyrd_base.specs.declared.log.Kind.TheVariants.{BlockOpen}
-use Rattle.vyrd_base.proofs.TestLaws.{is_below, isnt_below, isnt_at_most}
-use Rattle.vyrd_memory.specs.declared.act.Act.TheVariants.{Store, Mark}
-use Rattle.vyrd_memory.specs.Scripts.{Script, perform, returns}
-use Rattle.vyrd_tree.specs.declared.task.Task.{Task}
-use Rattle.vyrd_tree.specs.declared.visit.Ascent.{Ascent}
-use Rattle.vyrd_tree.specs.declared.visit.Errand.{Errand}
+use Rattle.vyrd_tree.proofs.Prelude
+use Prelude.{◌≡◌, ℕ, zero, suc, ◌+◌, ◌<◌, ◌≤◌, List, [], ◌∷◌, length, take, drop, refl, ap, ◌∙◌}
+use Prelude.{sym, arith, cond, insert, Option, None, length-take-le, Header, Kind, BlockOpen}
+use Prelude.{is_below, isnt_below, isnt_at_most, Store, Mark, Script, perform, returns, Task}
+use Prelude.{Ascent, Errand, Visit, arrived_at, count_cell, unlock_node, Arrived, with_unused}
+use Prelude.{write_entries, place_below, with_entry, add_entry, split, first_key, upper_half}
+use Prelude.{add_child, insert_in, length_insert}
 use Rattle.vyrd_tree.specs.declared.visit.Errand.TheVariants as errand
-use Rattle.vyrd_tree.specs.declared.visit.Visit.{Visit}
-use Rattle.vyrd_tree.specs.Rests.Visits.{arrived_at}
-use Rattle.vyrd_tree.specs.Cells.{count_cell, unlock_node}
-use Rattle.vyrd_tree.specs.Procedures.Walk.{Arrived}
-use Rattle.vyrd_tree.specs.Procedures.Split.{with_unused, write_entries, place_below, with_entry}
-use Rattle.vyrd_tree.specs.Procedures.Split.{add_entry, split, first_key, upper_half}
-use Rattle.vyrd_tree.specs.Procedures.Ascent.{add_child}
-use Rattle.vyrd_tree.specs.Procedures.{insert_in}
 use Rattle.vyrd_tree.specs.Rests.Errands.{add_rest, next_round, after_split, close_for, unsplit}
-use Rattle.vyrd_tree.specs.Laws.Sound.Fits.{length_insert}
 
 -- the first entries with one more among them
 insert_in_take : (slots : List (ℕ × ℕ)) (place count : ℕ) (e : ℕ × ℕ) → place ≤ count

@@ -1,24 +1,18 @@
 -- The loads of a node's keys and values, one after the other.
-use Rattle.std.proofs.Common.{◌≡◌, ℕ, suc, ◌+◌, ◌<◌, ◌≤◌, List, [], ◌∷◌, ◌++◌, length, take, drop}
-use Rattle.std.proofs.Common.{ap, ◌∙◌, sym, arith}
-use Rattle.std.proofs.lemmas.List.{append-nil, append_assoc, get_or-take, length-take-le}
-use Rattle.std.proofs.lemmas.List.{take_more_set, drop-set-lt}
+use Rattle.vyrd_tree.proofs.Prelude.{◌≡◌, ℕ, suc, ◌+◌, ◌<◌, ◌≤◌, List, [], ◌∷◌, length, take, drop}
+use Rattle.vyrd_tree.proofs.Prelude.{ap, ◌∙◌, sym, arith, get_or-take, length-take-le, Header, Load}
+use Rattle.vyrd_tree.proofs.Prelude.{Script, step, after_answer, Slot, Task, Visit, value_cell}
+use Rattle.vyrd_tree.proofs.Prelude.{arrived_at, loading}
+use Rattle.std.proofs.Common.{◌++◌}
+use Rattle.std.proofs.lemmas.List.{append-nil, append_assoc, take_more_set, drop-set-lt}
 use Rattle.std.proofs.Math.Seq.{drop-cons, take-set-lt}
 use Rattle.std.proofs.Math.ListN.{set, drop_of_length-le}
 use Rattle.std.specs.Prelude.{slice_set}
-use Rattle.vyrd_base.specs.declared.header.Header.{Header}
-use Rattle.vyrd_memory.specs.declared.act.Act.TheVariants.{Load}
-use Rattle.vyrd_memory.specs.Scripts.{Script, step, after_answer}
 use Rattle.vyrd_tree.specs.declared.node.Word.TheVariants.{Value}
-use Rattle.vyrd_tree.specs.declared.slot.Slot.{Slot}
-use Rattle.vyrd_tree.specs.declared.task.Task.{Task}
-use Rattle.vyrd_tree.specs.declared.visit.Visit.{Visit}
-use Rattle.vyrd_tree.specs.Cells.{value_cell}
 use Rattle.vyrd_tree.specs.Procedures.Walk.{load_values}
 use Rattle.vyrd_tree.specs.Rests.Written.{key_at}
 use Rattle.vyrd_tree.specs.Rests.Errands.{arrived_for}
 use Rattle.vyrd_tree.specs.Rests.Visits.{keys_of, keys_from_rest, values_from_rest, with_keys}
-use Rattle.vyrd_tree.specs.Rests.Visits.{arrived_at, loading}
 
 one_more : (n : ℕ) → n + 1 ≡ suc n
 one_more n = omega arith

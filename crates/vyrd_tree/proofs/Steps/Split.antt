@@ -1,19 +1,12 @@
 -- A node is split, and the round that follows.
-use Rattle.std.proofs.Common.{◌≡◌, ℕ, suc, ◌+◌, ◌-◌, ◌<◌, List, take, drop, arith}
-use Rattle.vyrd_base.specs.declared.header.Header.{Header}
-use Rattle.vyrd_base.specs.declared.log.Kind.{Kind}
-use Rattle.vyrd_base.specs.declared.log.Kind.TheVariants.{BlockOpen}
-use Rattle.vyrd_memory.specs.declared.act.Act.TheVariants.{Store, Mark}
-use Rattle.vyrd_memory.specs.Scripts.{Script, perform}
+use Rattle.vyrd_tree.proofs.Prelude.{◌≡◌, ℕ, suc, ◌+◌, ◌-◌, ◌<◌, List, take, drop, arith, Header}
+use Rattle.vyrd_tree.proofs.Prelude.{Kind, BlockOpen, Store, Mark, Script, perform, Task, Ascent}
+use Rattle.vyrd_tree.proofs.Prelude.{Errand, count_cell, bound_cell, right_cell, unlock_node}
+use Rattle.vyrd_tree.proofs.Prelude.{write_entries, write_node, first_key}
 use Rattle.vyrd_tree.specs.declared.node.Node.{Node}
-use Rattle.vyrd_tree.specs.declared.task.Task.{Task}
-use Rattle.vyrd_tree.specs.declared.visit.Ascent.{Ascent}
-use Rattle.vyrd_tree.specs.declared.visit.Errand.{Errand}
 use Rattle.vyrd_tree.specs.declared.visit.Errand.TheVariants as errand
 use Rattle.vyrd_tree.specs.declared.place.Full.{Full}
 use Rattle.vyrd_tree.specs.declared.place.Need.TheVariants as need
-use Rattle.vyrd_tree.specs.Cells.{count_cell, bound_cell, right_cell, unlock_node}
-use Rattle.vyrd_tree.specs.Procedures.Split.{write_entries, write_node, first_key}
 use Rattle.vyrd_tree.specs.Rests.Errands.{round, after_split, close_for}
 use Rattle.vyrd_tree.specs.Rests.Unused.{found_for}
 use Rattle.vyrd_tree.proofs.Steps.Entry.{take_4}

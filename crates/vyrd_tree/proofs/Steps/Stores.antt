@@ -1,11 +1,9 @@
 -- The stores of entries: what is left from a slot on.
+use Rattle.vyrd_tree.proofs.Prelude.{get_or-take, length-take-le, Script, Slot, write_entries}
 use Rattle.std.proofs.Common.{◌≡◌, ℕ, ◌+◌, ◌<◌, ◌≤◌, ◌∷◌, length, take, drop, ap, ◌∙◌, sym, arith}
 use Rattle.std.specs.Prelude.{slice_index_or}
-use Rattle.std.proofs.lemmas.List.{drop_more, get_or-take, length-take-le}
-use Rattle.vyrd_memory.specs.Scripts.{Script}
-use Rattle.vyrd_tree.specs.declared.slot.Slot.{Slot}
+use Rattle.std.proofs.lemmas.List.{drop_more}
 use Rattle.vyrd_tree.specs.declared.written.Written.{Written}
-use Rattle.vyrd_tree.specs.Procedures.Split.{write_entries}
 use Rattle.vyrd_tree.specs.Rests.Stores.{entries_from, key_from}
 
 -- from a slot on, its entry comes first

@@ -1,16 +1,9 @@
 -- A walk comes to a node.
-use Rattle.std.proofs.Common.{◌≡◌, ◌≢◌, ℕ, zero, suc, ◌-◌, ◌<◌, ◌≤◌, refl, ap, ◌∙◌, sym, arith}
-use Rattle.std.specs.Prelude.{cond}
-use Rattle.vyrd_base.specs.declared.header.Header.{Header}
-use Rattle.vyrd_base.proofs.TestLaws.{is_below, isnt_below}
-use Rattle.vyrd_memory.specs.Scripts.{Script}
-use Rattle.vyrd_tree.specs.declared.task.Task.{Task}
-use Rattle.vyrd_tree.specs.declared.visit.Visit.{Visit}
-use Rattle.vyrd_tree.specs.declared.visit.Errand.{Errand}
+use Rattle.vyrd_tree.proofs.Prelude.{◌≡◌, ◌≢◌, ℕ, zero, suc, ◌-◌, ◌<◌, ◌≤◌, refl, ap, ◌∙◌, sym}
+use Rattle.vyrd_tree.proofs.Prelude.{arith, cond, Header, is_below, isnt_below, Script, Task, Visit}
+use Rattle.vyrd_tree.proofs.Prelude.{Errand, visit_node, visiting_rest}
 use Rattle.vyrd_tree.specs.declared.visit.Visiting.TheVariants.{Lock}
-use Rattle.vyrd_tree.specs.Procedures.Walk.{visit_node}
 use Rattle.vyrd_tree.specs.Rests.Errands.{arrived_for, walk_on, key_for, toward, lost_for}
-use Rattle.vyrd_tree.specs.Rests.Visits.{visiting_rest}
 
 -- the visit of a node, with this errand and this many visits left after it
 abbrev visit_of : Header → Task → Errand → ℕ → ℕ → Script

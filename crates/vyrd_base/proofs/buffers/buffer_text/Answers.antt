@@ -1,5 +1,4 @@
-use Rattle.std.proofs.Common.{◌<◌, arith}
-use Rattle.vyrd_base.specs.Buffers.{buffer_at}
+use Rattle.vyrd_base.proofs.Prelude.{◌<◌, arith, buffer_at}
 use Rattle.vyrd_base.proofs.TextLaws.{text_below}
 use Rattle.vyrd_base.proofs.BufferLaws.{digit_below, power_below, bad_text}
 use Rattle.vyrd_base.proofs.buffers.buffer_text.Goals as goal

@@ -1,5 +1,4 @@
-use Rattle.std.proofs.Common.{◌≡◌, ◌^◌, true}
-use Rattle.vyrd_base.specs.Buffers.{buffer_at, are_characters, text_of}
+use Rattle.vyrd_base.proofs.Prelude.{◌≡◌, ◌^◌, true, buffer_at, are_characters, text_of}
 use Rattle.vyrd_base.proofs.buffers.buffer_text.Given as goal
 
 abbrev pub invariant-loop-i : goal.invariant-loop-i

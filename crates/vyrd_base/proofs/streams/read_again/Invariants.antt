@@ -1,6 +1,5 @@
 -- Reads that were broken off have taken nothing, and the buffer keeps its length.
-use Rattle.std.specs.Prelude.{◌≡◌, length}
-use Rattle.std.specs.Io.KnownBytes.{Keeps}
+use Rattle.vyrd_base.proofs.Prelude.{◌≡◌, length, Keeps}
 use Rattle.vyrd_base.proofs.streams.read_again.Given as goal
 
 abbrev pub invariant-loop : goal.invariant-loop

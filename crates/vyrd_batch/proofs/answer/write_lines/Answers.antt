@@ -1,8 +1,6 @@
-use Rattle.std.proofs.Common.{◌++◌, take, ap, ◌∙◌, sym, append_assoc}
-use Rattle.std.specs.Prelude.{get_or}
-use Rattle.vyrd_base.specs.declared.verdict.Verdict.{Verdict}
+use Rattle.vyrd_batch.proofs.Prelude.{◌++◌, take, ap, ◌∙◌, sym, append_assoc, get_or, Verdict}
+use Rattle.vyrd_batch.proofs.Prelude.{lines_from, log_line}
 use Rattle.vyrd_base.specs.declared.verdict.Verdict.TheVariants.{Accepted}
-use Rattle.vyrd_batch.specs.BatchAnswers.{lines_from, log_line}
 use Rattle.vyrd_text.proofs.WrittenLaws.{front_of_front}
 use Rattle.vyrd_batch.proofs.AnswerFacts.{lines_more, on_error}
 use Rattle.vyrd_batch.proofs.answer.write_lines.Goals as goal

@@ -1,5 +1,4 @@
-use Rattle.std.proofs.Common.{◌≡◌, ◌++◌, take}
-use Rattle.vyrd_batch.specs.BatchAnswers.{lines_from}
+use Rattle.vyrd_batch.proofs.Prelude.{◌≡◌, ◌++◌, take, lines_from}
 use Rattle.vyrd_batch.proofs.answer.write_lines.Given as goal
 
 -- the lines of the verdicts before this one

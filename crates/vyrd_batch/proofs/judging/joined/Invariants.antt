@@ -1,5 +1,4 @@
-use Rattle.std.proofs.Common.{◌≡◌, ◌≤◌, ◌+◌, take, length}
-use Rattle.std.specs.Prelude.{flat_map}
+use Rattle.vyrd_batch.proofs.Prelude.{◌≡◌, ◌≤◌, ◌+◌, take, length, flat_map}
 use Rattle.vyrd_batch.proofs.judging.joined.Given as goal
 
 -- the verdicts of the parts before this one

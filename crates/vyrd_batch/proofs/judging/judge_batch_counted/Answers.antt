@@ -1,10 +1,6 @@
-use Rattle.std.proofs.Common.{List, map, length, Vec, Global, Bor, ap, ◌∙◌, sym, subst, arith}
-use Rattle.std.specs.Prelude.{flat_map}
-use Rattle.std.specs.List.{AllByRecursion}
-use Rattle.vyrd_base.specs.declared.verdict.Verdict.{Verdict}
-use Rattle.vyrd_batch.specs.declared.span.Span.{Span}
-use Rattle.vyrd_batch.specs.Batches.{bytes_of, LiesWithin}
-use Rattle.vyrd_batch.specs.BatchAnswers.{verdicts_of}
+use Rattle.vyrd_batch.proofs.Prelude.{List, map, length, Vec, Global, Bor, ap, ◌∙◌, sym, subst}
+use Rattle.vyrd_batch.proofs.Prelude.{arith, flat_map, AllByRecursion, Verdict, Span, bytes_of}
+use Rattle.vyrd_batch.proofs.Prelude.{LiesWithin, verdicts_of}
 use Rattle.vyrd_batch.proofs.JudgedFacts.{all_parts, flat_verdicts, where_all, verdict_each}
 use Rattle.vyrd_batch.proofs.JudgedFacts.{list_each}
 use Rattle.vyrd_batch.proofs.judging.judge_batch_counted.Goals as goal

@@ -1,7 +1,4 @@
-use Rattle.std.proofs.Common.{◌≡◌, ◌+◌, ◌≤◌, map, take}
-use Rattle.vyrd_batch.specs.Batches.{bytes_of}
-use Rattle.vyrd_batch.specs.BatchAnswers.{verdicts_of}
-use Rattle.vyrd_batch.specs.Costs.{logs_cost}
+use Rattle.vyrd_batch.proofs.Prelude.{◌≡◌, ◌+◌, ◌≤◌, map, take, bytes_of, verdicts_of, logs_cost}
 use Rattle.vyrd_batch.proofs.judging.judge_part_counted.Given as goal
 
 -- the verdicts about the spans before this one, and what their logs cost

@@ -1,9 +1,6 @@
-use Rattle.std.proofs.Common.{◌≡◌, List, map, Vec, Global, IfOk, Bor, ap, ◌∙◌}
+use Rattle.vyrd_batch.proofs.Prelude.{◌≡◌, List, map, Vec, Global, IfOk, Bor, ap, ◌∙◌, Verdict}
+use Rattle.vyrd_batch.proofs.Prelude.{Span, bytes_of, verdicts_of}
 use Rattle.rayon.proofs.ToStd.{slice-AllZip}
-use Rattle.vyrd_base.specs.declared.verdict.Verdict.{Verdict}
-use Rattle.vyrd_batch.specs.declared.span.Span.{Span}
-use Rattle.vyrd_batch.specs.Batches.{bytes_of}
-use Rattle.vyrd_batch.specs.BatchAnswers.{verdicts_of}
 use Rattle.vyrd_batch.proofs.JudgedFacts.{collected}
 use Rattle.vyrd_batch.proofs.judging.judge_parts.Goals as goal
 

@@ -1,5 +1,4 @@
-use Rattle.std.proofs.Common.{◌≡◌, ◌≤◌, ◌+◌, ◌*◌, ◌++◌, length}
-use Rattle.std.specs.Prelude.{flat_map}
+use Rattle.vyrd_batch.proofs.Prelude.{◌≡◌, ◌≤◌, ◌+◌, ◌*◌, ◌++◌, length, flat_map}
 use Rattle.vyrd_batch.proofs.parts.parts_of.Given as goal
 
 -- the parts so far and what is left are all spans

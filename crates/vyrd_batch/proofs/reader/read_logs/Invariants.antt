@@ -1,5 +1,4 @@
-use Rattle.std.proofs.Common.{◌≤◌, ◌+◌, ◌-◌, length}
-use Rattle.vyrd_batch.specs.Batches.{most_logs, logs_from}
+use Rattle.vyrd_batch.proofs.Prelude.{◌≤◌, ◌+◌, ◌-◌, length, most_logs, logs_from}
 use Rattle.vyrd_batch.proofs.LogFacts.{HasFound}
 use Rattle.vyrd_batch.proofs.reader.read_logs.Given as goal
 

@@ -1,5 +1,4 @@
-use Rattle.std.proofs.Common.{◌++◌, ap, ◌∙◌}
-use Rattle.std.specs.Prelude.{codes}
+use Rattle.vyrd_batch.proofs.Prelude.{◌++◌, ap, ◌∙◌, codes}
 use Rattle.vyrd_batch.proofs.reader.size_in.Goals as goal
 
 pub returns : goal.returns

@@ -1,6 +1,4 @@
-use Rattle.std.proofs.Common.{◌+◌, length, ap, ◌∙◌, sym, arith}
-use Rattle.vyrd_batch.specs.Batches.{log_at}
-use Rattle.vyrd_batch.specs.Costs.{line_look}
+use Rattle.vyrd_batch.proofs.Prelude.{◌+◌, length, ap, ◌∙◌, sym, arith, log_at, line_look}
 use Rattle.vyrd_batch.proofs.RoundLaws.{cut_more, cut_rest}
 use Rattle.vyrd_batch.proofs.CostLaws.{more_spans, found_cost, first_cost}
 use Rattle.vyrd_batch.proofs.reader.whole_logs.Goals as goal

@@ -1,5 +1,4 @@
-use Rattle.std.proofs.Common.{◌≡◌, ◌-◌, length, drop}
-use Rattle.vyrd_batch.specs.Rounds.{IsCut}
+use Rattle.vyrd_batch.proofs.Prelude.{◌≡◌, ◌-◌, length, drop, IsCut}
 use Rattle.vyrd_batch.proofs.CostLaws.{AreFoundFor}
 use Rattle.vyrd_batch.proofs.reader.whole_logs.Given as goal
 

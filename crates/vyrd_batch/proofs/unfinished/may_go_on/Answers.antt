@@ -1,7 +1,5 @@
-use Rattle.std.proofs.Common.{sym, subst, ◌∙◌, arith}
-use Rattle.vyrd_base.specs.Spelling.{ended_line}
-use Rattle.vyrd_batch.specs.Batches.{first_word, last_line}
-use Rattle.vyrd_batch.specs.Rounds.{IsNothingMore, IsNothingEver, most_left, longest_line}
+use Rattle.vyrd_batch.proofs.Prelude.{sym, subst, ◌∙◌, arith, ended_line, first_word, last_line}
+use Rattle.vyrd_batch.proofs.Prelude.{IsNothingMore, IsNothingEver, most_left, longest_line}
 use Rattle.vyrd_batch.proofs.UnfinishedLaws.{never_first, short_front}
 use Rattle.vyrd_batch.proofs.unfinished.may_go_on.Goals as goal
 

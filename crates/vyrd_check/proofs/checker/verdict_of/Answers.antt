@@ -1,6 +1,4 @@
-use Rattle.std.proofs.Common.{[], ap, ◌∙◌}
-use Rattle.vyrd_base.specs.TextVerdicts.{text_verdict}
-use Rattle.vyrd_judge.proofs.EndFacts.{where_same}
+use Rattle.vyrd_check.proofs.Prelude.{[], ap, ◌∙◌, text_verdict, where_same}
 use Rattle.vyrd_check.proofs.checker.verdict_of.Goals as goal
 
 pub returns : goal.returns

@@ -1,6 +1,4 @@
-use Rattle.std.proofs.Common.{◌||◌, ap, subst, sym, ◌∙◌}
-use Rattle.vyrd_base.specs.Reading.{has_any}
-use Rattle.vyrd_check.specs.Checking.{IsMade}
+use Rattle.vyrd_check.proofs.Prelude.{◌||◌, ap, subst, sym, ◌∙◌, has_any, IsMade}
 use Rattle.vyrd_check.proofs.PieceLaws.{made_from, begun_by}
 use Rattle.vyrd_check.proofs.text_judge.begin.Goals as goal
 

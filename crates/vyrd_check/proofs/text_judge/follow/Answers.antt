@@ -1,10 +1,7 @@
-use Rattle.std.proofs.Common.{◌≡◌, Some, None, ◌++◌, ap, sym, ◌∙◌}
-use Rattle.std.specs.Option.{option_or}
+use Rattle.vyrd_check.proofs.Prelude.{◌≡◌, Some, None, ◌++◌, ap, sym, ◌∙◌, option_or, rules_by}
+use Rattle.vyrd_check.proofs.Prelude.{verdict_so_far, end_verdict, IsJudging, wrong_in, where_same}
 use Rattle.std.specs.Prelude.{if◌then◌else◌}
-use Rattle.vyrd_base.specs.Rules.{rules_by}
-use Rattle.vyrd_base.specs.Verdicts.{verdict_so_far, end_verdict}
-use Rattle.vyrd_check.specs.Checking.{IsJudging, wrong_in}
-use Rattle.vyrd_judge.proofs.EndFacts.{where_same, where_none}
+use Rattle.vyrd_judge.proofs.EndFacts.{where_none}
 use Rattle.vyrd_check.proofs.PieceLaws.{wrong_by, judging_on}
 use Rattle.vyrd_words.proofs.CutLaws.{always}
 use Rattle.vyrd_check.proofs.CostLaws.{followed_paid, open_paid}

@@ -1,7 +1,6 @@
-use Rattle.std.proofs.Common.{◌+◌, ◌≤◌, Some, subst, ◌∙◌, sym}
+use Rattle.vyrd_check.proofs.Prelude.{◌+◌, ◌≤◌, Some, subst, ◌∙◌, sym, IsReady, IsJudging}
+use Rattle.vyrd_check.proofs.Prelude.{judge_owes, following_cost}
 use Rattle.std.specs.Prelude.{OnOk}
-use Rattle.vyrd_check.specs.Checking.{IsReady, IsJudging}
-use Rattle.vyrd_check.specs.Owed.{judge_owes, following_cost}
 use Rattle.vyrd_check.proofs.CostLaws.{still_none}
 use Rattle.vyrd_check.proofs.PieceLaws.{wrong_without, still_without}
 use Rattle.vyrd_check.proofs.text_judge.judge_entries.Goals as goal

@@ -1,6 +1,5 @@
-use Rattle.std.proofs.Common.{◌∙◌, sym, subst, ap, ◌++◌, [], ◌∷◌, ◌≡◌}
-use Rattle.std.proofs.lemmas.Result.{on_ok_weaker}
-use Rattle.vyrd_command.specs.Inside.Accounts.{text_so_far}
+use Rattle.vyrd_command.proofs.Prelude.{◌∙◌, sym, subst, ap, ◌++◌, [], ◌∷◌, ◌≡◌, on_ok_weaker}
+use Rattle.vyrd_command.proofs.Prelude.{text_so_far}
 use Rattle.vyrd_command.proofs.AccountLaws.{entry_shown, nothing_shown, event_shown}
 use Rattle.vyrd_command.proofs.account.show_event.Goals as goal
 

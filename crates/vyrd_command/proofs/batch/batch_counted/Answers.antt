@@ -1,8 +1,5 @@
-use Rattle.vyrd_batch.specs.Batches.{batch_logs}
-use Rattle.vyrd_batch.specs.LongBatches.{longest_batch_input}
-use Rattle.vyrd_check_command.proofs.StatusLaws.{none_failed}
+use Rattle.vyrd_command.proofs.Prelude.{batch_logs, longest_batch_input, none_failed, input_taken}
 use Rattle.vyrd_command.proofs.BatchLaws.{logs_are_input, batch_refused, taken_for}
-use Rattle.vyrd_command.proofs.InputLaws.{input_taken}
 use Rattle.vyrd_command.proofs.StatusLaws.{batch_isnt_four}
 use Rattle.vyrd_command.proofs.batch.batch_counted.Goals as goal
 

@@ -1,5 +1,4 @@
-use Rattle.std.proofs.Common.{◌≤◌, ◌+◌, ◌*◌, length, arith}
-use Rattle.vyrd_command.specs.Inside.BatchCosts.{round_bytes}
+use Rattle.vyrd_command.proofs.Prelude.{◌≤◌, ◌+◌, ◌*◌, length, arith, round_bytes}
 use Rattle.vyrd_command.proofs.BatchLaws.{round_paid, since_none}
 use Rattle.vyrd_command.proofs.batch.judge_round.Goals as goal
 

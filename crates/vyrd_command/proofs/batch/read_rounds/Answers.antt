@@ -1,6 +1,4 @@
-use Rattle.std.proofs.Common.{◌+◌, ◌-◌, arith, false}
-use Rattle.vyrd_base.proofs.DeviceLaws.{reads_in_row}
-use Rattle.vyrd_batch.specs.LongBatches.{longest_batch_input}
+use Rattle.vyrd_command.proofs.Prelude.{◌+◌, ◌-◌, arith, false, reads_in_row, longest_batch_input}
 use Rattle.vyrd_command.proofs.BatchLaws.{reading_more, reading_judged, few_read, since_more}
 use Rattle.vyrd_command.proofs.BatchLaws.{steps_for}
 use Rattle.vyrd_command.proofs.batch.read_rounds.Goals as goal

@@ -1,8 +1,5 @@
-use Rattle.std.proofs.Common.{◌≡◌, ◌-◌, ◌≤◌, false}
-use Rattle.vyrd_base.specs.Devices.{AfterReads}
-use Rattle.vyrd_batch.specs.LongBatches.{longest_batch_input}
-use Rattle.vyrd_command.specs.Batches.{IsReading}
-use Rattle.vyrd_command.specs.Inside.BatchCosts.{IsPaidRound}
+use Rattle.vyrd_command.proofs.Prelude.{◌≡◌, ◌-◌, ◌≤◌, false, AfterReads, longest_batch_input}
+use Rattle.vyrd_command.proofs.Prelude.{IsReading, IsPaidRound}
 use Rattle.vyrd_command.proofs.batch.read_rounds.Given as goal
 
 -- what is read so far, and judged

@@ -1,5 +1,4 @@
-use Rattle.std.proofs.Common.{arith, false}
-use Rattle.vyrd_base.proofs.DeviceLaws.{no_read, reads_in_row}
+use Rattle.vyrd_command.proofs.Prelude.{arith, false, no_read, reads_in_row}
 use Rattle.vyrd_command.proofs.ExplainLaws.{nothing_taken, same_no_further, few_more}
 use Rattle.vyrd_command.proofs.ExplainLaws.{read_no_further, piece_taken, piece_settles}
 use Rattle.vyrd_command.proofs.ExplainLaws.{longest_settled}

@@ -1,6 +1,4 @@
-use Rattle.std.proofs.Common.{◌≡◌, ◌-◌, ◌≤◌, false}
-use Rattle.vyrd_base.specs.Devices.{AfterReads}
-use Rattle.vyrd_command.specs.Explains.{longest_explained}
+use Rattle.vyrd_command.proofs.Prelude.{◌≡◌, ◌-◌, ◌≤◌, false, AfterReads, longest_explained}
 use Rattle.vyrd_command.proofs.ExplainLaws.{TakenSoFar}
 use Rattle.vyrd_command.proofs.explain.take_log.Given as goal
 

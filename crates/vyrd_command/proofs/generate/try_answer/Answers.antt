@@ -1,12 +1,5 @@
-use Rattle.std.proofs.Common.{◌∙◌, ap, subst, inl}
-use Rattle.vyrd_memory.specs.Turns.{GetsStuck}
-use Rattle.vyrd_memory.specs.Showing.{HasRun}
-use Rattle.vyrd_work.specs.Workloads.{workload_of}
-use Rattle.vyrd_work.specs.WorkScripts.{work_scripts}
-use Rattle.vyrd_work.proofs.BuiltIn.{work_built_in}
-use Rattle.vyrd_live.proofs.FreshWorkers.{both_ok}
-use Rattle.vyrd_command.specs.Inside.Accounts.{HasTaken}
-use Rattle.vyrd_command.specs.Generated.{CountsRun}
+use Rattle.vyrd_command.proofs.Prelude.{◌∙◌, ap, subst, inl, GetsStuck, HasRun, workload_of}
+use Rattle.vyrd_command.proofs.Prelude.{work_scripts, work_built_in, both_ok, HasTaken, CountsRun}
 use Rattle.vyrd_command.proofs.StepLaws.{of_match}
 use Rattle.vyrd_command.proofs.TellingLaws.{of_some, counts_run}
 use Rattle.vyrd_command.proofs.generate.try_answer.Goals as goal

@@ -1,8 +1,5 @@
-use Rattle.vyrd_mover.specs.HistoryReading.{history_reading}
-use Rattle.vyrd_mover.specs.LongHistories.{longest_history}
-use Rattle.vyrd_check_command.proofs.StatusLaws.{none_failed}
+use Rattle.vyrd_command.proofs.Prelude.{history_reading, longest_history, none_failed, input_taken}
 use Rattle.vyrd_command.proofs.MoversLaws.{history_is_input, movers_refused}
-use Rattle.vyrd_command.proofs.InputLaws.{input_taken}
 use Rattle.vyrd_command.proofs.StatusLaws.{movers_isnt_four}
 use Rattle.vyrd_command.proofs.movers.movers.Goals as goal
 

@@ -1,8 +1,5 @@
-use Rattle.std.proofs.Common.{◌-◌, ◌++◌, subst, arith, false}
-use Rattle.vyrd_base.proofs.DeviceLaws.{no_read, reads_in_row}
-use Rattle.vyrd_mover.specs.HistoryReaders.{HasRead}
-use Rattle.vyrd_mover.specs.LongHistories.{longest_history}
-use Rattle.vyrd_command.specs.Inputs.{IsMoreRead}
+use Rattle.vyrd_command.proofs.Prelude.{◌-◌, ◌++◌, subst, arith, false, no_read, reads_in_row}
+use Rattle.vyrd_command.proofs.Prelude.{HasRead, longest_history, IsMoreRead}
 use Rattle.vyrd_command.proofs.MoversLaws.{nothing_read, piece_read}
 use Rattle.vyrd_command.proofs.movers.read_history.Goals as goal
 

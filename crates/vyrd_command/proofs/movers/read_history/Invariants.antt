@@ -1,6 +1,4 @@
-use Rattle.std.proofs.Common.{◌≡◌, ◌-◌, ◌≤◌, false}
-use Rattle.vyrd_base.specs.Devices.{AfterReads}
-use Rattle.vyrd_mover.specs.LongHistories.{longest_history}
+use Rattle.vyrd_command.proofs.Prelude.{◌≡◌, ◌-◌, ◌≤◌, false, AfterReads, longest_history}
 use Rattle.vyrd_command.proofs.MoversLaws.{ReadSoFar}
 use Rattle.vyrd_command.proofs.movers.read_history.Given as goal
 

@@ -1,11 +1,8 @@
 -- What the call does under the form that the words have is what it does for the words.
-use Rattle.std.proofs.Common.{◌≡◌, ◌≤◌, ap, ◌∙◌, sym, subst, Some, false, inl, length}
-use Rattle.std.specs.Prelude.{◌==◌}
-use Rattle.vyrd_base.specs.Limits.{most_lines}
-use Rattle.vyrd_check_command.specs.Checks.{HasRoomForAnswer}
-use Rattle.vyrd_check_command.proofs.StatusLaws.{reads_told, writes_within}
-use Rattle.vyrd_command.specs.Forms.{form_said, usage_line}
-use Rattle.vyrd_command.specs.Commands.{reads, HasRoom, IsEnough, IsNoFurther}
+use Rattle.vyrd_command.proofs.Prelude.{◌≡◌, ◌≤◌, ap, ◌∙◌, sym, subst, Some, false, inl, length}
+use Rattle.vyrd_command.proofs.Prelude.{◌==◌, most_lines, HasRoomForAnswer, reads_told}
+use Rattle.vyrd_command.proofs.Prelude.{writes_within, form_said, usage_line, reads, HasRoom}
+use Rattle.vyrd_command.proofs.Prelude.{IsEnough, IsNoFurther}
 use Rattle.vyrd_command.proofs.CommandLaws.{written_status, written_answer, written_in_part}
 use Rattle.vyrd_command.proofs.CommandLaws.{text_fits, enough_taken, checked_status}
 use Rattle.vyrd_command.proofs.CommandLaws.{checked_untouched, checked_answer, checked_in_part}

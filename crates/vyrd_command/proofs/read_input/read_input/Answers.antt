@@ -1,5 +1,4 @@
-use Rattle.std.proofs.Common.{◌∙◌, arith, length-drop, false}
-use Rattle.vyrd_base.proofs.DeviceLaws.{reads_in_row}
+use Rattle.vyrd_command.proofs.Prelude.{◌∙◌, arith, length-drop, false, reads_in_row}
 use Rattle.vyrd_command.proofs.BehindLaws.{taken_behind}
 use Rattle.vyrd_command.proofs.read_input.read_input.Goals as goal
 

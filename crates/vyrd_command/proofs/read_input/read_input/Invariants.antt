@@ -1,6 +1,5 @@
-use Rattle.std.proofs.Common.{◌≡◌, ◌+◌, ◌-◌, ◌≤◌, take, vec_len, false}
-use Rattle.vyrd_base.specs.Devices.{AfterReads}
-use Rattle.vyrd_check_command.specs.Inputs.{IsTaken, longest_read}
+use Rattle.vyrd_command.proofs.Prelude.{AfterReads, IsTaken, longest_read}
+use Rattle.std.proofs.Common.{vec_len, ◌≡◌, ◌+◌, ◌-◌, ◌≤◌, take, false}
 use Rattle.vyrd_command.proofs.read_input.read_input.Given as goal
 
 abbrev pub invariant-loop-count : goal.invariant-loop-count

@@ -1,6 +1,5 @@
-use Rattle.std.proofs.Common.{◌≡◌, ◌+◌, ◌≤◌, ◌++◌, length, take, drop, ap, ◌∙◌, arith, length-take}
-use Rattle.std.proofs.Common.{length-drop}
-use Rattle.std.proofs.Math.Seq.{take-add}
+use Rattle.vyrd_command.proofs.Prelude.{◌≡◌, ◌+◌, ◌≤◌, ◌++◌, length, take, drop, ap, ◌∙◌, arith}
+use Rattle.vyrd_command.proofs.Prelude.{length-take, length-drop, take-add}
 use Rattle.vyrd_command.proofs.BehindLaws.{front_kept}
 use Rattle.vyrd_command.proofs.read_input.read_more.Goals as goal
 

@@ -1,12 +1,6 @@
-use Rattle.std.proofs.Common.{◌∙◌, ◌<◌, ap, subst, inl, inr, Some, None}
-use Rattle.std.specs.Prelude.{IfSome}
-use Rattle.vyrd_memory.specs.Bounds.{bounds_of}
-use Rattle.vyrd_work.specs.Workloads.{workload_of}
-use Rattle.vyrd_work.specs.WorkScripts.{ops_of, work_scripts}
-use Rattle.vyrd_live.specs.LiveRuns.{LeavesRun}
-use Rattle.vyrd_work.proofs.BuiltIn.{work_built_in}
-use Rattle.vyrd_live.proofs.FreshWorkers.{both_ok}
-use Rattle.vyrd_command.specs.Inside.Accounts.{HasTaken}
+use Rattle.vyrd_command.proofs.Prelude.{◌∙◌, ◌<◌, ap, subst, inl, inr, Some, None, IfSome}
+use Rattle.vyrd_command.proofs.Prelude.{bounds_of, workload_of, ops_of, work_scripts, LeavesRun}
+use Rattle.vyrd_command.proofs.Prelude.{work_built_in, both_ok, HasTaken}
 use Rattle.vyrd_command.proofs.TellingLaws.{tells_live}
 use Rattle.vyrd_command.proofs.run.play.Goals as goal
 

@@ -1,8 +1,5 @@
-use Rattle.vyrd_work.specs.LongInputs.{longest_input}
-use Rattle.vyrd_work.specs.WorkReading.{work_reading}
-use Rattle.vyrd_check_command.proofs.StatusLaws.{none_failed}
+use Rattle.vyrd_command.proofs.Prelude.{longest_input, work_reading, none_failed, input_taken}
 use Rattle.vyrd_command.proofs.StepLaws.{reading_is_input, step_refused}
-use Rattle.vyrd_command.proofs.InputLaws.{input_taken}
 use Rattle.vyrd_command.proofs.StatusLaws.{step_isnt_four}
 use Rattle.vyrd_command.proofs.step.step.Goals as goal
 

@@ -1,5 +1,4 @@
-use Rattle.std.proofs.Common.{◌++◌, [], ◌∷◌, ap, ◌∙◌, sym, append_assoc}
-use Rattle.std.specs.Prelude.{codes, decimal}
+use Rattle.vyrd_command.proofs.Prelude.{◌++◌, [], ◌∷◌, ap, ◌∙◌, sym, append_assoc, codes, decimal}
 use Rattle.vyrd_command.proofs.telling.counts.Goals as goal
 
 pub returns : goal.returns

@@ -1,10 +1,5 @@
-use Rattle.std.proofs.Common.{◌⊎◌, inl, inr, List}
-use Rattle.vyrd_base.specs.declared.history.Stamped.{Stamped}
-use Rattle.vyrd_memory.specs.Turns.{GetsStuck, RunsTo}
-use Rattle.vyrd_work.specs.Workloads.{Workload}
-use Rattle.vyrd_work.specs.WorkLimits.{KeepsLimits}
-use Rattle.vyrd_work.specs.WorkScripts.{work_scripts}
-use Rattle.vyrd_every.specs.Schedules.{IsCorrect, IsSchedule}
+use Rattle.vyrd_every.proofs.Prelude.{◌⊎◌, inl, inr, List, Stamped, GetsStuck, RunsTo, Workload}
+use Rattle.vyrd_every.proofs.Prelude.{KeepsLimits, work_scripts, IsCorrect, IsSchedule}
 use Rattle.vyrd_every.proofs.Ending.{run_ends_or_sticks}
 use Rattle.vyrd_every.proofs.Interleaved.{run_is_schedule}
 use Rattle.vyrd_every.proofs.Workloads.{not_stuck}

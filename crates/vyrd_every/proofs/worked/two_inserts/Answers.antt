@@ -1,5 +1,4 @@
-use Rattle.std.proofs.Common.{refl, rules}
-use Rattle.vyrd_work.specs.WorkLimits.{KeepsLimits}
+use Rattle.vyrd_every.proofs.Prelude.{refl, rules, KeepsLimits}
 use Rattle.vyrd_every.specs.Interleaved.{inserts, inserts_history}
 use Rattle.vyrd_every.proofs.Interleaved.{run_is_schedule}
 use Rattle.vyrd_every.proofs.worked.two_inserts.Goals as goal

@@ -1,5 +1,4 @@
-use Rattle.std.proofs.Common.{ap, ◌∙◌, get_or}
-use Rattle.vyrd_base.specs.Amounts.{with_amount}
+use Rattle.vyrd_follow.proofs.Prelude.{ap, ◌∙◌, get_or, with_amount}
 use Rattle.vyrd_follow.proofs.GatheredLaws.{with_next}
 use Rattle.vyrd_follow.proofs.built_in_words.gathered.Goals as goal
 

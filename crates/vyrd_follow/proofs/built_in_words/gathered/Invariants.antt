@@ -1,6 +1,4 @@
-use Rattle.std.proofs.Common.{◌≡◌, take}
-use Rattle.vyrd_base.specs.Amounts.{IsAmounts}
-use Rattle.vyrd_base.specs.Views.{view_of_words}
+use Rattle.vyrd_follow.proofs.Prelude.{◌≡◌, take, IsAmounts, view_of_words}
 use Rattle.vyrd_follow.proofs.built_in_words.gathered.Given as goal
 
 abbrev pub invariant-loop-key : goal.invariant-loop-key

@@ -1,13 +1,9 @@
-use Rattle.std.proofs.Common.{◌≡◌, ◌≢◌, ℕ, Bool, true, false, List, [], ◌∷◌, length, refl, ap, ◌∙◌}
-use Rattle.std.proofs.Common.{sym, subst, arith}
-use Rattle.std.specs.Prelude.{◌==◌}
+use Rattle.vyrd_follow.proofs.Prelude.{◌≡◌, ◌≢◌, ℕ, Bool, true, false, List, [], ◌∷◌, length, refl}
+use Rattle.vyrd_follow.proofs.Prelude.{ap, ◌∙◌, sym, subst, arith, ◌==◌, IsAmounts, view_of_words}
+use Rattle.vyrd_follow.proofs.Prelude.{same_of, apart_of, Wrote}
 use Rattle.std.proofs.lemmas.List.{drop_all}
-use Rattle.vyrd_base.specs.Amounts.{IsAmounts}
-use Rattle.vyrd_base.specs.Views.{view_of_words}
-use Rattle.vyrd_base.proofs.TestLaws.{same_of, apart_of}
-use Rattle.vyrd_witness.specs.declared.item.Item.TheVariants.{Wrote}
-use Rattle.vyrd_follow.proofs.TurnLaws.{nothing_turns, something_turns, turned_at}
-use Rattle.vyrd_follow.proofs.TurnLaws.{all_turned, all_said, view_formed}
+use Rattle.vyrd_follow.proofs.TurnLaws.{nothing_turns, something_turns, turned_at, all_turned}
+use Rattle.vyrd_follow.proofs.TurnLaws.{all_said, view_formed}
 use Rattle.vyrd_follow.proofs.built_in_words.put_items.Goals as goal
 use Rattle.vyrd_follow.proofs.built_in_words.put_items.Goals.{then-is_empty+in_ok-push}
 use Rattle.vyrd_follow.proofs.built_in_words.put_items.Goals.{else-is_empty}

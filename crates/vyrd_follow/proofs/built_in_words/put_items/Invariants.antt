@@ -1,8 +1,4 @@
-use Rattle.std.proofs.Common.{◌++◌, drop}
-use Rattle.vyrd_base.specs.Views.{view_of_words}
-use Rattle.vyrd_witness.specs.declared.item.Item.TheVariants.{Wrote}
-use Rattle.vyrd_follow.specs.Following.{or_item}
-use Rattle.vyrd_follow.specs.Turns.{turn_items}
+use Rattle.vyrd_follow.proofs.Prelude.{◌++◌, drop, view_of_words, Wrote, or_item, turn_items}
 use Rattle.vyrd_follow.proofs.TurnLaws.{IsTurning}
 use Rattle.vyrd_follow.proofs.built_in_words.put_items.Given as goal
 

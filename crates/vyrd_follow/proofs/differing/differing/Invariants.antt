@@ -1,5 +1,4 @@
-use Rattle.std.proofs.Common.{◌≡◌, ◌+◌, ◌≤◌, ◌++◌, length, drop}
-use Rattle.vyrd_follow.specs.Turns.{turns}
+use Rattle.vyrd_follow.proofs.Prelude.{◌≡◌, ◌+◌, ◌≤◌, ◌++◌, length, drop, turns}
 use Rattle.vyrd_follow.proofs.differing.differing.Given as goal
 
 abbrev pub invariant-loop-turn : goal.invariant-loop-turn

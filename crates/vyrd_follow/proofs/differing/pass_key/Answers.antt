@@ -1,8 +1,5 @@
-use Rattle.std.proofs.Common.{◌≡◌, ◌<◌, ℕ, length, refl, ap, ◌∙◌, arith}
-use Rattle.std.specs.Ordering.{nat_cmp}
-use Rattle.std.specs.declared.cmp.Ordering.TheVariants.{Less, Equal, Greater}
-use Rattle.std.proofs.lemmas.Bool.Decides.{nat_tests}
-use Rattle.std.proofs.lemmas.Option.{slice_get_read, slice_get_past}
+use Rattle.vyrd_follow.proofs.Prelude.{◌≡◌, ◌<◌, ℕ, length, refl, ap, ◌∙◌, arith, nat_cmp, Less}
+use Rattle.vyrd_follow.proofs.Prelude.{Equal, Greater, nat_tests, slice_get_read, slice_get_past}
 use Rattle.vyrd_follow.proofs.DifferingLaws.{none_here, greater_here, gone, come, turns_here}
 use Rattle.vyrd_follow.proofs.DifferingLaws.{stays_here}
 use Rattle.vyrd_follow.proofs.differing.pass_key.Goals as goal

@@ -1,13 +1,8 @@
-use Rattle.std.proofs.Common.{◌≡◌, [], ◌++◌, length, map, refl, ap, ◌∙◌, sym, append-nil}
-use Rattle.std.specs.Option.{option_map_or}
-use Rattle.vyrd_base.specs.Rules.{Rules, rules_by}
-use Rattle.vyrd_item_text.specs.ItemText.{items_text}
-use Rattle.vyrd_witness.specs.declared.item.Item.TheVariants.{Stepped}
-use Rattle.vyrd_witness.specs.Changes.{words_through}
-use Rattle.vyrd_witness.specs.Effects.{effects_there}
-use Rattle.vyrd_witness.specs.ViewWitnesses.{words_then}
+use Rattle.vyrd_follow.proofs.Prelude.{◌≡◌, [], ◌++◌, length, map, refl, ap, ◌∙◌, sym, append-nil}
+use Rattle.vyrd_follow.proofs.Prelude.{option_map_or, Rules, rules_by, items_text, Stepped}
+use Rattle.vyrd_follow.proofs.Prelude.{words_through, effects_there, words_then, agreed_items}
+use Rattle.vyrd_follow.proofs.Prelude.{start_items, writes_items, entry_items}
 use Rattle.vyrd_witness.proofs.WrittenLaws.{there_fit}
-use Rattle.vyrd_follow.specs.Following.{agreed_items, start_items, writes_items, entry_items}
 use Rattle.vyrd_follow.proofs.FollowLaws.{words_on, length_then, known_start, start_is, text_next}
 use Rattle.vyrd_follow.proofs.following.follow.Goals as goal
 

@@ -1,13 +1,7 @@
-use Rattle.std.proofs.Common.{◌≡◌, ◌++◌, take}
-use Rattle.std.specs.Prelude.{flat_map}
-use Rattle.std.specs.Option.{option_map}
+use Rattle.vyrd_follow.proofs.Prelude.{◌≡◌, ◌++◌, take, flat_map, option_map, rules_by, items_text}
+use Rattle.vyrd_follow.proofs.Prelude.{IsKnown, run_by, words_then, start_items, entry_items}
 use Rattle.vyrd_base.specs.Places.{newest_first, numbers_below}
-use Rattle.vyrd_base.specs.Rules.{rules_by}
-use Rattle.vyrd_item_text.specs.ItemText.{items_text}
-use Rattle.vyrd_states.specs.Running.{IsKnown, run_by}
 use Rattle.vyrd_witness.specs.Phases.{ArePhases}
-use Rattle.vyrd_witness.specs.ViewWitnesses.{words_then}
-use Rattle.vyrd_follow.specs.Following.{start_items, entry_items}
 use Rattle.vyrd_follow.proofs.following.follow.Given as goal
 
 abbrev pub invariant-loop-at : goal.invariant-loop-at

@@ -1,5 +1,4 @@
-use Rattle.std.proofs.Common.{◌≡◌, ◌++◌, take}
-use Rattle.vyrd_follow.specs.Following.{agreed_items}
+use Rattle.vyrd_follow.proofs.Prelude.{◌≡◌, ◌++◌, take, agreed_items}
 use Rattle.vyrd_follow.proofs.following.put_agreed.Given as goal
 
 abbrev pub invariant-loop-key : goal.invariant-loop-key

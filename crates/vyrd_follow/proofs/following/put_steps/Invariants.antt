@@ -1,5 +1,4 @@
-use Rattle.std.proofs.Common.{◌≡◌, ◌++◌, map, take}
-use Rattle.vyrd_witness.specs.declared.item.Item.TheVariants.{Stepped}
+use Rattle.vyrd_follow.proofs.Prelude.{◌≡◌, ◌++◌, map, take, Stepped}
 use Rattle.vyrd_follow.proofs.following.put_steps.Given as goal
 
 abbrev pub invariant-loop-effect : goal.invariant-loop-effect

@@ -1,7 +1,5 @@
-use Rattle.std.proofs.Common.{◌≡◌, ◌++◌, drop, length}
-use Rattle.vyrd_base.specs.Rules.{rules_by}
-use Rattle.vyrd_witness.specs.Changes.{words_through}
-use Rattle.vyrd_follow.specs.Following.{writes_items}
+use Rattle.vyrd_follow.proofs.Prelude.{◌≡◌, ◌++◌, drop, length, rules_by, words_through}
+use Rattle.vyrd_follow.proofs.Prelude.{writes_items}
 use Rattle.vyrd_follow.proofs.following.put_writes.Given as goal
 
 abbrev pub invariant-loop-effect : goal.invariant-loop-effect

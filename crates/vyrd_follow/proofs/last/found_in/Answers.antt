@@ -1,8 +1,7 @@
-use Rattle.std.proofs.Common.{[], ◌∷◌, ◌++◌, None, take, filter_map, ap, ◌∙◌, sym, append-nil}
-use Rattle.std.specs.List.{cons_option}
-use Rattle.vyrd_base.proofs.ListLaws.{filter_map_more}
-use Rattle.vyrd_follow.proofs.last.found_in.Goals.{in-Some+in_ok-push, in_default}
+use Rattle.vyrd_follow.proofs.Prelude.{[], ◌∷◌, ◌++◌, None, take, filter_map, ap, ◌∙◌, sym}
+use Rattle.vyrd_follow.proofs.Prelude.{append-nil, cons_option, filter_map_more}
 use Rattle.vyrd_follow.proofs.last.found_in.Goals as goal
+use Rattle.vyrd_follow.proofs.last.found_in.Goals.{in-Some+in_ok-push, in_default}
 
 pub loop-item-preserved : goal.loop-item-preserved
 loop-item-preserved c =

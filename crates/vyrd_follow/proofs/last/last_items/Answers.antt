@@ -1,8 +1,6 @@
-use Rattle.std.proofs.Common.{rules, ◌≡◌, ◌++◌, refl, ap, ◌∙◌, sym, arith, map, filter_map}
-use Rattle.std.proofs.lemmas.Result.{IfOk-weaker}
-use Rattle.vyrd_states.specs.Running.{run_by}
+use Rattle.vyrd_follow.proofs.Prelude.{rules, ◌≡◌, ◌++◌, refl, ap, ◌∙◌, sym, arith, map, filter_map}
+use Rattle.vyrd_follow.proofs.Prelude.{IfOk-weaker, run_by, placed_at, done_before, last_item}
 use Rattle.vyrd_states.proofs.RunLaws.{known_first}
-use Rattle.vyrd_follow.specs.LastSteps.{placed_at, done_before, last_item}
 use Rattle.vyrd_follow.proofs.LastLaws.{none_set, done_next, there_in}
 use Rattle.vyrd_follow.proofs.last.last_items.Goals as goal
 

@@ -1,7 +1,5 @@
-use Rattle.std.proofs.Common.{◌≡◌, length, map, vec_len}
-use Rattle.std.specs.Option.{option_map}
-use Rattle.vyrd_states.specs.Running.{IsKnown, run_by}
-use Rattle.vyrd_follow.specs.LastSteps.{done_before, last_item}
+use Rattle.vyrd_follow.proofs.Prelude.{◌≡◌, length, map, vec_len, option_map, IsKnown, run_by}
+use Rattle.vyrd_follow.proofs.Prelude.{done_before, last_item}
 use Rattle.vyrd_follow.proofs.last.last_items.Given as goal
 
 abbrev pub invariant-loop-p : goal.invariant-loop-p

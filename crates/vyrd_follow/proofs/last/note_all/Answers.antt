@@ -1,6 +1,5 @@
-use Rattle.std.proofs.Common.{◌++◌, ap, get_or, map, set, ◌∙◌, sym}
-use Rattle.vyrd_witness.specs.declared.item.Item.TheVariants.{Called}
-use Rattle.vyrd_follow.specs.LastSteps.{placed_at, last_of, last_item}
+use Rattle.vyrd_follow.proofs.Prelude.{◌++◌, ap, get_or, map, set, ◌∙◌, sym, Called, placed_at}
+use Rattle.vyrd_follow.proofs.Prelude.{last_of, last_item}
 use Rattle.vyrd_follow.proofs.LastLaws.{one_more_set, here_still}
 use Rattle.vyrd_follow.proofs.last.note_all.Goals as goal
 

@@ -1,6 +1,5 @@
-use Rattle.std.proofs.Common.{◌≡◌, ◌++◌, ℕ, List, map, take, drop, length, vec_len}
-use Rattle.vyrd_base.specs.declared.own.effect.Effect.{Effect}
-use Rattle.vyrd_follow.specs.LastSteps.{placed_at, last_item}
+use Rattle.vyrd_follow.proofs.Prelude.{◌≡◌, ◌++◌, ℕ, List, map, take, drop, length, vec_len, Effect}
+use Rattle.vyrd_follow.proofs.Prelude.{placed_at, last_item}
 use Rattle.vyrd_follow.proofs.last.note_all.Given as goal
 
 abbrev pub invariant-loop-i : goal.invariant-loop-i

@@ -1,11 +1,10 @@
-use Rattle.std.proofs.Common.{◌≡◌, ◌++◌, ap, cond, Some, ◌∙◌, sym, take, get_or, map}
-use Rattle.std.proofs.lemmas.List.{take_more, take_all}
+use Rattle.vyrd_follow.proofs.Prelude.{◌≡◌, ◌++◌, ap, cond, Some, ◌∙◌, sym, take, get_or, map}
+use Rattle.vyrd_follow.proofs.Prelude.{take_more, take_all, LastStepped, does_set, last_of}
+use Rattle.vyrd_follow.proofs.Prelude.{placed_at}
 use Rattle.vyrd_base.specs.declared.own.effect.Effect.TheVariants.{SetShown}
-use Rattle.vyrd_witness.specs.declared.item.Item.TheVariants.{LastStepped}
-use Rattle.vyrd_follow.specs.LastSteps.{does_set, last_of, placed_at}
 use Rattle.vyrd_follow.proofs.LastLaws.{noted_next}
-use Rattle.vyrd_follow.proofs.last.noted.Goals.{then-is_set_by, else-is_set_by}
 use Rattle.vyrd_follow.proofs.last.noted.Goals as goal
+use Rattle.vyrd_follow.proofs.last.noted.Goals.{then-is_set_by, else-is_set_by}
 
 pub loop-effect-preserved : goal.loop-effect-preserved
 loop-effect-preserved c = λ before is.

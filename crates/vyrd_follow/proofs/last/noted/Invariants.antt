@@ -1,6 +1,4 @@
-use Rattle.std.proofs.Common.{◌≡◌, ◌++◌, ℕ, List, map, take}
-use Rattle.vyrd_base.specs.declared.own.effect.Effect.{Effect}
-use Rattle.vyrd_follow.specs.LastSteps.{placed_at, last_of}
+use Rattle.vyrd_follow.proofs.Prelude.{◌≡◌, ◌++◌, ℕ, List, map, take, Effect, placed_at, last_of}
 use Rattle.vyrd_follow.proofs.last.noted.Given as goal
 
 abbrev pub invariant-loop-effect : goal.invariant-loop-effect

@@ -1,6 +1,5 @@
 use Rattle.std.proofs.Common.{◌≡◌, ◌+◌, ◌-◌, true, false, length, length-set, get_or, set, refl}
-use Rattle.std.proofs.Common.{subst, sym}
-use Rattle.std.proofs.Common.{◌∙◌, arith}
+use Rattle.std.proofs.Common.{subst, sym, ◌∙◌, arith}
 use Rattle.vyrd_base.specs.Tree.{right_of}
 use Rattle.vyrd_view.proofs.ChainLaws.{unseen_within}
 use Rattle.vyrd_view.proofs.WalkLaws.{Walks, walks_begin, walks_left, walk_over, walk_stops}

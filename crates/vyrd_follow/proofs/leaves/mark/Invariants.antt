@@ -1,5 +1,4 @@
-use Rattle.std.proofs.Common.{◌≡◌, ◌-◌, ◌<◌, length}
-use Rattle.vyrd_view.proofs.WalkLaws.{Walks}
+use Rattle.vyrd_follow.proofs.Prelude.{◌≡◌, ◌-◌, ◌<◌, length, Walks}
 use Rattle.vyrd_follow.proofs.leaves.mark.Given as goal
 
 abbrev pub invariant-loop-turn : goal.invariant-loop-turn

@@ -1,7 +1,5 @@
-use Rattle.std.proofs.Common.{◌≢◌, ◌+◌, sym, subst, arith}
-use Rattle.std.proofs.lemmas.Result.{IfOk-weaker}
-use Rattle.vyrd_base.specs.Amounts.{amount_of}
-use Rattle.vyrd_base.specs.Tree.{node_word}
+use Rattle.vyrd_follow.proofs.Prelude.{◌≢◌, ◌+◌, sym, subst, arith, IfOk-weaker, amount_of}
+use Rattle.vyrd_follow.proofs.Prelude.{node_word}
 use Rattle.vyrd_follow.proofs.NodeKeyLaws.{entries_there, there_then, first_there, second_there}
 use Rattle.vyrd_follow.proofs.node.node_keys.Goals as goal
 

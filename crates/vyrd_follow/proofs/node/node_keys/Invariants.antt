@@ -1,6 +1,4 @@
-use Rattle.std.proofs.Common.{◌≢◌, ℕ, ◌+◌, ◌<◌}
-use Rattle.vyrd_base.specs.Amounts.{amount_of}
-use Rattle.vyrd_base.specs.Tree.{node_word}
+use Rattle.vyrd_follow.proofs.Prelude.{◌≢◌, ℕ, ◌+◌, ◌<◌, amount_of, node_word}
 use Rattle.vyrd_follow.proofs.node.node_keys.Given as goal
 
 abbrev pub invariant-loop-j : goal.invariant-loop-j

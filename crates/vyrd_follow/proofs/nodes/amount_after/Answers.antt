@@ -1,9 +1,5 @@
-use Rattle.std.proofs.Common.{◌≡◌, ◌+◌, ◌/◌, ap, ◌∙◌, arith}
-use Rattle.std.proofs.lemmas.List.{set-get_or}
-use Rattle.vyrd_base.specs.Amounts.{amount_of}
-use Rattle.vyrd_base.specs.Views.{view_of_words}
-use Rattle.vyrd_base.proofs.HeaderLaws.{low_size}
-use Rattle.vyrd_follow.specs.Nodes.{node_given}
+use Rattle.vyrd_follow.proofs.Prelude.{◌≡◌, ◌+◌, ◌/◌, ap, ◌∙◌, arith, set-get_or, amount_of}
+use Rattle.vyrd_follow.proofs.Prelude.{view_of_words, low_size, node_given}
 use Rattle.vyrd_follow.proofs.TreeLaws.{node_turned, tree_small}
 use Rattle.vyrd_follow.proofs.nodes.amount_after.Goals as goal
 

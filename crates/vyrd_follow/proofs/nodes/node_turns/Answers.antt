@@ -1,7 +1,4 @@
-use Rattle.std.proofs.Common.{◌/◌, ap, ◌∙◌}
-use Rattle.vyrd_base.specs.Amounts.{amount_of}
-use Rattle.vyrd_base.specs.Subjects.{is_built_in}
-use Rattle.vyrd_base.specs.Views.{view_of_words}
+use Rattle.vyrd_follow.proofs.Prelude.{◌/◌, ap, ◌∙◌, amount_of, is_built_in, view_of_words}
 use Rattle.vyrd_base.proofs.HeaderLaws.{some_size}
 use Rattle.vyrd_follow.proofs.NodeTurnLaws.{no_turns, all_found, marks_off, marks_low, marks_on}
 use Rattle.vyrd_follow.proofs.TreeLaws.{node_unturned}

@@ -1,5 +1,4 @@
-use Rattle.std.proofs.Common.{◌≡◌, take}
-use Rattle.vyrd_base.specs.Views.{view_of_words}
+use Rattle.vyrd_follow.proofs.Prelude.{◌≡◌, take, view_of_words}
 use Rattle.vyrd_follow.proofs.NodeTurnLaws.{turns_among}
 use Rattle.vyrd_follow.proofs.nodes.node_turns.Given as goal
 

@@ -1,8 +1,4 @@
-use Rattle.std.proofs.Common.{◌≡◌, ◌≤◌, ℕ, true}
-use Rattle.std.specs.Prelude.{IfSome}
-use Rattle.vyrd_base.specs.Amounts.{given}
-use Rattle.vyrd_own_states.specs.PartPairs.{pairs_in}
-use Rattle.vyrd_follow.specs.NextKeys.{comes_before}
+use Rattle.vyrd_follow.proofs.Prelude.{◌≡◌, ◌≤◌, ℕ, true, IfSome, given, pairs_in, comes_before}
 use Rattle.vyrd_follow.proofs.part_change.next_key.Given as goal
 
 abbrev pub invariant-loop-place : goal.invariant-loop-place

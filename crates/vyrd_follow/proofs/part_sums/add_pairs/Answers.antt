@@ -1,8 +1,7 @@
-use Rattle.std.proofs.Common.{◌≡◌, ℕ, ◌+◌, get_or, ap, ◌∙◌, sym, subst, arith}
-use Rattle.vyrd_base.specs.Amounts.{IsAmounts, amount_of, with_amount}
-use Rattle.vyrd_base.proofs.AmountLaws.{IsAmounts-with_amount}
+use Rattle.vyrd_follow.proofs.Prelude.{◌≡◌, ℕ, ◌+◌, get_or, ap, ◌∙◌, sym, subst, arith, IsAmounts}
+use Rattle.vyrd_follow.proofs.Prelude.{amount_of, with_amount, IsAmounts-with_amount}
+use Rattle.vyrd_follow.proofs.Prelude.{given_map_push}
 use Rattle.vyrd_base.proofs.SumLaws.{amount_of-plus, part_at_most}
-use Rattle.vyrd_view.specs.Laws.Sums.{given_map_push}
 use Rattle.vyrd_follow.proofs.part_sums.add_pairs.Goals as goal
 
 pub loop-place-preserved : goal.loop-place-preserved

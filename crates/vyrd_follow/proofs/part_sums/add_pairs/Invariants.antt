@@ -1,6 +1,5 @@
-use Rattle.std.proofs.Common.{◌≡◌, ◌+◌, ◌*◌, ◌≤◌, ◌^◌, ℕ}
-use Rattle.vyrd_base.specs.Amounts.{IsAmounts, amount_of, given}
-use Rattle.vyrd_own_states.specs.PartPairs.{pairs_in}
+use Rattle.vyrd_follow.proofs.Prelude.{◌≡◌, ◌+◌, ◌*◌, ◌≤◌, ◌^◌, ℕ, IsAmounts, amount_of, given}
+use Rattle.vyrd_follow.proofs.Prelude.{pairs_in}
 use Rattle.vyrd_follow.proofs.part_sums.add_pairs.Given as goal
 
 abbrev pub invariant-loop-place : goal.invariant-loop-place

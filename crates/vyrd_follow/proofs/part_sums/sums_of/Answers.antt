@@ -1,10 +1,6 @@
-use Rattle.std.proofs.Common.{◌≡◌, subst, ap, ◌∙◌, arith}
-use Rattle.vyrd_base.specs.Amounts.{IsAmounts, amount_of, given}
-use Rattle.vyrd_base.proofs.AmountLaws.{same_amounts}
-use Rattle.vyrd_base.proofs.SumLaws.{IsAmounts-collected}
-use Rattle.vyrd_view.specs.Decoded.{pairs_by}
-use Rattle.vyrd_view.specs.Known.{view_by}
-use Rattle.vyrd_own_states.specs.PartPairs.{pairs_in}
+use Rattle.vyrd_follow.proofs.Prelude.{◌≡◌, subst, ap, ◌∙◌, arith, IsAmounts, amount_of, given}
+use Rattle.vyrd_follow.proofs.Prelude.{same_amounts, IsAmounts-collected, pairs_by, view_by}
+use Rattle.vyrd_follow.proofs.Prelude.{pairs_in}
 use Rattle.vyrd_own_states.proofs.PairLaws.{part_added, all_parts}
 use Rattle.vyrd_follow.proofs.part_sums.sums_of.Goals as goal
 

@@ -1,8 +1,5 @@
-use Rattle.std.proofs.Common.{◌≡◌, ◌*◌, ◌≤◌, ◌^◌, ℕ}
-use Rattle.std.specs.Prelude.{flat_map}
-use Rattle.vyrd_base.specs.Amounts.{IsAmounts, amount_of, given}
-use Rattle.vyrd_base.specs.Places.{numbers_below}
-use Rattle.vyrd_own_states.specs.PartPairs.{part_pairs}
+use Rattle.vyrd_follow.proofs.Prelude.{◌≡◌, ◌*◌, ◌≤◌, ◌^◌, ℕ, flat_map, IsAmounts, amount_of, given}
+use Rattle.vyrd_follow.proofs.Prelude.{numbers_below, part_pairs}
 use Rattle.vyrd_follow.proofs.part_sums.sums_of.Given as goal
 
 abbrev pub invariant-loop-part : goal.invariant-loop-part

@@ -1,7 +1,4 @@
-use Rattle.std.proofs.Common.{subst}
-use Rattle.std.specs.Option.{option_map}
-use Rattle.std.proofs.lemmas.Result.{IfOk-weaker}
-use Rattle.vyrd_states.specs.Running.{IsKnown, run_by}
+use Rattle.vyrd_follow.proofs.Prelude.{subst, option_map, IfOk-weaker, IsKnown, run_by}
 use Rattle.vyrd_follow.proofs.PassLaws.{known_past, none_past}
 use Rattle.vyrd_follow.proofs.step.pass.Goals as goal
 

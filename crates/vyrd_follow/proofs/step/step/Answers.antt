@@ -1,9 +1,6 @@
-use Rattle.std.proofs.Common.{subst, ◌∙◌, sym}
+use Rattle.vyrd_follow.proofs.Prelude.{subst, ◌∙◌, sym, option_map, rules_by, LeadsTo, run_by}
 use Rattle.std.specs.Prelude.{IfOk}
-use Rattle.std.specs.Option.{option_map}
-use Rattle.vyrd_base.specs.Rules.{rules_by}
 use Rattle.vyrd_base.proofs.CommitLaws.{commits_by}
-use Rattle.vyrd_states.specs.Running.{LeadsTo, run_by}
 use Rattle.vyrd_states.proofs.CallLaws.{execution_allowed, execution_mutates}
 use Rattle.vyrd_follow.proofs.PassLaws.{past_commit}
 use Rattle.vyrd_follow.proofs.step.step.Goals as goal

@@ -1,5 +1,4 @@
-use Rattle.std.proofs.Common.{◌<◌, ap, ◌∙◌, arith}
-use Rattle.vyrd_base.specs.Views.{view_of_words}
+use Rattle.vyrd_follow.proofs.Prelude.{◌<◌, ap, ◌∙◌, arith, view_of_words}
 use Rattle.vyrd_follow.proofs.TurnLaws.{turns_of_two, turns_of_one}
 use Rattle.vyrd_follow.proofs.turns.turns_of.Goals as goal
 use Rattle.vyrd_follow.proofs.turns.turns_of.Goals.{then-low-high+in_ok-put_turn-2, else-low-high}

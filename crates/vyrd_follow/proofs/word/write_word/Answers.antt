@@ -1,13 +1,8 @@
-use Rattle.std.proofs.Common.{◌≡◌, ◌+◌, ◌*◌, List, ℕ, length, take, set, subst, sym, ap, ◌∙◌}
-use Rattle.std.proofs.Common.{arith}
-use Rattle.std.proofs.lemmas.List.{length-take}
+use Rattle.vyrd_follow.proofs.Prelude.{◌≡◌, ◌+◌, ◌*◌, List, ℕ, length, take, set, subst, sym, ap}
+use Rattle.vyrd_follow.proofs.Prelude.{◌∙◌, arith, length-take, IsAmounts, amount_of, given}
+use Rattle.vyrd_follow.proofs.Prelude.{IsAmounts-collected, pairs_in, pairs_by, view_by}
 use Rattle.std.proofs.Math.Seq.{take-set-lt}
-use Rattle.vyrd_base.specs.Amounts.{IsAmounts, amount_of, given}
-use Rattle.vyrd_base.proofs.SumLaws.{IsAmounts-collected}
-use Rattle.vyrd_own_states.specs.PartPairs.{pairs_in}
 use Rattle.vyrd_own_states.proofs.TurnedLaws.{part_gives_way}
-use Rattle.vyrd_view.specs.Decoded.{pairs_by}
-use Rattle.vyrd_view.specs.Known.{view_by}
 use Rattle.vyrd_follow.proofs.WordLaws.{given_there}
 use Rattle.vyrd_follow.proofs.word.write_word.Goals as goal
 

@@ -1,8 +1,4 @@
-use Rattle.std.proofs.Common.{◌≡◌, [], subst, ◌∙◌}
-use Rattle.std.specs.Prelude.{IfOk}
-use Rattle.vyrd_base.specs.Rules.{rules_by}
-use Rattle.vyrd_base.specs.Verdicts.{verdict}
-use Rattle.vyrd_base.specs.Histories.{log_of}
+use Rattle.vyrd_judge.proofs.Prelude.{◌≡◌, [], subst, ◌∙◌, IfOk, rules_by, verdict, log_of}
 use Rattle.vyrd_judge.proofs.any.judge_history.Goals as goal
 
 pub returns : goal.returns

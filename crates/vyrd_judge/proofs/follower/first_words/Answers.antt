@@ -1,9 +1,7 @@
-use Rattle.std.proofs.Common.{◌<◌, ◌^◌, length, ap, sym, subst, ◌∙◌}
-use Rattle.std.specs.Prelude.{All, replicate}
-use Rattle.vyrd_base.specs.Layout.{plain_words}
+use Rattle.vyrd_judge.proofs.Prelude.{◌<◌, ◌^◌, length, ap, sym, subst, ◌∙◌, All, replicate}
+use Rattle.vyrd_judge.proofs.Prelude.{plain_words, length-words_at_start, small_at_start}
 use Rattle.vyrd_view.specs.Comparing.{AgreeElsewhere}
-use Rattle.vyrd_words.proofs.StartWords.{start_within, length-words_at_start, small_at_start}
-use Rattle.vyrd_words.proofs.StartWords.{zero_elsewhere}
+use Rattle.vyrd_words.proofs.StartWords.{start_within, zero_elsewhere}
 use Rattle.vyrd_judge.proofs.follower.first_words.Goals as goal
 
 pub new-requires-clause-all : goal.new-requires-clause-all

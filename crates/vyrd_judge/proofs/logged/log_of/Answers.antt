@@ -1,12 +1,9 @@
-use Rattle.std.proofs.Common.{◌++◌, [], ◌∷◌, take, filter_map, ap, ◌∙◌, sym, append-nil}
-use Rattle.std.specs.Prelude.{get_or}
-use Rattle.std.specs.List.{cons_option}
-use Rattle.std.proofs.lemmas.List.{take_all}
-use Rattle.vyrd_base.specs.Histories.{logged, log_of}
-use Rattle.vyrd_base.proofs.ListLaws.{filter_map_more}
+use Rattle.vyrd_judge.proofs.Prelude.{◌++◌, [], ◌∷◌, take, filter_map, ap, ◌∙◌, sym, append-nil}
+use Rattle.vyrd_judge.proofs.Prelude.{get_or, cons_option, take_all, logged, log_of}
+use Rattle.vyrd_judge.proofs.Prelude.{filter_map_more}
 use Rattle.vyrd_judge.proofs.HistoryLaws.{past}
-use Rattle.vyrd_judge.proofs.logged.log_of.Goals.{in-Some+in_ok-push, in_default}
 use Rattle.vyrd_judge.proofs.logged.log_of.Goals as goal
+use Rattle.vyrd_judge.proofs.logged.log_of.Goals.{in-Some+in_ok-push, in_default}
 
 pub loop-event-preserved : goal.loop-event-preserved
 loop-event-preserved c =

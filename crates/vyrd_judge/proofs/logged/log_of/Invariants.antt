@@ -1,6 +1,4 @@
-use Rattle.std.proofs.Common.{◌≡◌, take}
-use Rattle.std.specs.Prelude.{filter_map}
-use Rattle.vyrd_base.specs.Histories.{logged}
+use Rattle.vyrd_judge.proofs.Prelude.{◌≡◌, take, filter_map, logged}
 use Rattle.vyrd_judge.proofs.logged.log_of.Given as goal
 
 -- what the events before this one left

@@ -1,11 +1,7 @@
 -- A busy act changes what was found alone.
-use Rattle.std.proofs.Common.{◌≡◌, ℕ, ap, ◌∙◌, sym, subst}
-use Rattle.vyrd_memory.specs.declared.act.Act.{Act}
-use Rattle.vyrd_memory.specs.declared.act.Act.TheVariants.{Load, Store, Take, Give, Mark, Done}
-use Rattle.vyrd_trace.specs.declared.look.Look.{Look}
-use Rattle.vyrd_trace.specs.declared.plan.Plan.{Plan}
-use Rattle.vyrd_trace.specs.Hands.{HandView, with_look, with_one_more}
-use Rattle.vyrd_live.specs.Acts.{MayAct, HasActed}
+use Rattle.vyrd_live.proofs.Prelude.{◌≡◌, ℕ, ap, ◌∙◌, sym, subst, Act, Load, Store, Take, Give}
+use Rattle.vyrd_live.proofs.Prelude.{Mark, Done, Look, Plan, HandView, with_look, with_one_more}
+use Rattle.vyrd_live.proofs.Prelude.{MayAct, HasActed}
 use Rattle.vyrd_live.proofs.SendingLaws.{sent_same}
 use Rattle.vyrd_live.proofs.acting.act.Goals as goal
 

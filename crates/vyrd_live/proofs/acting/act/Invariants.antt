@@ -1,7 +1,5 @@
 -- Nothing has changed but what was found, and what was sent.
-use Rattle.std.proofs.Common.{◌≡◌}
-use Rattle.vyrd_trace.specs.Hands.{with_look}
-use Rattle.vyrd_live.specs.Sending.{HasSent}
+use Rattle.vyrd_live.proofs.Prelude.{◌≡◌, with_look, HasSent}
 use Rattle.vyrd_live.proofs.acting.act.Given as goal
 
 abbrev pub invariant-loop : goal.invariant-loop

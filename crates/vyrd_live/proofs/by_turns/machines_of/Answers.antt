@@ -1,12 +1,9 @@
-use Rattle.std.proofs.Common.{◌≡◌, ◌+◌, ◌++◌, [], ◌∷◌, length, map, ap, ◌∙◌, sym, subst}
-use Rattle.std.proofs.Common.{length-append}
+use Rattle.vyrd_live.proofs.Prelude.{◌≡◌, ◌+◌, ◌++◌, [], ◌∷◌, length, map, ap, ◌∙◌, sym, subst}
+use Rattle.vyrd_live.proofs.Prelude.{length-append, map-append, numbers_below, workload_of}
+use Rattle.vyrd_live.proofs.Prelude.{work_script}
 use Rattle.std.specs.Prelude.{All}
-use Rattle.std.proofs.lemmas.List.{map-append}
 use Rattle.std.proofs.lemmas.List.Elements.{All-append, All-cons, All-nil}
-use Rattle.vyrd_base.specs.Places.{numbers_below}
 use Rattle.vyrd_base.proofs.PlaceLaws.{numbers_below-push}
-use Rattle.vyrd_work.specs.Workloads.{workload_of}
-use Rattle.vyrd_work.specs.WorkScripts.{work_script}
 use Rattle.vyrd_live.proofs.by_turns.machines_of.Goals as goal
 
 pub loop-caller-preserved : goal.loop-caller-preserved

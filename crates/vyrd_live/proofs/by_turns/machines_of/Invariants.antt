@@ -1,8 +1,5 @@
-use Rattle.std.proofs.Common.{◌≡◌, map}
-use Rattle.std.specs.Prelude.{All, length}
-use Rattle.vyrd_base.specs.Places.{numbers_below}
-use Rattle.vyrd_work.specs.Workloads.{workload_of}
-use Rattle.vyrd_work.specs.WorkScripts.{work_script}
+use Rattle.vyrd_live.proofs.Prelude.{◌≡◌, map, length, numbers_below, workload_of, work_script}
+use Rattle.std.specs.Prelude.{All}
 use Rattle.vyrd_live.proofs.by_turns.machines_of.Given as goal
 
 -- the machines of the callers before this one

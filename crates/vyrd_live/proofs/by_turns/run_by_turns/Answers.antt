@@ -1,11 +1,5 @@
-use Rattle.std.proofs.Common.{◌∙◌, rules}
-use Rattle.vyrd_memory.specs.Showing.{HasRun}
-use Rattle.vyrd_memory.specs.Turns.{GetsStuck}
-use Rattle.vyrd_work.specs.Workloads.{workload_of}
-use Rattle.vyrd_work.specs.WorkScripts.{work_scripts}
-use Rattle.vyrd_work.proofs.BuiltIn.{work_built_in}
-use Rattle.vyrd_every.proofs.Workloads.{not_stuck}
-use Rattle.vyrd_live.specs.Recorded.{HasRecorded}
+use Rattle.vyrd_live.proofs.Prelude.{◌∙◌, rules, HasRun, GetsStuck, workload_of, work_scripts}
+use Rattle.vyrd_live.proofs.Prelude.{work_built_in, not_stuck, HasRecorded}
 use Rattle.vyrd_live.proofs.TurnLaws.{run_recorded, turns_accepted}
 use Rattle.vyrd_live.proofs.by_turns.run_by_turns.Goals as goal
 

@@ -1,8 +1,4 @@
-use Rattle.std.proofs.Common.{rules}
-use Rattle.vyrd_memory.specs.Turns.{GetsStuck}
-use Rattle.vyrd_work.specs.Workloads.{workload_of}
-use Rattle.vyrd_work.specs.WorkScripts.{work_scripts}
-use Rattle.vyrd_every.proofs.Workloads.{not_stuck}
+use Rattle.vyrd_live.proofs.Prelude.{rules, GetsStuck, workload_of, work_scripts, not_stuck}
 use Rattle.vyrd_live.proofs.by_turns.show_by_turns.Goals as goal
 
 pub returns-in-Err-Stuck-clause-ends : goal.returns-in-Err-Stuck-clause-ends

@@ -1,7 +1,5 @@
 -- The workers are those of the workload, and none has begun.
-use Rattle.std.proofs.Common.{◌≡◌, length, ap, ◌∙◌, sym, rules}
-use Rattle.vyrd_trace.specs.declared.plan.Plan.{Plan}
-use Rattle.vyrd_work.specs.Workloads.{workload_of}
+use Rattle.vyrd_live.proofs.Prelude.{◌≡◌, length, ap, ◌∙◌, sym, rules, Plan, workload_of}
 use Rattle.vyrd_live.proofs.FreshWorkers.{all_fresh, all_callers, scripts_are, all_made, bounds_are}
 use Rattle.vyrd_live.proofs.live.begin.Goals as goal
 

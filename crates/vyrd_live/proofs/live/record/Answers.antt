@@ -1,8 +1,5 @@
 -- A caller that was spent had operations whose bounds sum to more than the limit.
-use Rattle.std.proofs.Common.{ap}
-use Rattle.vyrd_trace.specs.declared.plan.Plan.{Plan}
-use Rattle.vyrd_work.specs.Workloads.{workload_of}
-use Rattle.vyrd_work.proofs.BuiltIn.{work_built_in}
+use Rattle.vyrd_live.proofs.Prelude.{ap, Plan, workload_of, work_built_in}
 use Rattle.vyrd_live.proofs.FreshWorkers.{both_ok, too_low_at, in_range}
 use Rattle.vyrd_live.proofs.live.record.Goals as goal
 

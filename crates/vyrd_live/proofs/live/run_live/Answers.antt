@@ -1,13 +1,8 @@
 -- A correct structure is accepted in every schedule, and where its operations have few events its
 -- callers have room for them.
-use Rattle.std.proofs.Common.{◌≡◌, ℕ, [], Some, None, ap, ◌∙◌, sym, subst}
-use Rattle.vyrd_base.specs.Histories.{log_of}
-use Rattle.vyrd_base.specs.Rules.{rules_by}
-use Rattle.vyrd_base.specs.Verdicts.{accepted, verdict}
-use Rattle.vyrd_work.specs.Workloads.{workload_of}
-use Rattle.vyrd_work.specs.WorkScripts.{work_scripts}
-use Rattle.vyrd_every.proofs.Workloads.{schedule_accepted}
-use Rattle.vyrd_live.specs.LiveRuns.{HavePlayed}
+use Rattle.vyrd_live.proofs.Prelude.{◌≡◌, ℕ, [], Some, None, ap, ◌∙◌, sym, subst, log_of, rules_by}
+use Rattle.vyrd_live.proofs.Prelude.{accepted, verdict, workload_of, work_scripts}
+use Rattle.vyrd_live.proofs.Prelude.{schedule_accepted, HavePlayed}
 use Rattle.vyrd_live.proofs.FreshWorkers.{is_unspent}
 use Rattle.vyrd_live.proofs.live.run_live.Goals as goal
 

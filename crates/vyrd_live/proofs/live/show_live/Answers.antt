@@ -1,8 +1,6 @@
 -- A caller that was spent had operations whose bounds sum to more than the limit.
-use Rattle.std.proofs.Common.{ap}
+use Rattle.vyrd_live.proofs.Prelude.{ap, Plan, workload_of}
 use Rattle.std.proofs.lemmas.Result.{IfOk-weaker}
-use Rattle.vyrd_trace.specs.declared.plan.Plan.{Plan}
-use Rattle.vyrd_work.specs.Workloads.{workload_of}
 use Rattle.vyrd_live.proofs.FreshWorkers.{both_ok, too_low_at, in_range, is_unspent}
 use Rattle.vyrd_live.proofs.live.show_live.Goals as goal
 

@@ -1,14 +1,7 @@
 -- One worker more.
-use Rattle.std.proofs.Common.{◌<◌, ◌++◌, [], ◌∷◌, List, map, ap, ◌∙◌, sym, subst}
-use Rattle.std.specs.List.{All}
-use Rattle.std.proofs.lemmas.List.{map-append}
-use Rattle.std.proofs.lemmas.List.Elements.{All-rest, All-push}
-use Rattle.vyrd_memory.specs.Bounds.{bounds_of}
-use Rattle.vyrd_trace.specs.Hands.{HandView}
-use Rattle.vyrd_work.specs.Workloads.{workload_of}
-use Rattle.vyrd_work.specs.WorkScripts.{ops_of, work_script}
-use Rattle.vyrd_live.specs.declared.worker.Worker.{Worker}
-use Rattle.vyrd_live.specs.Workers.{IsWorkerOf}
+use Rattle.vyrd_live.proofs.Prelude.{◌<◌, ◌++◌, [], ◌∷◌, List, map, ap, ◌∙◌, sym, subst, All}
+use Rattle.vyrd_live.proofs.Prelude.{map-append, All-rest, All-push, bounds_of, HandView}
+use Rattle.vyrd_live.proofs.Prelude.{workload_of, ops_of, work_script, Worker, IsWorkerOf}
 use Rattle.vyrd_live.proofs.live.workers_of.Goals as goal
 
 pub loop-hand-preserved : goal.loop-hand-preserved

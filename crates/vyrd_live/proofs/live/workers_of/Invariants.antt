@@ -1,8 +1,4 @@
-use Rattle.std.proofs.Common.{◌≡◌, ◌<◌, map}
-use Rattle.std.specs.List.{All}
-use Rattle.vyrd_trace.specs.Hands.{HandView}
-use Rattle.vyrd_work.specs.Workloads.{workload_of}
-use Rattle.vyrd_live.specs.Workers.{IsWorkerOf}
+use Rattle.vyrd_live.proofs.Prelude.{◌≡◌, ◌<◌, map, All, HandView, workload_of, IsWorkerOf}
 use Rattle.vyrd_live.proofs.live.workers_of.Given as goal
 
 -- the workers of the hands before this one

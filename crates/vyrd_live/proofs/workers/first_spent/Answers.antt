@@ -1,14 +1,10 @@
 -- One ending more.
-use Rattle.std.proofs.Common.{◌≡◌, ℕ, List, ◌+◌, ◌<◌, map, length, ap, ◌∙◌, sym, subst}
+use Rattle.vyrd_live.proofs.Prelude.{◌≡◌, ℕ, List, ◌+◌, ◌<◌, map, length, ap, ◌∙◌, sym, subst}
+use Rattle.vyrd_live.proofs.Prelude.{get_or-map, Stopped, Ending, Finished, Spent, IsFirstSpent}
 use Rattle.std.specs.Prelude.{get_or}
-use Rattle.std.proofs.lemmas.List.{get_or-map}
-use Rattle.vyrd_live.specs.declared.worker.Stopped.{Stopped}
-use Rattle.vyrd_live.specs.declared.worker.Ending.{Ending}
-use Rattle.vyrd_live.specs.declared.worker.Ending.TheVariants.{Finished, Spent}
-use Rattle.vyrd_live.specs.Endings.{IsFirstSpent}
 use Rattle.vyrd_live.proofs.EndingLaws.{first_finished, first_spent}
-use Rattle.vyrd_live.proofs.workers.first_spent.Goals.{in-Finished, in-Spent}
 use Rattle.vyrd_live.proofs.workers.first_spent.Goals as goal
+use Rattle.vyrd_live.proofs.workers.first_spent.Goals.{in-Finished, in-Spent}
 
 -- the endings, as far as they are known
 abbrev endings : List Stopped → List Ending

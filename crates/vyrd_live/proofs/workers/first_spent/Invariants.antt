@@ -1,6 +1,4 @@
-use Rattle.std.proofs.Common.{map}
-use Rattle.vyrd_live.specs.Endings.{IsFirstSpent}
-use Rattle.vyrd_live.specs.declared.worker.Stopped.{Stopped}
+use Rattle.vyrd_live.proofs.Prelude.{map, IsFirstSpent, Stopped}
 use Rattle.vyrd_live.proofs.workers.first_spent.Given as goal
 
 -- the first of those before

@@ -1,12 +1,7 @@
 -- One worker more with its sender.
-use Rattle.std.proofs.Common.{◌≡◌, ◌++◌, [], ◌∷◌, List, map, ap, ◌∙◌, sym, subst}
-use Rattle.std.specs.List.{All}
-use Rattle.std.proofs.lemmas.List.{map-append}
+use Rattle.vyrd_live.proofs.Prelude.{◌≡◌, ◌++◌, [], ◌∷◌, List, map, ap, ◌∙◌, sym, subst, All}
+use Rattle.vyrd_live.proofs.Prelude.{map-append, SenderView, Worker, Outbox, HasSent}
 use Rattle.std.proofs.lemmas.List.Elements.{All-head, All-rest, All-push}
-use Rattle.vyrd_relay.specs.Ends.{SenderView}
-use Rattle.vyrd_live.specs.declared.worker.Worker.{Worker}
-use Rattle.vyrd_live.specs.declared.outbox.Outbox.{Outbox}
-use Rattle.vyrd_live.specs.Sending.{HasSent}
 use Rattle.vyrd_live.proofs.SendingLaws.{sent_nothing}
 use Rattle.vyrd_live.proofs.PlayLaws.{same_first}
 use Rattle.vyrd_live.proofs.workers.jobs_of.Goals as goal

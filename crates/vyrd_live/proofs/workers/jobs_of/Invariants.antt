@@ -1,6 +1,4 @@
-use Rattle.std.proofs.Common.{◌≡◌, [], map}
-use Rattle.std.specs.List.{All}
-use Rattle.vyrd_live.specs.Sending.{HasSent}
+use Rattle.vyrd_live.proofs.Prelude.{◌≡◌, [], map, All, HasSent}
 use Rattle.vyrd_live.proofs.workers.jobs_of.Given as goal
 
 -- the workers before this one have their senders

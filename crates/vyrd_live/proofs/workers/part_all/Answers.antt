@@ -1,15 +1,7 @@
 -- One lane more was sent to its end.
-use Rattle.std.proofs.Common.{◌≡◌, ◌++◌, [], ◌∷◌, List, ap, ◌∙◌, sym, subst}
-use Rattle.std.specs.List.{All}
-use Rattle.std.proofs.lemmas.List.{map-append}
-use Rattle.std.proofs.lemmas.List.Elements.{All-rest, All-push}
-use Rattle.vyrd_relay.specs.declared.known.Lane.{Lane}
-use Rattle.vyrd_relay.specs.Ends.{lane_sent}
-use Rattle.vyrd_live.specs.declared.worker.Stopped.{Stopped}
-use Rattle.vyrd_live.specs.declared.outbox.Outbox.{Outbox}
-use Rattle.vyrd_live.specs.Sending.{HasSent}
-use Rattle.vyrd_live.specs.Beside.{lanes_sent, lanes_made}
-use Rattle.vyrd_live.proofs.BesideLaws.{goes_on_then}
+use Rattle.vyrd_live.proofs.Prelude.{◌≡◌, ◌++◌, [], ◌∷◌, List, ap, ◌∙◌, sym, subst, All, map-append}
+use Rattle.vyrd_live.proofs.Prelude.{All-rest, All-push, Lane, lane_sent, Stopped, Outbox, HasSent}
+use Rattle.vyrd_live.proofs.Prelude.{lanes_sent, lanes_made, goes_on_then}
 use Rattle.vyrd_live.proofs.PlayLaws.{Done}
 use Rattle.vyrd_live.proofs.SendingLaws.{sent_whole}
 use Rattle.vyrd_live.proofs.workers.part_all.Goals as goal

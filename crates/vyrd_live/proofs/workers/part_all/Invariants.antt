@@ -1,8 +1,5 @@
 -- The lanes of the workers so far were sent whole.
-use Rattle.std.proofs.Common.{◌≡◌, map}
-use Rattle.std.specs.List.{All}
-use Rattle.vyrd_live.specs.Sending.{HasSent}
-use Rattle.vyrd_live.specs.Beside.{GoesOn, lanes_sent, lanes_made}
+use Rattle.vyrd_live.proofs.Prelude.{◌≡◌, map, All, HasSent, GoesOn, lanes_sent, lanes_made}
 use Rattle.vyrd_live.proofs.workers.part_all.Given as goal
 
 abbrev pub invariant-loop-one : goal.invariant-loop-one

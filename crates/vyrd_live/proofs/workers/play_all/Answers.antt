@@ -1,20 +1,9 @@
 -- The hands that come back are all hands, what they leave is what their workers did, and the sink
 -- has taken it.
-use Rattle.std.proofs.Common.{◌≡◌, ◌<◌, length, true, sym, ap, ◌∙◌, subst, List, rules, arith}
-use Rattle.std.specs.List.{All}
-use Rattle.std.proofs.lemmas.List.{length-map}
-use Rattle.vyrd_base.specs.declared.history.Stamped.{Stamped}
-use Rattle.vyrd_base.specs.Histories.{is_legal}
-use Rattle.vyrd_base.specs.Parts.{part}
-use Rattle.vyrd_trace.specs.declared.plan.Plan.{Plan}
-use Rattle.vyrd_trace.specs.Lanes.{cells_in, last_values}
-use Rattle.vyrd_trace.specs.Hands.{HandView, AreAll}
-use Rattle.vyrd_relay.specs.Ends.{ReceiverView, HasAll}
-use Rattle.vyrd_live.specs.declared.worker.Worker.{Worker}
-use Rattle.vyrd_live.specs.declared.worker.Stopped.{Stopped}
-use Rattle.vyrd_live.specs.declared.outbox.Outbox.{Outbox}
-use Rattle.vyrd_live.specs.Endings.{IsFirstSpent}
-use Rattle.vyrd_live.specs.Workers.{IsFresh}
+use Rattle.vyrd_live.proofs.Prelude.{◌≡◌, ◌<◌, length, true, sym, ap, ◌∙◌, subst, List, rules}
+use Rattle.vyrd_live.proofs.Prelude.{arith, All, length-map, Stamped, is_legal, part, Plan}
+use Rattle.vyrd_live.proofs.Prelude.{cells_in, last_values, HandView, AreAll, ReceiverView, HasAll}
+use Rattle.vyrd_live.proofs.Prelude.{Worker, Stopped, Outbox, IsFirstSpent, IsFresh}
 use Rattle.vyrd_live.proofs.WorkerLists.{HaveWorked, hands, endings, all_hands, all_played}
 use Rattle.vyrd_live.proofs.WorkerLists.{first_is_long}
 use Rattle.vyrd_live.proofs.HistoryLaws.{all_shown}

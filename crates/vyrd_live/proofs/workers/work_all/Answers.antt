@@ -1,6 +1,4 @@
-use Rattle.std.proofs.Common.{rules, subst, sym}
-use Rattle.vyrd_live.specs.Workers.{IsFresh}
-use Rattle.vyrd_live.specs.Sending.{HasSent}
+use Rattle.vyrd_live.proofs.Prelude.{rules, subst, sym, IsFresh, HasSent}
 use Rattle.vyrd_live.proofs.workers.work_all.Goals as goal
 
 pub map_vec-requires-after_bounds : goal.map_vec-requires-after_bounds

@@ -1,6 +1,4 @@
-use Rattle.std.proofs.Common.{◌≡◌, [], ap, ◌∙◌}
-use Rattle.std.proofs.lemmas.Result.{IfOk-weaker}
-use Rattle.vyrd_base.specs.LogVerdicts.{log_verdict}
+use Rattle.vyrd_log_check.proofs.Prelude.{◌≡◌, [], ap, ◌∙◌, IfOk-weaker, log_verdict}
 use Rattle.vyrd_log_check.proofs.CostLaws.{always, whole_paid}
 use Rattle.vyrd_log_check.proofs.checker.log_verdict_of_counted.Goals as goal
 

@@ -1,7 +1,5 @@
-use Rattle.std.proofs.Common.{[], ap, ◌∙◌, ◌++◌}
-use Rattle.vyrd_base.specs.LogVerdicts.{own_beginning}
-use Rattle.vyrd_base.specs.Own.LogVerdicts.{own_text_verdict_so_far}
-use Rattle.vyrd_own_check.specs.CheckerView.{checker_in}
+use Rattle.vyrd_log_check.proofs.Prelude.{[], ap, ◌∙◌, ◌++◌, own_beginning, own_text_verdict_so_far}
+use Rattle.vyrd_log_check.proofs.Prelude.{checker_in}
 use Rattle.vyrd_log_check.proofs.CostLaws.{started_steps}
 use Rattle.vyrd_log_check.proofs.checker.start_own.Goals as goal
 

@@ -1,7 +1,6 @@
-use Rattle.std.proofs.Common.{arith}
+use Rattle.vyrd_memory.proofs.Prelude.{arith, Op}
 use Rattle.vyrd_base.specs.declared.subject.Method.TheVariants.{Multiset as OfMultiset}
 use Rattle.vyrd_base.specs.declared.multiset.MultisetMethod.TheVariants.{Insert}
-use Rattle.vyrd_memory.specs.declared.op.Op.{Op}
 use Rattle.vyrd_memory.proofs.BoundSums.{sum_more}
 use Rattle.vyrd_memory.proofs.player.sum_of_bounds.Goals as goal
 

@@ -1,5 +1,4 @@
-use Rattle.std.proofs.Common.{◌≡◌, ◌≤◌, ◌*◌, take}
-use Rattle.vyrd_memory.specs.Bounds.{bounds_of, most_op_events}
+use Rattle.vyrd_memory.proofs.Prelude.{◌≡◌, ◌≤◌, ◌*◌, take, bounds_of, most_op_events}
 use Rattle.vyrd_memory.proofs.player.sum_of_bounds.Given as goal
 
 -- the sum of those before

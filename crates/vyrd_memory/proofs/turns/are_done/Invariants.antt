@@ -1,7 +1,4 @@
-use Rattle.std.proofs.Common.{◌≡◌, take, true}
-use Rattle.std.specs.List.{list_all}
-use Rattle.vyrd_memory.specs.Scripts.{next_act}
-use Rattle.vyrd_memory.specs.Turns.{is_done}
+use Rattle.vyrd_memory.proofs.Prelude.{◌≡◌, take, true, list_all, next_act, is_done}
 use Rattle.vyrd_memory.proofs.turns.are_done.Given as goal
 
 -- those before are done

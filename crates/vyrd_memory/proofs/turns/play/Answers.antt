@@ -1,10 +1,6 @@
-use Rattle.std.proofs.Common.{◌≡◌, ℕ, ◌+◌, ◌≤◌, ◌^◌, List, ◌∙◌, [], refl, sym, arith}
-use Rattle.std.specs.Prelude.{length}
-use Rattle.vyrd_base.specs.declared.header.Header.{Header}
+use Rattle.vyrd_memory.proofs.Prelude.{◌≡◌, ℕ, ◌+◌, ◌≤◌, ◌^◌, List, ◌∙◌, [], refl, sym, arith}
+use Rattle.vyrd_memory.proofs.Prelude.{length, Header, most_ahead, total, stage}
 use Rattle.vyrd_base.proofs.HeaderLaws.{few_callers}
-use Rattle.vyrd_memory.specs.Bounds.{most_ahead}
-use Rattle.vyrd_memory.specs.Playing.{total}
-use Rattle.vyrd_memory.specs.Showing.{stage}
 use Rattle.vyrd_memory.proofs.RunLaws.{ready_start, playing_start}
 use Rattle.vyrd_memory.proofs.ShownLaws.{has_run, are_stuck_there, total_few}
 use Rattle.vyrd_memory.proofs.turns.play.Goals as goal

@@ -1,5 +1,4 @@
-use Rattle.std.proofs.Common.{◌∙◌, ◌+◌, refl, ap, arith, Ok}
-use Rattle.vyrd_memory.specs.Showing.{stage}
+use Rattle.vyrd_memory.proofs.Prelude.{◌∙◌, ◌+◌, refl, ap, arith, Ok, stage}
 use Rattle.vyrd_memory.proofs.ShownLaws.{one_round_more, rest_shown}
 use Rattle.vyrd_memory.proofs.turns.play_rounds.Goals as goal
 

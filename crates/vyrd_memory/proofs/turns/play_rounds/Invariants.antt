@@ -1,8 +1,5 @@
-use Rattle.std.proofs.Common.{◌≡◌, ℕ, ◌+◌, ◌≤◌}
-use Rattle.std.specs.Prelude.{length}
-use Rattle.vyrd_memory.specs.Playing.{total, rounds_over}
-use Rattle.vyrd_memory.specs.Unfinished.{LeavesOut}
-use Rattle.vyrd_memory.specs.Showing.{HasShown, stage}
+use Rattle.vyrd_memory.proofs.Prelude.{◌≡◌, ℕ, ◌+◌, ◌≤◌, length, total, rounds_over, LeavesOut}
+use Rattle.vyrd_memory.proofs.Prelude.{HasShown, stage}
 use Rattle.vyrd_memory.proofs.turns.play_rounds.Given as goal
 
 -- some rounds have been played

@@ -1,5 +1,4 @@
-use Rattle.std.proofs.Common.{◌∙◌, ◌+◌, [], ◌∷◌, replicate, arith}
-use Rattle.vyrd_memory.specs.Showing.{stage}
+use Rattle.vyrd_memory.proofs.Prelude.{◌∙◌, ◌+◌, [], ◌∷◌, replicate, arith, stage}
 use Rattle.vyrd_memory.proofs.PlayedLaws.{one_more}
 use Rattle.vyrd_memory.proofs.ShownLaws.{shown_more}
 use Rattle.vyrd_memory.proofs.turns.repeat.Goals as goal

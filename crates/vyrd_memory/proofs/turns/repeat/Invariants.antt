@@ -1,6 +1,4 @@
-use Rattle.std.proofs.Common.{◌≡◌, ◌+◌, ◌≤◌, replicate}
-use Rattle.vyrd_memory.specs.Playing.{total}
-use Rattle.vyrd_memory.specs.Showing.{HasShown, stage}
+use Rattle.vyrd_memory.proofs.Prelude.{◌≡◌, ◌+◌, ◌≤◌, replicate, total, HasShown, stage}
 use Rattle.vyrd_memory.proofs.turns.repeat.Given as goal
 
 -- this many turns were taken

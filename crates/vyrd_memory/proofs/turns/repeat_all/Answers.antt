@@ -1,8 +1,5 @@
-use Rattle.std.proofs.Common.{◌∙◌, ◌+◌, take, replicate, arith}
-use Rattle.std.specs.Prelude.{get_or}
-use Rattle.vyrd_memory.specs.declared.op.Turn.{Turn}
-use Rattle.vyrd_memory.specs.Turns.{turns_of}
-use Rattle.vyrd_memory.specs.Showing.{stage}
+use Rattle.vyrd_memory.proofs.Prelude.{◌∙◌, ◌+◌, take, replicate, arith, get_or, Turn, turns_of}
+use Rattle.vyrd_memory.proofs.Prelude.{stage}
 use Rattle.vyrd_memory.proofs.PlayedLaws.{turns_more}
 use Rattle.vyrd_memory.proofs.ShownLaws.{shown_more}
 use Rattle.vyrd_memory.proofs.turns.repeat_all.Goals as goal

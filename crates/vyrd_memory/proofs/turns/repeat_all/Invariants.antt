@@ -1,7 +1,4 @@
-use Rattle.std.proofs.Common.{◌≡◌, ◌+◌, ◌≤◌, take}
-use Rattle.vyrd_memory.specs.Turns.{turns_of}
-use Rattle.vyrd_memory.specs.Playing.{total}
-use Rattle.vyrd_memory.specs.Showing.{HasShown, stage}
+use Rattle.vyrd_memory.proofs.Prelude.{◌≡◌, ◌+◌, ◌≤◌, take, turns_of, total, HasShown, stage}
 use Rattle.vyrd_memory.proofs.turns.repeat_all.Given as goal
 
 -- the turns before this one were had

@@ -1,6 +1,4 @@
-use Rattle.std.proofs.Common.{sym, subst}
-use Rattle.vyrd_memory.specs.Unfinished.{LeavesOut}
-use Rattle.vyrd_memory.specs.Showing.{stage}
+use Rattle.vyrd_memory.proofs.Prelude.{sym, subst, LeavesOut, stage}
 use Rattle.vyrd_memory.proofs.UnfinishedLaws.{round_shown, callers_below, still_left_out}
 use Rattle.vyrd_memory.proofs.turns.round.Goals as goal
 

@@ -1,17 +1,13 @@
-use Rattle.std.proofs.Common.{◌≡◌, ◌<◌, ◌++◌, vec_len, List, [], ◌∷◌, ◌∙◌, sym, ap, subst, Some}
-use Rattle.std.proofs.Common.{rules, arith}
-use Rattle.std.specs.Prelude.{slice_get, get_or, length, set}
+use Rattle.vyrd_memory.proofs.Prelude
+use Prelude.{◌≡◌, ◌<◌, ◌++◌, vec_len, List, [], ◌∷◌, ◌∙◌, sym, ap, subst, Some, rules, arith}
+use Prelude.{slice_get, get_or, length, set, Stamped, slice_get-is, slice_get-set_other, next_act}
+use Prelude.{HasPlayed, scene, event_in, words_with, words_after_event, IsWithin, IsReady, total}
 use Rattle.std.proofs.lemmas.List.{set-get_or, length-set}
-use Rattle.vyrd_base.specs.declared.history.Stamped.{Stamped}
-use Rattle.vyrd_base.proofs.ListLaws.{slice_get-is, slice_get-set_other}
-use Rattle.vyrd_memory.specs.Scripts.{next_act}
-use Rattle.vyrd_memory.specs.Playing.{HasPlayed, scene, event_in, words_with, words_after_event}
-use Rattle.vyrd_memory.specs.Playing.{IsWithin, IsReady, total}
 use Rattle.vyrd_memory.proofs.PlayLaws.{IsTurn, machine_within, turn_played, no_turn_played}
 use Rattle.vyrd_memory.proofs.PlayLaws.{next_ready, total_falls}
 use Rattle.vyrd_memory.proofs.turns.turn.Given as given
-use Rattle.vyrd_memory.proofs.turns.turn.Goals.{In_default, In_ok-take}
 use Rattle.vyrd_memory.proofs.turns.turn.Goals as goal
+use Rattle.vyrd_memory.proofs.turns.turn.Goals.{In_default, In_ok-take}
 
 pub perform-requires : goal.perform-requires
 perform-requires g c =

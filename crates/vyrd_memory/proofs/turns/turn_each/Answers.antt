@@ -1,9 +1,8 @@
-use Rattle.std.proofs.Common.{◌+◌, [], ◌∷◌, take, get_or, ap, ◌∙◌, sym, arith, Ok}
+use Rattle.vyrd_memory.proofs.Prelude.{◌+◌, [], ◌∷◌, take, get_or, ap, ◌∙◌, sym, arith, Ok, stage}
 use Rattle.std.proofs.lemmas.List.{take_more}
-use Rattle.vyrd_memory.specs.Showing.{stage}
 use Rattle.vyrd_memory.proofs.ShownLaws.{shown_more}
-use Rattle.vyrd_memory.proofs.turns.turn_each.Goals.{then-branch, else-branch}
 use Rattle.vyrd_memory.proofs.turns.turn_each.Goals as goal
+use Rattle.vyrd_memory.proofs.turns.turn_each.Goals.{then-branch, else-branch}
 
 pub turn-requires-clause-caller : goal.turn-requires-clause-caller
 turn-requires-clause-caller g c = search arith

@@ -1,7 +1,5 @@
-use Rattle.std.proofs.Common.{◌≡◌, ◌≢◌, ℕ, ◌+◌, ◌<◌, ◌≤◌, true, false, take, length, get_or}
-use Rattle.std.proofs.Common.{slice_get}
-use Rattle.vyrd_memory.specs.Playing.{total}
-use Rattle.vyrd_memory.specs.Showing.{HasShown, stage}
+use Rattle.vyrd_memory.proofs.Prelude.{◌≡◌, ◌≢◌, ℕ, ◌+◌, ◌<◌, ◌≤◌, true, false, take, length}
+use Rattle.vyrd_memory.proofs.Prelude.{get_or, slice_get, total, HasShown, stage}
 use Rattle.vyrd_memory.proofs.turns.turn_each.Given as goal
 
 -- the callers before this one have had their turns

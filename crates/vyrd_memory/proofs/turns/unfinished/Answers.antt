@@ -1,12 +1,8 @@
-use Rattle.std.proofs.Common.{◌≡◌, ◌∙◌, ℕ, not, Some, [], ◌∷◌, ◌++◌, slice_get, arith, ap}
-use Rattle.std.proofs.Common.{sym}
-use Rattle.std.specs.List.{filter}
-use Rattle.vyrd_base.specs.Places.{numbers_below}
-use Rattle.vyrd_base.proofs.ListLaws.{slice_get-is}
-use Rattle.vyrd_memory.specs.Unfinished.{is_unfinished}
+use Rattle.vyrd_memory.proofs.Prelude.{◌≡◌, ◌∙◌, ℕ, not, Some, [], ◌∷◌, ◌++◌, slice_get, arith, ap}
+use Rattle.vyrd_memory.proofs.Prelude.{sym, filter, numbers_below, slice_get-is, is_unfinished}
 use Rattle.vyrd_memory.proofs.UnfinishedLaws.{unfinished_are, one_more_kept, one_more_left}
-use Rattle.vyrd_memory.proofs.turns.unfinished.Goals.{then-not-is_done+in_ok-push, else-not-is_done}
 use Rattle.vyrd_memory.proofs.turns.unfinished.Goals as goal
+use Rattle.vyrd_memory.proofs.turns.unfinished.Goals.{then-not-is_done+in_ok-push, else-not-is_done}
 
 pub loop-caller-preserved : goal.loop-caller-preserved
 loop-caller-preserved g c =

@@ -1,7 +1,4 @@
-use Rattle.std.proofs.Common.{◌≡◌, slice_get}
-use Rattle.std.specs.List.{filter}
-use Rattle.vyrd_base.specs.Places.{numbers_below}
-use Rattle.vyrd_memory.specs.Unfinished.{is_unfinished}
+use Rattle.vyrd_memory.proofs.Prelude.{◌≡◌, slice_get, filter, numbers_below, is_unfinished}
 use Rattle.vyrd_memory.proofs.turns.unfinished.Given as goal
 
 -- those before this one whose machines aren't done

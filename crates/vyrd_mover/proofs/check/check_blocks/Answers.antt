@@ -1,10 +1,5 @@
-use Rattle.std.proofs.Common.{◌∙◌, sym, subst, get_or, take, arith}
-use Rattle.std.proofs.lemmas.List.{take_all}
-use Rattle.vyrd_base.specs.declared.history.Did.TheVariants.{Read}
-use Rattle.vyrd_base.specs.declared.history.Stamped.{Stamped}
-use Rattle.vyrd_base.specs.Histories.{cells_of}
-use Rattle.vyrd_mover.specs.Gathering.{EachIsGathered}
-use Rattle.vyrd_mover.specs.Taking.{IsNext}
+use Rattle.vyrd_mover.proofs.Prelude.{◌∙◌, sym, subst, get_or, take, arith, take_all, Read, Stamped}
+use Rattle.vyrd_mover.proofs.Prelude.{cells_of, EachIsGathered, IsNext}
 use Rattle.vyrd_mover.proofs.TakingLaws.{next_in, taken_up_to}
 use Rattle.vyrd_mover.proofs.check.check_blocks.Goals as goal
 

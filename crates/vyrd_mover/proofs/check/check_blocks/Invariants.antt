@@ -1,5 +1,4 @@
-use Rattle.std.proofs.Common.{◌≡◌, take}
-use Rattle.vyrd_mover.specs.Taking.{HasTaken}
+use Rattle.vyrd_mover.proofs.Prelude.{◌≡◌, take, HasTaken}
 use Rattle.vyrd_mover.proofs.check.check_blocks.Given as goal
 
 abbrev pub invariant-loop-event : goal.invariant-loop-event

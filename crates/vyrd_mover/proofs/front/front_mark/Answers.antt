@@ -1,5 +1,4 @@
-use Rattle.std.proofs.Common.{not, ap}
-use Rattle.vyrd_base.proofs.TestLaws.{both_true}
+use Rattle.vyrd_mover.proofs.Prelude.{not, ap, both_true}
 use Rattle.vyrd_mover.proofs.front.front_mark.Goals as goal
 
 pub returns : goal.returns

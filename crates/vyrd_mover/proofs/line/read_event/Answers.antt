@@ -1,6 +1,4 @@
-use Rattle.std.proofs.Common.{ap, ◌∙◌}
-use Rattle.vyrd_base.specs.Lines.{fields_of}
-use Rattle.vyrd_mover.specs.HistoryLines.{event_in, mark_or, act_from}
+use Rattle.vyrd_mover.proofs.Prelude.{ap, ◌∙◌, fields_of, event_in, mark_or, act_from}
 use Rattle.vyrd_mover.proofs.line.read_event.Goals as goal
 
 pub returns-in-Some : goal.returns-in-Some

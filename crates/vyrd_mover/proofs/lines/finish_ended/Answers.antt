@@ -1,6 +1,4 @@
-use Rattle.std.proofs.Common.{◌≡◌, ◌∙◌, ap, sym, true, false, length}
-use Rattle.std.specs.Prelude.{◌==◌}
-use Rattle.vyrd_mover.specs.HistoryReading.{refused}
+use Rattle.vyrd_mover.proofs.Prelude.{◌≡◌, ◌∙◌, ap, sym, true, false, length, ◌==◌, refused}
 use Rattle.vyrd_mover.proofs.WalkLaws.{more_after}
 use Rattle.vyrd_mover.proofs.lines.finish_ended.Goals as goal
 

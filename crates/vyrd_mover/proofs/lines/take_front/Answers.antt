@@ -1,5 +1,4 @@
-use Rattle.std.proofs.Common.{arith}
-use Rattle.std.proofs.lemmas.Result.{err_from_is_err_and}
+use Rattle.vyrd_mover.proofs.Prelude.{arith, err_from_is_err_and}
 use Rattle.vyrd_mover.proofs.FrontLaws.{goes_nowhere, event_goes_on, event_refused}
 use Rattle.vyrd_mover.proofs.lines.take_front.Goals as goal
 

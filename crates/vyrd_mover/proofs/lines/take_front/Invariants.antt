@@ -1,7 +1,4 @@
-use Rattle.std.proofs.Common.{◌-◌}
-use Rattle.vyrd_mover.specs.HistoryText.{Recorded}
-use Rattle.vyrd_mover.specs.EventsRead.{HaveRead}
-use Rattle.vyrd_mover.specs.HistoryReaders.{GoesTo}
+use Rattle.vyrd_mover.proofs.Prelude.{◌-◌, Recorded, HaveRead, GoesTo}
 use Rattle.vyrd_mover.proofs.lines.take_front.Given as goal
 
 abbrev pub invariant-loop-number : goal.invariant-loop-number

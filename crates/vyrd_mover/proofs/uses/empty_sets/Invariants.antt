@@ -1,6 +1,4 @@
-use Rattle.std.proofs.Common.{◌≡◌}
-use Rattle.std.specs.Prelude.{replicate}
-use Rattle.vyrd_mover.specs.LockSets.{words_for}
+use Rattle.vyrd_mover.proofs.Prelude.{◌≡◌, replicate, words_for}
 use Rattle.vyrd_mover.proofs.uses.empty_sets.Given as goal
 
 abbrev pub invariant-loop : goal.invariant-loop

@@ -1,6 +1,5 @@
-use Rattle.std.proofs.Common.{take, length, ap, ◌∙◌}
+use Rattle.vyrd_mover.proofs.Prelude.{take, length, ap, ◌∙◌, err_from_is_err_and}
 use Rattle.std.proofs.Math.Seq.{take-length}
-use Rattle.std.proofs.lemmas.Result.{err_from_is_err_and}
 use Rattle.vyrd_text.proofs.WrittenLaws.{front_of_front}
 use Rattle.vyrd_mover.proofs.WrittenLaws.{events_text}
 use Rattle.vyrd_mover.proofs.writer.append_events.Goals as goal

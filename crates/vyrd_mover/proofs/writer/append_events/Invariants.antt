@@ -1,7 +1,4 @@
-use Rattle.std.proofs.Common.{◌≡◌, ◌++◌, take}
-use Rattle.std.specs.Prelude.{flat_map}
-use Rattle.vyrd_base.specs.Spelling.{ended_line}
-use Rattle.vyrd_mover.specs.HistoryText.{event_line}
+use Rattle.vyrd_mover.proofs.Prelude.{◌≡◌, ◌++◌, take, flat_map, ended_line, event_line}
 use Rattle.vyrd_mover.proofs.writer.append_events.Given as goal
 
 abbrev pub invariant-loop-event : goal.invariant-loop-event

@@ -1,11 +1,8 @@
-use Rattle.std.proofs.Common.{◌<◌, List, Some, None, length, set, drop, refl, subst, ap, sym, ◌∙◌}
-use Rattle.std.proofs.Common.{arith}
-use Rattle.std.proofs.lemmas.List.{map-set, length-set}
-use Rattle.std.proofs.lemmas.Option.{slice_get_within}
-use Rattle.vyrd_base.proofs.ChangedLists.{written_back}
-use Rattle.vyrd_base.proofs.ListLaws.{slice_get-is, slice_get-set_same, is_none}
-use Rattle.vyrd_observers.specs.Trails.{Asked, OthersAreUsed, seen_by, kept_count}
-use Rattle.vyrd_observers.specs.Order.{AreCountedBefore, AreFreeFrom, Closes}
+use Rattle.vyrd_observers.proofs.Prelude
+use Prelude.{◌<◌, List, Some, None, length, set, drop, refl, subst, ap, sym, ◌∙◌, arith, map-set}
+use Prelude.{length-set, slice_get_within, written_back, slice_get-is, slice_get-set_same, Asked}
+use Prelude.{OthersAreUsed, seen_by, kept_count, AreCountedBefore, AreFreeFrom, Closes}
+use Rattle.vyrd_base.proofs.ListLaws.{is_none}
 use Rattle.vyrd_observers.proofs.TrailLaws.{on_set, used_without, stay_all}
 use Rattle.vyrd_observers.proofs.CallersSee.{closed_stays}
 use Rattle.vyrd_observers.proofs.AskerLaws.{counted_without, free_closed}

@@ -1,9 +1,6 @@
-use Rattle.std.proofs.Common.{◌≡◌, ◌+◌, ◌<◌, ℕ, false, None, Some, slice_get, ⊎_elim}
-use Rattle.std.proofs.Common.{ap, sym, ◌∙◌, arith}
-use Rattle.std.specs.Prelude.{◌==◌, unwrap_or}
-use Rattle.std.proofs.lemmas.Option.{slice_get_within, slice_get-get_or, unwrap_or-slice_get}
-use Rattle.vyrd_base.proofs.BlockLaws.{by_same}
-use Rattle.vyrd_base.proofs.TestLaws.{apart_of}
+use Rattle.vyrd_observers.proofs.Prelude.{◌≡◌, ◌+◌, ◌<◌, ℕ, false, None, Some, slice_get, ⊎_elim}
+use Rattle.vyrd_observers.proofs.Prelude.{ap, sym, ◌∙◌, arith, ◌==◌, unwrap_or, slice_get_within}
+use Rattle.vyrd_observers.proofs.Prelude.{slice_get-get_or, unwrap_or-slice_get, by_same, apart_of}
 use Rattle.vyrd_observers.proofs.leaving.first_that_counts.Goals as goal
 
 pub loop-watch-init : goal.loop-watch-init

@@ -1,5 +1,4 @@
-use Rattle.std.proofs.Common.{◌≡◌, ◌≤◌, ◌<◌, ◌+◌, ℕ, Some, slice_get}
-use Rattle.vyrd_observers.specs.declared.watch.Watch.{Watch}
+use Rattle.vyrd_observers.proofs.Prelude.{◌≡◌, ◌≤◌, ◌<◌, ◌+◌, ℕ, Some, slice_get, Watch}
 use Rattle.vyrd_observers.proofs.leaving.first_that_counts.Given as goal
 
 abbrev pub invariant-loop-watch : goal.invariant-loop-watch

@@ -1,14 +1,11 @@
-use Rattle.std.proofs.Common.{drop, get_or, set, map, subst, ap, sym, ◌∙◌, arith}
-use Rattle.std.proofs.lemmas.Option.{slice_get-get_or}
-use Rattle.vyrd_base.specs.Subjects.{must_commit}
-use Rattle.vyrd_base.specs.Entries.{has_method}
-use Rattle.vyrd_observers.specs.Trails.{AreOn, seen_by}
-use Rattle.vyrd_observers.specs.Order.{AreCounted}
+use Rattle.vyrd_observers.proofs.Prelude.{drop, get_or, set, map, subst, ap, sym, ◌∙◌, arith}
+use Rattle.vyrd_observers.proofs.Prelude.{slice_get-get_or, must_commit, has_method, AreOn, seen_by}
+use Rattle.vyrd_observers.proofs.Prelude.{AreCounted}
 use Rattle.vyrd_observers.proofs.AskerLaws.{counted_moved}
 use Rattle.vyrd_observers.proofs.CostLaws.{kept_dropped}
-use Rattle.vyrd_observers.proofs.TrailLaws.{seen_moved, on_moved, asking_set}
+use Rattle.vyrd_observers.proofs.TrailLaws.{seen_moved, on_moved, asking_set, old_except_set}
+use Rattle.vyrd_observers.proofs.TrailLaws.{stay_set}
 use Rattle.vyrd_observers.proofs.CallersSee.{read_is}
-use Rattle.vyrd_observers.proofs.TrailLaws.{old_except_set, stay_set}
 use Rattle.vyrd_observers.proofs.leaving.forget.Goals as goal
 
 pub returns-clause-seen : goal.returns-clause-seen

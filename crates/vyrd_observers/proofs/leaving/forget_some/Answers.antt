@@ -1,8 +1,6 @@
-use Rattle.std.proofs.Common.{List, Option, length, slice_get, subst, ap, sym, ◌∙◌, arith}
-use Rattle.std.specs.Prelude.{option_map}
-use Rattle.std.proofs.lemmas.Option.{slice_get-map}
-use Rattle.vyrd_observers.specs.declared.watch.Watch.{Watch}
-use Rattle.vyrd_observers.specs.Trails.{Asked, AreOn, AreUsed, moved}
+use Rattle.vyrd_observers.proofs.Prelude.{List, Option, length, slice_get, subst, ap, sym, ◌∙◌}
+use Rattle.vyrd_observers.proofs.Prelude.{arith, option_map, slice_get-map, Watch, Asked, AreOn}
+use Rattle.vyrd_observers.proofs.Prelude.{AreUsed, moved}
 use Rattle.vyrd_observers.proofs.TrailLaws.{used_moved, used_still, stay_all, counted_within}
 use Rattle.vyrd_observers.proofs.CallersSee.{read_is}
 use Rattle.vyrd_observers.proofs.leaving.forget_some.Goals as goal

@@ -1,6 +1,5 @@
-use Rattle.std.proofs.Common.{◌≡◌, length, set, get_or, ap, ◌∙◌, arith}
-use Rattle.std.proofs.lemmas.List.{length-set}
-use Rattle.vyrd_observers.specs.Trails.{Asked}
+use Rattle.vyrd_observers.proofs.Prelude.{◌≡◌, length, set, get_or, ap, ◌∙◌, arith, length-set}
+use Rattle.vyrd_observers.proofs.Prelude.{Asked}
 use Rattle.vyrd_observers.proofs.TrailLaws.{stay_then}
 use Rattle.vyrd_observers.proofs.CallersSee.{read_is}
 use Rattle.vyrd_observers.proofs.CostLaws.{kept_at}

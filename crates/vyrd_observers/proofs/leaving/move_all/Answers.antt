@@ -1,8 +1,6 @@
-use Rattle.std.proofs.Common.{◌≡◌, Some, None, get_or, slice_get, sym, ap, ◌∙◌}
-use Rattle.std.proofs.Common.{arith}
-use Rattle.std.proofs.lemmas.Option.{slice_get-get_or}
-use Rattle.vyrd_observers.specs.Trails.{moved}
-use Rattle.vyrd_base.proofs.ChangedLists.{changed_next, changed_all, unchanged_at, written_back}
+use Rattle.vyrd_observers.proofs.Prelude.{◌≡◌, Some, None, get_or, slice_get, sym, ap, ◌∙◌, arith}
+use Rattle.vyrd_observers.proofs.Prelude.{slice_get-get_or, moved, changed_next, written_back}
+use Rattle.vyrd_base.proofs.ChangedLists.{changed_all, unchanged_at}
 use Rattle.vyrd_observers.proofs.leaving.move_all.Goals as goal
 
 pub moved-requires : goal.moved-requires

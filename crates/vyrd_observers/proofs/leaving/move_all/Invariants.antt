@@ -1,6 +1,4 @@
-use Rattle.std.proofs.Common.{◌≡◌, ◌+◌}
-use Rattle.vyrd_observers.specs.Trails.{moved}
-use Rattle.vyrd_base.proofs.ChangedLists.{changed_below}
+use Rattle.vyrd_observers.proofs.Prelude.{◌≡◌, ◌+◌, moved, changed_below}
 use Rattle.vyrd_observers.proofs.leaving.move_all.Given as goal
 
 abbrev pub invariant-loop-watch : goal.invariant-loop-watch

@@ -1,10 +1,6 @@
-use Rattle.std.proofs.Common.{inr, ap, sym, ◌∙◌, arith}
-use Rattle.std.proofs.lemmas.Option.{slice_get_within, same_Some}
-use Rattle.vyrd_base.specs.Entries.{has_method}
-use Rattle.vyrd_base.proofs.ListLaws.{slice_get-set_same}
-use Rattle.vyrd_base.specs.Subjects.{must_commit}
-use Rattle.vyrd_observers.specs.Trails.{Asked}
-use Rattle.vyrd_observers.specs.Trails.{kept_by}
+use Rattle.vyrd_observers.proofs.Prelude.{inr, ap, sym, ◌∙◌, arith, slice_get_within, same_Some}
+use Rattle.vyrd_observers.proofs.Prelude.{has_method, slice_get-set_same, must_commit, Asked}
+use Rattle.vyrd_observers.proofs.Prelude.{kept_by}
 use Rattle.vyrd_observers.proofs.CostLaws.{kept_at}
 use Rattle.vyrd_observers.proofs.TrailLaws.{asking_set, keeps_set, old_except_then}
 use Rattle.vyrd_observers.proofs.trails.ask.Goals as goal

@@ -1,5 +1,4 @@
-use Rattle.std.proofs.Common.{◌≡◌, ◌<◌, ◌+◌, ℕ, Some, slice_get}
-use Rattle.vyrd_observers.specs.Trails.{Asked, IsTrailOf}
+use Rattle.vyrd_observers.proofs.Prelude.{◌≡◌, ◌<◌, ◌+◌, ℕ, Some, slice_get, Asked, IsTrailOf}
 use Rattle.vyrd_observers.proofs.trails.find.Given as goal
 
 abbrev pub invariant-loop-i : goal.invariant-loop-i

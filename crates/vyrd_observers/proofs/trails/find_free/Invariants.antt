@@ -1,5 +1,4 @@
-use Rattle.std.proofs.Common.{◌≡◌, ◌<◌, ◌+◌, ℕ, false, Some, slice_get}
-use Rattle.vyrd_observers.specs.Trails.{Asked}
+use Rattle.vyrd_observers.proofs.Prelude.{◌≡◌, ◌<◌, ◌+◌, ℕ, false, Some, slice_get, Asked}
 use Rattle.vyrd_observers.proofs.trails.find_free.Given as goal
 
 abbrev pub invariant-loop-i : goal.invariant-loop-i

@@ -1,13 +1,8 @@
-use Rattle.std.proofs.Common.{◌<◌, ◌≤◌, ◌+◌, List, map, slice_get, ap, sym, subst, ◌∙◌, length}
-use Rattle.std.proofs.Common.{set, Some, arith}
-use Rattle.std.proofs.lemmas.List.{set-get_or}
-use Rattle.std.proofs.lemmas.Option.{slice_get-get_or}
-use Rattle.vyrd_observers.specs.Trails.{Asked, AreAsking, after_state, seen_by, kept_count}
-use Rattle.vyrd_observers.specs.Watching.{answer_count}
+use Rattle.vyrd_observers.proofs.Prelude.{◌<◌, ◌≤◌, ◌+◌, List, map, slice_get, ap, sym, subst, ◌∙◌}
+use Rattle.vyrd_observers.proofs.Prelude.{length, set, Some, arith, set-get_or, slice_get-get_or}
+use Rattle.vyrd_observers.proofs.Prelude.{Asked, AreAsking, after_state, seen_by, kept_count}
+use Rattle.vyrd_observers.proofs.Prelude.{answer_count, AreInOrder, rules_by, changed_next}
 use Rattle.vyrd_observers.proofs.CostLaws.{answers_changed, kept_changed}
-use Rattle.vyrd_observers.specs.Order.{AreInOrder}
-use Rattle.vyrd_base.specs.Rules.{rules_by}
-use Rattle.vyrd_base.proofs.ChangedLists.{changed_next}
 use Rattle.vyrd_observers.proofs.TrailLaws.{asking_after, order_after, length-changed, changed_none}
 use Rattle.vyrd_observers.proofs.TrailLaws.{changed_enough, free_stays, unaffected_stays}
 use Rattle.vyrd_observers.proofs.trails.see_all.Goals as goal

@@ -1,7 +1,4 @@
-use Rattle.std.proofs.Common.{◌≡◌, ◌≤◌, ◌+◌, ◌*◌}
-use Rattle.vyrd_observers.specs.Trails.{after_state}
-use Rattle.vyrd_base.specs.Rules.{rules_by}
-use Rattle.vyrd_base.proofs.ChangedLists.{changed_below}
+use Rattle.vyrd_observers.proofs.Prelude.{◌≡◌, ◌≤◌, ◌+◌, ◌*◌, after_state, rules_by, changed_below}
 use Rattle.vyrd_observers.proofs.trails.see_all.Given as goal
 
 abbrev pub invariant-loop-i : goal.invariant-loop-i

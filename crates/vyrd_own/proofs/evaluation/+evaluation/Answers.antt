@@ -1,9 +1,6 @@
-use Rattle.std.proofs.Common.{refl, ap, sym, ◌∙◌, arith}
-use Rattle.vyrd_base.specs.Own.Expressions.{value}
-use Rattle.vyrd_own.specs.Prices.{looked_at}
+use Rattle.vyrd_own.proofs.Prelude.{refl, ap, sym, ◌∙◌, arith, value, looked_at, expr_of}
 use Rattle.vyrd_own.proofs.NodeLaws.{expr_last, expr_none, earlier_is, earlier_at, earlier_none}
 use Rattle.vyrd_own.proofs.NodeLaws.{length_zero}
-use Rattle.vyrd_own.specs.Nodes.{expr_of}
 use Rattle.vyrd_own.proofs.LookedLaws.{looked_few}
 use Rattle.vyrd_own.proofs.evaluation.+evaluation.Goals as goal
 

@@ -1,8 +1,5 @@
-use Rattle.std.proofs.Common.{◌≡◌, ◌≤◌, ◌+◌, drop, length, take}
-use Rattle.std.specs.Prelude.{map}
-use Rattle.vyrd_own.specs.Layout.{expr_in}
-use Rattle.vyrd_own.specs.Prices.{lets_price}
-use Rattle.vyrd_base.specs.Own.Steps.{with_lets}
+use Rattle.vyrd_own.proofs.Prelude.{◌≡◌, ◌≤◌, ◌+◌, drop, length, take, map, expr_in, lets_price}
+use Rattle.vyrd_own.proofs.Prelude.{with_lets}
 use Rattle.vyrd_own.proofs.few.put_few_lets.Given as goal
 
 abbrev pub invariant-loop-code : goal.invariant-loop-code

@@ -1,11 +1,9 @@
-use Rattle.std.proofs.Common.{[], ◌++◌, refl, sym, append-nil}
+use Rattle.vyrd_own.proofs.Prelude.{[], ◌++◌, refl, sym, number, expr_of, exprs_of, counted}
+use Rattle.std.proofs.Common.{append-nil}
 use Rattle.std.proofs.lemmas.Result.{on_ok_weaker}
-use Rattle.vyrd_base.specs.Own.Expressions.{number}
-use Rattle.vyrd_own.specs.Nodes.{expr_of, exprs_of}
-use Rattle.vyrd_own.specs.Reads.{counted}
 use Rattle.vyrd_own.proofs.NodeLaws.{expr_last, expr_none, length_zero}
-use Rattle.vyrd_own.proofs.ReadLaws.{with_itself, two_parts, same_parts}
-use Rattle.vyrd_own.proofs.ReadLaws.{of_no_part, of_one_part, of_infix, of_choice}
+use Rattle.vyrd_own.proofs.ReadLaws.{with_itself, two_parts, same_parts, of_no_part, of_one_part}
+use Rattle.vyrd_own.proofs.ReadLaws.{of_infix, of_choice}
 use Rattle.vyrd_own.proofs.reads.+reads.Goals as goal
 
 pub put_inner-returns-in_default : goal.put_inner-returns-in_default

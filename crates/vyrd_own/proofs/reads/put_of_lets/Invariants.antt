@@ -1,8 +1,4 @@
-use Rattle.std.proofs.Common.{◌≡◌, ◌++◌, take}
-use Rattle.std.specs.Prelude.{map}
-use Rattle.std.specs.List.{flat_map}
-use Rattle.vyrd_own.specs.Layout.{expr_in}
-use Rattle.vyrd_own.specs.Reads.{worths_in}
+use Rattle.vyrd_own.proofs.Prelude.{◌≡◌, ◌++◌, take, map, flat_map, expr_in, worths_in}
 use Rattle.vyrd_own.proofs.reads.put_of_lets.Given as goal
 
 abbrev pub invariant-loop-code : goal.invariant-loop-code

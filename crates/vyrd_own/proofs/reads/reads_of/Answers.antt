@@ -1,8 +1,5 @@
-use Rattle.std.proofs.Common.{ap, sym, ◌∙◌}
-use Rattle.vyrd_base.specs.Own.Expressions.{value}
+use Rattle.vyrd_own.proofs.Prelude.{ap, sym, ◌∙◌, value, exprs_of, expr_at, reads_of}
 use Rattle.vyrd_own.specs.declared.reads.Reads.TheVariants.{Shown, Hidden}
-use Rattle.vyrd_own.specs.Nodes.{exprs_of, expr_at}
-use Rattle.vyrd_own.specs.Reads.{reads_of}
 use Rattle.vyrd_own.proofs.NodeLaws.{expr_last, expr_none, length_zero}
 use Rattle.vyrd_own.proofs.ReadLaws.{reads_nothing}
 use Rattle.vyrd_own.proofs.reads.reads_of.Goals as goal

@@ -1,6 +1,5 @@
-use Rattle.std.proofs.Common.{ap, sym, ◌∙◌, ◌∷◌, ◌++◌, [], arith}
+use Rattle.vyrd_own.proofs.Prelude.{ap, sym, ◌∙◌, ◌∷◌, ◌++◌, [], arith, lists_with}
 use Rattle.vyrd_base.specs.Own.Steps.{without_first, without_last}
-use Rattle.vyrd_own.specs.Apart.{lists_with}
 use Rattle.vyrd_own.proofs.QueueLaws.{all_items, items_changed}
 use Rattle.vyrd_own.proofs.state.change_list.Goals as goal
 

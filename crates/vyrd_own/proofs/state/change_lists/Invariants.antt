@@ -1,7 +1,4 @@
-use Rattle.std.proofs.Common.{◌≡◌, ◌+◌, ◌-◌, drop, length}
-use Rattle.std.specs.Prelude.{map}
-use Rattle.vyrd_own.specs.Queues.{HaveRoom}
-use Rattle.vyrd_own.specs.Apart.{lists_after}
+use Rattle.vyrd_own.proofs.Prelude.{◌≡◌, ◌+◌, ◌-◌, drop, length, map, HaveRoom, lists_after}
 use Rattle.vyrd_own.proofs.state.change_lists.Given as goal
 
 abbrev pub invariant-loop-effect : goal.invariant-loop-effect

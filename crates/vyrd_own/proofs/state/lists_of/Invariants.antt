@@ -1,5 +1,4 @@
-use Rattle.std.proofs.Common.{◌≡◌, take}
-use Rattle.std.specs.Prelude.{map}
+use Rattle.vyrd_own.proofs.Prelude.{◌≡◌, take, map}
 use Rattle.vyrd_own.proofs.state.lists_of.Given as goal
 
 abbrev pub invariant-loop-items : goal.invariant-loop-items

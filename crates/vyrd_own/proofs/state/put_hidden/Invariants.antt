@@ -1,5 +1,4 @@
-use Rattle.std.proofs.Common.{◌≡◌, drop}
-use Rattle.vyrd_base.specs.Own.Steps.{hidden_with}
+use Rattle.vyrd_own.proofs.Prelude.{◌≡◌, drop, hidden_with}
 use Rattle.vyrd_own.proofs.state.put_hidden.Given as goal
 
 abbrev pub invariant-loop-key : goal.invariant-loop-key

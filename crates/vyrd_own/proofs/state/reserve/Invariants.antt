@@ -1,6 +1,4 @@
-use Rattle.std.proofs.Common.{◌≡◌, ◌≤◌, ◌+◌, take, length}
-use Rattle.std.specs.Prelude.{map}
-use Rattle.vyrd_own.specs.Queues.{HaveRoom}
+use Rattle.vyrd_own.proofs.Prelude.{◌≡◌, ◌≤◌, ◌+◌, take, length, map, HaveRoom}
 use Rattle.vyrd_own.proofs.state.reserve.Given as goal
 
 abbrev pub invariant-loop-effect : goal.invariant-loop-effect

@@ -1,5 +1,4 @@
-use Rattle.std.proofs.Common.{◌≡◌, ◌+◌, drop}
-use Rattle.vyrd_own.specs.Apart.{registers_after}
+use Rattle.vyrd_own.proofs.Prelude.{◌≡◌, ◌+◌, drop, registers_after}
 use Rattle.vyrd_own.proofs.state.set_registers.Given as goal
 
 abbrev pub invariant-loop-effect : goal.invariant-loop-effect

@@ -1,8 +1,5 @@
-use Rattle.std.proofs.Common.{◌≡◌, ◌≤◌, ◌+◌, drop}
-use Rattle.std.specs.Prelude.{map}
-use Rattle.vyrd_own.specs.Layout.{case_of}
+use Rattle.vyrd_own.proofs.Prelude.{◌≡◌, ◌≤◌, ◌+◌, drop, map, case_of, allowed_effects}
 use Rattle.vyrd_own.specs.Prices.{cases_price}
-use Rattle.vyrd_base.specs.Own.Steps.{allowed_effects}
 use Rattle.vyrd_own.proofs.steps.put_allowed.Given as goal
 
 abbrev pub invariant-loop-case : goal.invariant-loop-case

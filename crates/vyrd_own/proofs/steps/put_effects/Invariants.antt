@@ -1,8 +1,6 @@
-use Rattle.std.proofs.Common.{◌≡◌, ◌≤◌, ◌+◌, take, drop}
-use Rattle.std.specs.Prelude.{map}
+use Rattle.vyrd_own.proofs.Prelude.{◌≡◌, ◌≤◌, ◌+◌, take, drop, map, effect_of}
 use Rattle.vyrd_own.specs.Layout.{change_of}
 use Rattle.vyrd_own.specs.Prices.{lines_price}
-use Rattle.vyrd_base.specs.Own.Steps.{effect_of}
 use Rattle.vyrd_own.proofs.steps.put_effects.Given as goal
 
 abbrev pub invariant-loop-change : goal.invariant-loop-change

@@ -1,8 +1,4 @@
-use Rattle.std.proofs.Common.{◌≡◌, ◌≤◌, ◌+◌, drop}
-use Rattle.std.specs.Prelude.{map}
-use Rattle.vyrd_own.specs.Layout.{expr_in}
-use Rattle.vyrd_own.specs.Prices.{lets_price}
-use Rattle.vyrd_base.specs.Own.Steps.{with_lets}
+use Rattle.vyrd_own.proofs.Prelude.{◌≡◌, ◌≤◌, ◌+◌, drop, map, expr_in, lets_price, with_lets}
 use Rattle.vyrd_own.proofs.steps.put_lets.Given as goal
 
 abbrev pub invariant-loop-code : goal.invariant-loop-code

@@ -1,14 +1,8 @@
-use Rattle.std.proofs.Common.{ap, sym, ◌∙◌, Some, None, cond, [], ◌∷◌, ◌++◌, ℕ, ◌≤◌, List, length}
-use Rattle.std.proofs.Common.{◌≡◌, arith}
-use Rattle.vyrd_own.specs.Layout.{method_of, written}
-use Rattle.vyrd_base.specs.Own.Steps.{with_effects}
+use Rattle.vyrd_own.proofs.Prelude.{ap, sym, ◌∙◌, Some, None, cond, [], ◌∷◌, ◌++◌, ℕ, ◌≤◌, List}
+use Rattle.vyrd_own.proofs.Prelude.{length, ◌≡◌, arith, method_of, written, with_effects}
+use Rattle.vyrd_own.proofs.Prelude.{option_map_or, State, Written, Method, at_hand, effects_of}
+use Rattle.vyrd_own.proofs.Prelude.{Effect, put_price, longest_case}
 use Rattle.vyrd_own.proofs.StepLaws.{next_is}
-use Rattle.std.specs.Option.{option_map_or}
-use Rattle.vyrd_base.specs.States.{State}
-use Rattle.vyrd_base.specs.Own.Programs.{Written, Method}
-use Rattle.vyrd_base.specs.Own.Steps.{at_hand, effects_of}
-use Rattle.vyrd_base.specs.declared.own.effect.Effect.{Effect}
-use Rattle.vyrd_own.specs.Prices.{put_price, longest_case}
 use Rattle.vyrd_own.proofs.PriceLaws.{few_effects, put_mono}
 use Rattle.vyrd_own.proofs.steps.step_counted.Goals as goal
 

@@ -1,5 +1,4 @@
-use Rattle.std.proofs.Common.{sym, subst}
-use Rattle.vyrd_own.specs.Sets.{AreAdded}
+use Rattle.vyrd_own.proofs.Prelude.{sym, subst, AreAdded}
 use Rattle.vyrd_own.proofs.store.add_all.Goals as goal
 
 pub returns-in-Err-clause-err : goal.returns-in-Err-clause-err

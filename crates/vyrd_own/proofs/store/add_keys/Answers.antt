@@ -1,5 +1,4 @@
-use Rattle.std.proofs.Common.{ap, sym, ◌∙◌, subst, length, arith}
-use Rattle.vyrd_own.specs.Sets.{AreAdded}
+use Rattle.vyrd_own.proofs.Prelude.{ap, sym, ◌∙◌, subst, length, arith, AreAdded}
 use Rattle.vyrd_own.proofs.SetLaws.{none_added, no_room_yet, step_kept, step_added}
 use Rattle.vyrd_own.proofs.PriceLaws.{one_more}
 use Rattle.vyrd_own.proofs.store.add_keys.Goals as goal

@@ -1,5 +1,4 @@
-use Rattle.std.proofs.Common.{◌≤◌, ◌+◌, ◌*◌, length}
-use Rattle.vyrd_own.specs.Sets.{AreAdded}
+use Rattle.vyrd_own.proofs.Prelude.{◌≤◌, ◌+◌, ◌*◌, length, AreAdded}
 use Rattle.vyrd_own.proofs.SetLaws.{HaveRoomTo}
 use Rattle.vyrd_own.proofs.store.add_keys.Given as goal
 

@@ -1,5 +1,4 @@
-use Rattle.std.proofs.Common.{◌≡◌, ◌+◌, drop}
-use Rattle.vyrd_own.specs.Sets.{amount_after}
+use Rattle.vyrd_own.proofs.Prelude.{◌≡◌, ◌+◌, drop, amount_after}
 use Rattle.vyrd_own.proofs.store.amount_after.Given as goal
 
 abbrev pub invariant-loop-k : goal.invariant-loop-k

@@ -1,7 +1,5 @@
-use Rattle.std.proofs.Common.{ap, sym, ◌∙◌, ℕ, List, arith}
-use Rattle.std.proofs.Math.ListN.{drop_of_length-le}
-use Rattle.vyrd_base.specs.Own.Steps.{hidden_with}
-use Rattle.vyrd_base.specs.Amounts.{with_amount}
+use Rattle.vyrd_own.proofs.Prelude.{ap, sym, ◌∙◌, ℕ, List, arith, drop_of_length-le, hidden_with}
+use Rattle.vyrd_own.proofs.Prelude.{with_amount}
 use Rattle.vyrd_own.proofs.SetLaws.{all_set, set_step, finals, key_at}
 use Rattle.vyrd_own.proofs.store.put.Goals as goal
 

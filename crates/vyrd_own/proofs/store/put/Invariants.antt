@@ -1,6 +1,4 @@
-use Rattle.std.proofs.Common.{◌≡◌, ◌+◌, ◌*◌, drop, length}
-use Rattle.vyrd_base.specs.Own.Steps.{hidden_with}
-use Rattle.vyrd_own.specs.Sets.{HasKeys}
+use Rattle.vyrd_own.proofs.Prelude.{◌≡◌, ◌+◌, ◌*◌, drop, length, hidden_with, HasKeys}
 use Rattle.vyrd_own.proofs.SetLaws.{finals}
 use Rattle.vyrd_own.proofs.store.put.Given as goal
 

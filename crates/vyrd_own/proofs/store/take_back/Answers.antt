@@ -1,6 +1,4 @@
-use Rattle.std.proofs.Common.{ap, sym, ◌∙◌, ℕ, List}
-use Rattle.std.proofs.Math.ListN.{drop_of_length-le}
-use Rattle.vyrd_base.specs.Own.Steps.{hidden_with}
+use Rattle.vyrd_own.proofs.Prelude.{ap, sym, ◌∙◌, ℕ, List, drop_of_length-le, hidden_with}
 use Rattle.vyrd_own.proofs.SetLaws.{all_back, zeros}
 use Rattle.vyrd_own.proofs.store.take_back.Goals as goal
 

@@ -1,6 +1,4 @@
-use Rattle.std.proofs.Common.{◌≡◌, drop}
-use Rattle.std.specs.Prelude.{◌==◌}
-use Rattle.std.specs.List.{list_all}
+use Rattle.vyrd_own.proofs.Prelude.{◌≡◌, drop, ◌==◌, list_all}
 use Rattle.vyrd_own.proofs.words.are_all_0.Given as goal
 
 abbrev pub invariant-loop-word : goal.invariant-loop-word

@@ -1,7 +1,4 @@
-use Rattle.std.proofs.Common.{◌≡◌, ℕ, take}
-use Rattle.std.specs.Prelude.{map, slice_index_or}
-use Rattle.vyrd_own.specs.Layout.{show_of}
-use Rattle.vyrd_base.specs.Own.Steps.{given_by}
+use Rattle.vyrd_own.proofs.Prelude.{◌≡◌, ℕ, take, map, slice_index_or, show_of, given_by}
 use Rattle.vyrd_own.proofs.words.put_pairs.Given as goal
 
 abbrev pub invariant-loop-j : goal.invariant-loop-j

@@ -1,7 +1,4 @@
-use Rattle.std.proofs.Common.{◌≡◌, ◌++◌, ◌∷◌, take}
-use Rattle.std.specs.Prelude.{map}
-use Rattle.vyrd_own.specs.Layout.{show_of}
-use Rattle.vyrd_base.specs.Own.Steps.{given_by}
+use Rattle.vyrd_own.proofs.Prelude.{◌≡◌, ◌++◌, ◌∷◌, take, map, show_of, given_by}
 use Rattle.vyrd_own.proofs.words.put_parts.Given as goal
 
 abbrev pub invariant-loop-show : goal.invariant-loop-show

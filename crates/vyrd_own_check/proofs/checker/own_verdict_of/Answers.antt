@@ -1,8 +1,5 @@
-use Rattle.std.proofs.Common.{[], ap, ◌∙◌}
-use Rattle.vyrd_base.specs.Own.LogVerdicts.{own_text_verdict}
-use Rattle.vyrd_own_check.specs.Checking.{limit_of}
-use Rattle.vyrd_own_check.specs.CheckerView.{checker_in}
-use Rattle.vyrd_judge.proofs.EndFacts.{where_same}
+use Rattle.vyrd_own_check.proofs.Prelude.{[], ap, ◌∙◌, own_text_verdict, limit_of, checker_in}
+use Rattle.vyrd_own_check.proofs.Prelude.{where_same}
 use Rattle.vyrd_own_check.proofs.checker.own_verdict_of.Goals as goal
 
 pub returns : goal.returns

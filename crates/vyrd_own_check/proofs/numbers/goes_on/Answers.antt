@@ -1,7 +1,5 @@
-use Rattle.std.proofs.Common.{◌≡◌, ◌+◌, ◌-◌, length, ◌∙◌, arith}
-use Rattle.std.proofs.lemmas.Bool.Decides.{nat_tests}
+use Rattle.vyrd_own_check.proofs.Prelude.{◌≡◌, ◌+◌, ◌-◌, length, ◌∙◌, arith, nat_tests, Run}
 use Rattle.vyrd_base.proofs.TestLaws.{same_of}
-use Rattle.vyrd_own_check.specs.declared.run.Run.{Run}
 use Rattle.vyrd_own_check.proofs.NumberLaws.{number_last}
 use Rattle.vyrd_own_check.proofs.numbers.goes_on.Goals as goal
 

@@ -1,5 +1,4 @@
-use Rattle.std.proofs.Common.{◌≡◌, ◌≤◌, drop}
-use Rattle.vyrd_own_check.specs.Numbers.{number_in, number_from}
+use Rattle.vyrd_own_check.proofs.Prelude.{◌≡◌, ◌≤◌, drop, number_in, number_from}
 use Rattle.vyrd_own_check.proofs.numbers.number_at.Given as goal
 
 abbrev pub invariant-loop-run : goal.invariant-loop-run

@@ -1,5 +1,4 @@
-use Rattle.std.proofs.Common.{ap, ◌∙◌}
-use Rattle.vyrd_own_check.specs.Numbers.{number_from}
+use Rattle.vyrd_own_check.proofs.Prelude.{ap, ◌∙◌, number_from}
 use Rattle.vyrd_own_check.proofs.NumberLaws.{number_before, number_begun}
 use Rattle.vyrd_own_check.proofs.numbers.put.Goals as goal
 

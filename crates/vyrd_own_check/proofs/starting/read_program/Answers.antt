@@ -1,6 +1,5 @@
-use Rattle.std.proofs.Common.{◌≡◌, ℕ, get_or, ap, ◌∙◌, sym}
-use Rattle.std.specs.Global.{Vec}
-use Rattle.vyrd_base.specs.Own.Reader.{nothing_read, read_next}
+use Rattle.vyrd_own_check.proofs.Prelude.{◌≡◌, ℕ, get_or, ap, ◌∙◌, sym, Vec, nothing_read}
+use Rattle.vyrd_own_check.proofs.Prelude.{read_next}
 use Rattle.vyrd_own_check.proofs.SpecifiedLaws.{read_more}
 use Rattle.vyrd_own_check.proofs.starting.read_program.Goals as goal
 

@@ -1,6 +1,4 @@
-use Rattle.std.proofs.Common.{◌≡◌, take}
-use Rattle.vyrd_base.specs.Own.Reader.{nothing_read, read_lines}
-use Rattle.vyrd_own.specs.Layout.{texts}
+use Rattle.vyrd_own_check.proofs.Prelude.{◌≡◌, take, nothing_read, read_lines, texts}
 use Rattle.vyrd_own_text.specs.Meaning.{so_far}
 use Rattle.vyrd_own_check.proofs.starting.read_program.Given as goal
 

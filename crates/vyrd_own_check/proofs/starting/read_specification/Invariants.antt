@@ -1,5 +1,4 @@
-use Rattle.std.proofs.Common.{◌≡◌, take}
-use Rattle.vyrd_own.specs.Layout.{texts}
+use Rattle.vyrd_own_check.proofs.Prelude.{◌≡◌, take, texts}
 use Rattle.vyrd_own_check.proofs.starting.read_specification.Given as goal
 
 abbrev pub invariant-loop-line : goal.invariant-loop-line

@@ -1,11 +1,7 @@
-use Rattle.std.proofs.Common.{◌≡◌, ℕ, ◌+◌, ◌*◌, List, length, not, Some, ap, sym, ◌∙◌}
-use Rattle.std.specs.Prelude.{is_none}
-use Rattle.vyrd_base.specs.Rules.{own, rules_by}
-use Rattle.vyrd_base.specs.Starts.{state_at_start}
-use Rattle.vyrd_base.specs.States.{State}
+use Rattle.vyrd_own_check.proofs.Prelude.{is_none, own, rules_by, state_at_start, State, texts}
+use Rattle.std.proofs.Common.{◌*◌, not, ◌≡◌, ℕ, ◌+◌, List, length, Some, ap, sym, ◌∙◌}
 use Rattle.vyrd_base.specs.Own.OwnRules.{own_start, own_view, may_stand}
 use Rattle.vyrd_base.specs.Own.Reader.{written_in}
-use Rattle.vyrd_own.specs.Layout.{texts}
 use Rattle.vyrd_words.proofs.StartWords.{length-words_at_start}
 use Rattle.vyrd_own_spec.proofs.StandingLaws.{own_plain, stands_for_none, stands_for}
 use Rattle.vyrd_judge.specs.Costs.{start_cost}

@@ -1,11 +1,6 @@
-use Rattle.std.proofs.Common.{◌≡◌, Some, None, ◌++◌, ap, sym, ◌∙◌}
-use Rattle.std.specs.Option.{option_or}
-use Rattle.std.specs.Prelude.{if◌then◌else◌}
-use Rattle.vyrd_base.specs.Rules.{rules_by}
-use Rattle.vyrd_base.specs.Verdicts.{verdict_so_far, end_verdict}
-use Rattle.vyrd_own_check.specs.Checking.{IsJudging, untold_in}
-use Rattle.vyrd_judge.proofs.EndFacts.{where_same, where_none}
-use Rattle.vyrd_words.proofs.CutLaws.{always}
+use Rattle.vyrd_own_check.proofs.Prelude.{◌≡◌, Some, None, ◌++◌, ap, sym, ◌∙◌, option_or}
+use Rattle.vyrd_own_check.proofs.Prelude.{if◌then◌else◌, rules_by, verdict_so_far, end_verdict}
+use Rattle.vyrd_own_check.proofs.Prelude.{IsJudging, untold_in, where_same, where_none, always}
 use Rattle.vyrd_own_check.proofs.PieceLaws.{wrong_by, judging_on}
 use Rattle.vyrd_own_check.proofs.CostLaws.{followed_paid, open_paid}
 use Rattle.vyrd_own_check.proofs.text_judge.follow.Goals as goal

@@ -1,6 +1,4 @@
-use Rattle.vyrd_base.specs.Rules.{rules_by}
-use Rattle.std.proofs.Common.{ap, sym, ◌∙◌}
-use Rattle.vyrd_judge.proofs.EndFacts.{unless_accepted, open_at_end}
+use Rattle.vyrd_own_check.proofs.Prelude.{rules_by, ap, sym, ◌∙◌, unless_accepted, open_at_end}
 use Rattle.vyrd_own_check.proofs.text_judge.open_call.Goals as goal
 
 pub returns-in-Accepted-clause-verdict : goal.returns-in-Accepted-clause-verdict

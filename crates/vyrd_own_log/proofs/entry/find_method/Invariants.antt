@@ -1,9 +1,5 @@
-use Rattle.std.proofs.Common.{◌≡◌, true, drop}
-use Rattle.std.specs.Prelude.{map}
-use Rattle.std.specs.List.{list_all}
-use Rattle.vyrd_base.specs.Own.Entries.{named_from}
-use Rattle.vyrd_own.specs.Layout.{method_of}
-use Rattle.vyrd_own_log.specs.Callable.{is_callable}
+use Rattle.vyrd_own_log.proofs.Prelude.{◌≡◌, true, drop, map, list_all, named_from, method_of}
+use Rattle.vyrd_own_log.proofs.Prelude.{is_callable}
 use Rattle.vyrd_own_log.proofs.entry.find_method.Given as goal
 
 abbrev pub invariant-loop-i : goal.invariant-loop-i

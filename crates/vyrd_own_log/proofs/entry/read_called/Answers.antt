@@ -1,8 +1,5 @@
-use Rattle.std.proofs.Common.{arith, ◌≡◌, ap, ◌∙◌, Some, None, sym, length}
-use Rattle.std.specs.Prelude.{option_map, nat_le, map}
-use Rattle.vyrd_base.specs.Own.Entries.{named_from}
-use Rattle.vyrd_own.specs.Layout.{method_of, written}
-use Rattle.vyrd_base.proofs.TestLaws.{second_true}
+use Rattle.vyrd_own_log.proofs.Prelude.{arith, ◌≡◌, ap, ◌∙◌, Some, None, sym, length, option_map}
+use Rattle.vyrd_own_log.proofs.Prelude.{nat_le, map, named_from, method_of, written, second_true}
 use Rattle.vyrd_own_log.proofs.NameLaws.{named_is}
 use Rattle.vyrd_own_log.proofs.EntryLaws.{AllCallable, no_method, no_arguments, call_read}
 use Rattle.vyrd_own_log.proofs.entry.read_called.Goals as goal

@@ -1,7 +1,4 @@
-use Rattle.std.proofs.Common.{arith, length}
-use Rattle.std.specs.Prelude.{nat_le}
-use Rattle.vyrd_own.specs.Layout.{written}
-use Rattle.vyrd_base.proofs.TestLaws.{second_true}
+use Rattle.vyrd_own_log.proofs.Prelude.{arith, length, nat_le, written, second_true}
 use Rattle.vyrd_own_log.proofs.EntryLaws.{AllCallable, no_caller, no_kind, entry_read}
 use Rattle.vyrd_own_log.proofs.entry.read_entry.Goals as goal
 

@@ -1,5 +1,4 @@
-use Rattle.std.proofs.Common.{arith, sym}
-use Rattle.std.proofs.lemmas.List.{append-nil}
+use Rattle.vyrd_own_log.proofs.Prelude.{arith, sym, append-nil}
 use Rattle.vyrd_own_log.proofs.NameLaws.{front_lacks, whole_lacks, parted_at}
 use Rattle.vyrd_own_log.proofs.entry.split_field.Goals as goal
 

@@ -1,7 +1,5 @@
-use Rattle.std.proofs.Common.{◌≡◌, ap, ◌∙◌, take, length, true, false, not, refl}
-use Rattle.std.specs.Str.{bytes_eq}
-use Rattle.std.proofs.lemmas.List.{take_at}
-use Rattle.vyrd_base.proofs.SplitLaws.{bytes_same}
+use Rattle.vyrd_own_log.proofs.Prelude.{◌≡◌, ap, ◌∙◌, take, length, true, false, not, refl}
+use Rattle.vyrd_own_log.proofs.Prelude.{bytes_eq, take_at, bytes_same}
 use Rattle.vyrd_own_log.proofs.quick.behind_name.Goals as goal
 
 pub returns-then-ne : goal.returns-then-ne

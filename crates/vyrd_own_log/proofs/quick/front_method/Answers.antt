@@ -1,13 +1,7 @@
-use Rattle.std.proofs.Common.{◌≡◌, ◌<◌, ◌+◌, ℕ, List, ◌∷◌, ◌++◌, Some, length, drop, get_or, ap}
-use Rattle.std.proofs.Common.{sym, ◌∙◌, arith}
-use Rattle.std.specs.Prelude.{map}
-use Rattle.std.specs.List.{list_all}
-use Rattle.std.proofs.lemmas.List.{drop_more}
-use Rattle.vyrd_base.proofs.TestLaws.{second_true}
-use Rattle.vyrd_base.specs.Own.Entries.{named_from}
-use Rattle.vyrd_own.specs.Layout.{method_of}
+use Rattle.vyrd_own_log.proofs.Prelude.{◌≡◌, ◌<◌, ◌+◌, ℕ, List, ◌∷◌, ◌++◌, Some, length, drop}
+use Rattle.vyrd_own_log.proofs.Prelude.{get_or, ap, sym, ◌∙◌, arith, map, list_all, drop_more}
+use Rattle.vyrd_own_log.proofs.Prelude.{second_true, named_from, method_of, is_callable}
 use Rattle.vyrd_own.specs.declared.program.Method.{Method}
-use Rattle.vyrd_own_log.specs.Callable.{is_callable}
 use Rattle.vyrd_own_log.proofs.QuickLaws.{name_skipped, name_found}
 use Rattle.vyrd_own_log.proofs.quick.front_method.Goals as goal
 

@@ -1,10 +1,5 @@
-use Rattle.std.proofs.Common.{◌≡◌, ℕ, List, ◌++◌, true, drop}
-use Rattle.std.specs.Prelude.{map}
-use Rattle.std.specs.List.{list_all}
-use Rattle.vyrd_base.specs.Own.Entries.{named_from}
-use Rattle.vyrd_own.specs.Layout.{method_of}
-use Rattle.vyrd_own_log.specs.Callable.{is_callable}
-use Rattle.vyrd_own_log.specs.Quick.{ends_name}
+use Rattle.vyrd_own_log.proofs.Prelude.{◌≡◌, ℕ, List, ◌++◌, true, drop, map, list_all, named_from}
+use Rattle.vyrd_own_log.proofs.Prelude.{method_of, is_callable, ends_name}
 use Rattle.vyrd_own_log.proofs.quick.front_method.Given as goal
 
 abbrev pub invariant-loop-i : goal.invariant-loop-i

@@ -1,8 +1,5 @@
-use Rattle.std.proofs.Common.{◌≡◌, rules, ap, sym, ◌∙◌, Some, length}
-use Rattle.std.specs.Prelude.{nat_le, map}
-use Rattle.vyrd_base.proofs.TestLaws.{second_true}
-use Rattle.vyrd_base.specs.Own.Entries.{named_from}
-use Rattle.vyrd_own.specs.Layout.{method_of, written}
+use Rattle.vyrd_own_log.proofs.Prelude.{◌≡◌, rules, ap, sym, ◌∙◌, Some, length, nat_le, map}
+use Rattle.vyrd_own_log.proofs.Prelude.{second_true, named_from, method_of, written}
 use Rattle.vyrd_own_log.proofs.NameLaws.{named_is}
 use Rattle.vyrd_own_log.proofs.EntryLaws.{AllCallable}
 use Rattle.vyrd_own_log.proofs.QuickLaws.{called_kind}

@@ -1,7 +1,4 @@
-use Rattle.std.proofs.Common.{length, rules}
-use Rattle.std.specs.Prelude.{nat_le}
-use Rattle.vyrd_own.specs.Layout.{written}
-use Rattle.vyrd_base.proofs.TestLaws.{second_true}
+use Rattle.vyrd_own_log.proofs.Prelude.{length, rules, nat_le, written, second_true}
 use Rattle.vyrd_own_log.proofs.EntryLaws.{AllCallable}
 use Rattle.vyrd_own_log.proofs.QuickLaws.{entry_at_front}
 use Rattle.vyrd_own_log.proofs.quick.read_entry.Goals as goal

@@ -1,5 +1,4 @@
-use Rattle.std.proofs.Common.{arith}
-use Rattle.vyrd_own.specs.Layout.{written}
+use Rattle.vyrd_own_log.proofs.Prelude.{arith, written}
 use Rattle.vyrd_own_log.proofs.QuickLaws.{plain_read}
 use Rattle.vyrd_own_log.proofs.quick.read_kind.Goals as goal
 

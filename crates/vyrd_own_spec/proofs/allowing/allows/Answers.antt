@@ -1,8 +1,5 @@
-use Rattle.std.proofs.Common.{ap, ◌∙◌}
-use Rattle.std.specs.Option.{is_some}
+use Rattle.vyrd_own_spec.proofs.Prelude.{ap, ◌∙◌, is_some, written, next_by}
 use Rattle.std.proofs.lemmas.Result.{IfOk-weaker}
-use Rattle.vyrd_own.specs.Layout.{written}
-use Rattle.vyrd_own_spec.specs.Touched.{next_by}
 use Rattle.vyrd_own_spec.proofs.CallLaws.{allowed_is}
 use Rattle.vyrd_own_spec.proofs.allowing.allows.Goals as goal
 

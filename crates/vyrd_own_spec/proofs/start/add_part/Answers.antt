@@ -1,10 +1,6 @@
-use Rattle.std.proofs.Common.{◌≡◌, ℕ, ◌+◌, ◌*◌, ◌<◌, ◌≤◌, Ok, ap, subst, arith, get_or}
-use Rattle.std.specs.Arc.{arc_value}
+use Rattle.vyrd_own_spec.proofs.Prelude.{arc_value, written_in, pair_at, own_gives, HasSums}
+use Rattle.std.proofs.Common.{get_or, ◌≡◌, ℕ, ◌+◌, ◌*◌, ◌<◌, ◌≤◌, Ok, ap, subst, arith}
 use Rattle.std.proofs.Math.Nat.{mul-le-mul_left}
-use Rattle.vyrd_base.specs.Own.Reader.{written_in}
-use Rattle.vyrd_view.specs.Decoded.{pair_at}
-use Rattle.vyrd_own_spec.specs.Parts.{own_gives}
-use Rattle.vyrd_own_spec.specs.Sums.{HasSums}
 use Rattle.vyrd_own_spec.proofs.StartLaws.{sums_more, beyond_all, decoded}
 use Rattle.vyrd_own_spec.proofs.start.add_part.Goals as goal
 

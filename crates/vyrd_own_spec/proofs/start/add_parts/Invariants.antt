@@ -1,9 +1,4 @@
-use Rattle.std.proofs.Common.{◌*◌}
-use Rattle.std.specs.Arc.{arc_value}
-use Rattle.vyrd_base.specs.Own.Reader.{written_in}
-use Rattle.vyrd_view.specs.Decoded.{pair_at}
-use Rattle.vyrd_own_spec.specs.Parts.{own_gives}
-use Rattle.vyrd_own_spec.specs.Sums.{HasSums}
+use Rattle.vyrd_own_spec.proofs.Prelude.{◌*◌, arc_value, written_in, pair_at, own_gives, HasSums}
 use Rattle.vyrd_own_spec.proofs.start.add_parts.Given as goal
 
 abbrev pub invariant-loop-part : goal.invariant-loop-part

@@ -1,9 +1,5 @@
-use Rattle.std.proofs.Common.{◌≡◌, ℕ, true, false, not, length, Ok, ap, sym, ◌∙◌, subst, List}
-use Rattle.std.specs.Arc.{arc_value}
-use Rattle.vyrd_base.specs.Amounts.{Amounts}
-use Rattle.vyrd_base.specs.Own.OwnRules.{own_view}
-use Rattle.vyrd_base.specs.Own.Reader.{written_in}
-use Rattle.vyrd_own_spec.specs.Sums.{are_low}
+use Rattle.vyrd_own_spec.proofs.Prelude.{◌≡◌, ℕ, true, false, not, length, Ok, ap, sym, ◌∙◌, subst}
+use Rattle.vyrd_own_spec.proofs.Prelude.{List, arc_value, Amounts, own_view, written_in, are_low}
 use Rattle.vyrd_own_spec.proofs.StartLaws.{shown_summed, shown_beyond, count_is, not_low}
 use Rattle.vyrd_own_spec.proofs.start.shown_at_start.Goals as goal
 

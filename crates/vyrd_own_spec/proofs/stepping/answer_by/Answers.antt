@@ -1,6 +1,5 @@
-use Rattle.std.proofs.Common.{◌≡◌, Some, ap, sym, ◌∙◌, subst, arith, take}
-use Rattle.std.specs.Prelude.{slice_get, map}
-use Rattle.vyrd_own.specs.Layout.{written, method_of, expr_in}
+use Rattle.vyrd_own_spec.proofs.Prelude.{◌≡◌, Some, ap, sym, ◌∙◌, subst, arith, take, slice_get}
+use Rattle.vyrd_own_spec.proofs.Prelude.{map, written, method_of, expr_in}
 use Rattle.vyrd_own_spec.proofs.CallLaws.{method_found, answer_found, few_given, length-mapped}
 use Rattle.vyrd_own_spec.proofs.stepping.answer_by.Goals as goal
 

@@ -1,6 +1,4 @@
-use Rattle.std.proofs.Common.{◌≡◌, drop}
-use Rattle.std.specs.List.{list_any}
-use Rattle.vyrd_base.specs.Own.Steps.{is_clearing}
+use Rattle.vyrd_own_spec.proofs.Prelude.{◌≡◌, drop, list_any, is_clearing}
 use Rattle.vyrd_own_spec.proofs.stepping.clears.Given as goal
 
 abbrev pub invariant-loop-effect : goal.invariant-loop-effect

@@ -1,5 +1,4 @@
-use Rattle.std.proofs.Common.{◌≡◌, ◌++◌, take}
-use Rattle.vyrd_base.specs.Amounts.{keys_of}
+use Rattle.vyrd_own_spec.proofs.Prelude.{◌≡◌, ◌++◌, take, keys_of}
 use Rattle.vyrd_own_spec.proofs.stepping.put_keys.Given as goal
 
 abbrev pub invariant-loop-key : goal.invariant-loop-key

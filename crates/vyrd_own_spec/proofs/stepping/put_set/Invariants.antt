@@ -1,5 +1,4 @@
-use Rattle.std.proofs.Common.{◌≡◌, ◌++◌, drop}
-use Rattle.vyrd_base.specs.Own.Steps.{shown_keys}
+use Rattle.vyrd_own_spec.proofs.Prelude.{◌≡◌, ◌++◌, drop, shown_keys}
 use Rattle.vyrd_own_spec.proofs.stepping.put_set.Given as goal
 
 abbrev pub invariant-loop-effect : goal.invariant-loop-effect

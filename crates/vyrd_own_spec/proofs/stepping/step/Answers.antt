@@ -1,13 +1,7 @@
-use Rattle.std.proofs.Common.{length, ◌≡◌, ◌≤◌, Some, None, cond, ap, sym, ◌∙◌, subst, arith}
-use Rattle.vyrd_base.specs.Own.Steps.{with_effects}
-use Rattle.vyrd_own.specs.Layout.{written}
-use Rattle.vyrd_own_spec.specs.Touched.{next_by}
-use Rattle.vyrd_base.specs.States.{State}
-use Rattle.vyrd_base.specs.Own.Reader.{written_in}
-use Rattle.vyrd_spec.specs.Touching.{with_touched}
-use Rattle.vyrd_own_spec.specs.Touched.{touched_by}
+use Rattle.vyrd_own_spec.proofs.Prelude.{length, ◌≡◌, ◌≤◌, Some, None, cond, ap, sym, ◌∙◌, subst}
+use Rattle.vyrd_own_spec.proofs.Prelude.{arith, with_effects, written, next_by, State, written_in}
+use Rattle.vyrd_own_spec.proofs.Prelude.{with_touched, touched_by, most_effects}
 use Rattle.vyrd_own_spec.proofs.TouchLaws.{touched_all, registers_stay}
-use Rattle.vyrd_own_spec.specs.Effects.{most_effects}
 use Rattle.vyrd_own_spec.proofs.EffectCounts.{touched_paid, effects_few}
 use Rattle.vyrd_own_spec.proofs.CallLaws.{next_of_effects}
 use Rattle.vyrd_own_spec.proofs.stepping.step.Goals as goal

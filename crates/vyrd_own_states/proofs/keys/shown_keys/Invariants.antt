@@ -1,6 +1,5 @@
-use Rattle.std.proofs.Common.{◌≡◌, [], drop}
-use Rattle.std.specs.Prelude.{filter_map}
-use Rattle.vyrd_own_states.specs.OwnReplies.{each_once, shown_key}
+use Rattle.vyrd_own_states.proofs.Prelude.{◌≡◌, [], drop, filter_map, each_once}
+use Rattle.vyrd_own_states.specs.OwnReplies.{shown_key}
 use Rattle.vyrd_own_states.proofs.keys.shown_keys.Given as goal
 
 abbrev pub invariant-loop-worth : goal.invariant-loop-worth

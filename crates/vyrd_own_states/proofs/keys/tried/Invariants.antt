@@ -1,5 +1,4 @@
-use Rattle.std.proofs.Common.{◌≡◌, [], ◌∷◌, map, drop}
-use Rattle.vyrd_own_states.specs.OwnReplies.{each_once}
+use Rattle.vyrd_own_states.proofs.Prelude.{◌≡◌, [], ◌∷◌, map, drop, each_once}
 use Rattle.vyrd_own_states.proofs.keys.tried.Given as goal
 
 abbrev pub invariant-loop-worth : goal.invariant-loop-worth

@@ -1,6 +1,4 @@
-use Rattle.std.proofs.Common.{◌≡◌, drop}
-use Rattle.std.specs.Prelude.{◌==◌}
-use Rattle.std.specs.List.{list_any}
+use Rattle.vyrd_own_states.proofs.Prelude.{◌≡◌, drop, ◌==◌, list_any}
 use Rattle.vyrd_own_states.proofs.once.is_among.Given as goal
 
 abbrev pub invariant-loop-other : goal.invariant-loop-other

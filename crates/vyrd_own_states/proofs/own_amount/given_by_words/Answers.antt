@@ -1,7 +1,4 @@
-use Rattle.std.proofs.Common.{get_or, ap, ◌∙◌}
-use Rattle.vyrd_base.specs.Amounts.{given}
-use Rattle.vyrd_base.proofs.PlaceLaws.{map_alike}
-use Rattle.vyrd_own_states.specs.PartPairs.{pairs_in}
+use Rattle.vyrd_own_states.proofs.Prelude.{get_or, ap, ◌∙◌, given, map_alike, pairs_in}
 use Rattle.vyrd_own_states.proofs.own_amount.given_by_words.Goals as goal
 
 pub returns-clause-given : goal.returns-clause-given

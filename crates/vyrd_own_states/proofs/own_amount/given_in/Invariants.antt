@@ -1,6 +1,4 @@
-use Rattle.std.proofs.Common.{◌≡◌, ◌*◌, ◌≤◌, ◌^◌}
-use Rattle.vyrd_base.specs.Amounts.{given}
-use Rattle.vyrd_own_states.specs.PartPairs.{pairs_in}
+use Rattle.vyrd_own_states.proofs.Prelude.{◌≡◌, ◌*◌, ◌≤◌, ◌^◌, given, pairs_in}
 use Rattle.vyrd_own_states.proofs.own_amount.given_in.Given as goal
 
 abbrev pub invariant-loop-place : goal.invariant-loop-place

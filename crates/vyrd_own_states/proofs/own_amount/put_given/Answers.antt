@@ -1,10 +1,6 @@
-use Rattle.std.proofs.Common.{◌≡◌, ◌++◌, ap, ◌∙◌, sym, arith}
-use Rattle.std.specs.Prelude.{flat_map}
-use Rattle.vyrd_base.specs.Amounts.{given}
-use Rattle.vyrd_base.specs.Places.{numbers_below}
-use Rattle.vyrd_own_states.specs.PartPairs.{part_pairs}
-use Rattle.vyrd_witness.specs.Given.{told}
-use Rattle.vyrd_witness.proofs.GivenLaws.{given_numbered, one_more}
+use Rattle.vyrd_own_states.proofs.Prelude.{◌≡◌, ◌++◌, ap, ◌∙◌, sym, arith, flat_map, given}
+use Rattle.vyrd_own_states.proofs.Prelude.{numbers_below, part_pairs, told, given_numbered}
+use Rattle.vyrd_witness.proofs.GivenLaws.{one_more}
 use Rattle.vyrd_own_states.proofs.own_amount.put_given.Goals as goal
 
 pub loop-part-preserved : goal.loop-part-preserved

@@ -1,9 +1,5 @@
-use Rattle.std.proofs.Common.{◌≡◌, ◌++◌}
-use Rattle.std.specs.Prelude.{flat_map}
-use Rattle.vyrd_base.specs.Amounts.{given}
-use Rattle.vyrd_base.specs.Places.{numbers_below}
-use Rattle.vyrd_own_states.specs.PartPairs.{part_pairs}
-use Rattle.vyrd_witness.specs.Given.{told}
+use Rattle.vyrd_own_states.proofs.Prelude.{◌≡◌, ◌++◌, flat_map, given, numbers_below, part_pairs}
+use Rattle.vyrd_own_states.proofs.Prelude.{told}
 use Rattle.vyrd_own_states.proofs.own_amount.put_given.Given as goal
 
 abbrev pub invariant-loop-part : goal.invariant-loop-part

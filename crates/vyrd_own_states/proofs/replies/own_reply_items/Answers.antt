@@ -1,12 +1,8 @@
-use Rattle.std.proofs.Common.{◌++◌, subst, sym, ◌∙◌}
-use Rattle.std.specs.Arc.{arc_value}
+use Rattle.vyrd_own_states.proofs.Prelude.{◌++◌, subst, sym, ◌∙◌, arc_value, written_in, own}
+use Rattle.vyrd_own_states.proofs.Prelude.{OwnSpec, called_by, own_refused_items}
 use Rattle.std.specs.Option.{option_map}
-use Rattle.vyrd_base.specs.Own.Reader.{written_in}
-use Rattle.vyrd_base.specs.Rules.{own}
-use Rattle.vyrd_own_spec.specs.declared.own_spec.OwnSpec.{OwnSpec}
-use Rattle.vyrd_states.specs.Running.{IsKnown, called_by, run_by}
+use Rattle.vyrd_states.specs.Running.{IsKnown, run_by}
 use Rattle.vyrd_states.proofs.ReplyLaws.{called_there}
-use Rattle.vyrd_own_states.specs.OwnReplies.{own_refused_items}
 use Rattle.vyrd_own_states.proofs.ReplyLaws.{known_says, header_by, lines_by}
 use Rattle.vyrd_own_states.proofs.replies.own_reply_items.Goals as goal
 

@@ -1,9 +1,5 @@
-use Rattle.std.proofs.Common.{ℕ, ◌++◌, map, ap, ◌∙◌, append_assoc}
-use Rattle.std.proofs.lemmas.Result.{on_ok_weaker}
-use Rattle.vyrd_base.specs.Amounts.{amount_of}
-use Rattle.vyrd_witness.specs.declared.item.Item.{Item}
-use Rattle.vyrd_witness.specs.declared.item.Item.TheVariants.{Before, Hidden}
-use Rattle.vyrd_own_states.specs.OwnReplies.{shown_keys, hidden_keys}
+use Rattle.vyrd_own_states.proofs.Prelude.{ℕ, ◌++◌, map, ap, ◌∙◌, append_assoc, on_ok_weaker}
+use Rattle.vyrd_own_states.proofs.Prelude.{amount_of, Item, Before, Hidden, shown_keys, hidden_keys}
 use Rattle.vyrd_own_states.proofs.states.push_amounts.Goals as goal
 
 pub returns : goal.returns

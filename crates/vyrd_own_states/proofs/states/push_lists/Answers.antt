@@ -1,6 +1,5 @@
-use Rattle.vyrd_base.specs.Own.Expressions.{list_at}
+use Rattle.vyrd_own_states.proofs.Prelude.{list_at, elements_of}
 use Rattle.vyrd_witness.specs.declared.item.Item.TheVariants.{Elements}
-use Rattle.vyrd_own_states.specs.OwnReplies.{elements_of}
 use Rattle.vyrd_own_states.proofs.ItemLaws.{item_more}
 use Rattle.vyrd_own_states.proofs.states.push_lists.Goals as goal
 

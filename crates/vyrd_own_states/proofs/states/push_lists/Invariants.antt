@@ -1,7 +1,4 @@
-use Rattle.std.proofs.Common.{◌≡◌, ◌++◌, map}
-use Rattle.vyrd_base.specs.Own.Expressions.{list_at}
-use Rattle.vyrd_base.specs.Places.{numbers_below}
-use Rattle.vyrd_own_states.specs.OwnReplies.{elements_of}
+use Rattle.vyrd_own_states.proofs.Prelude.{◌≡◌, ◌++◌, map, list_at, numbers_below, elements_of}
 use Rattle.vyrd_own_states.proofs.states.push_lists.Given as goal
 
 abbrev pub invariant-loop-number : goal.invariant-loop-number

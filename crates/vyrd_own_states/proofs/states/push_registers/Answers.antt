@@ -1,5 +1,4 @@
-use Rattle.std.proofs.Common.{ℕ, List, slice_index, ap}
-use Rattle.vyrd_witness.specs.declared.item.Item.TheVariants.{Register}
+use Rattle.vyrd_own_states.proofs.Prelude.{ℕ, List, slice_index, ap, Register}
 use Rattle.vyrd_own_states.proofs.ItemLaws.{item_more}
 use Rattle.vyrd_own_states.proofs.states.push_registers.Goals as goal
 

@@ -1,6 +1,4 @@
-use Rattle.std.proofs.Common.{◌≡◌, ◌++◌, map, slice_index}
-use Rattle.vyrd_base.specs.Places.{numbers_below}
-use Rattle.vyrd_witness.specs.declared.item.Item.TheVariants.{Register}
+use Rattle.vyrd_own_states.proofs.Prelude.{◌≡◌, ◌++◌, map, slice_index, numbers_below, Register}
 use Rattle.vyrd_own_states.proofs.states.push_registers.Given as goal
 
 abbrev pub invariant-loop-number : goal.invariant-loop-number

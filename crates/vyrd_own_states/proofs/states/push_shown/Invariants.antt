@@ -1,6 +1,4 @@
-use Rattle.std.proofs.Common.{◌≡◌, ◌++◌, map, take}
-use Rattle.vyrd_base.specs.Amounts.{amount_of}
-use Rattle.vyrd_witness.specs.declared.item.Item.TheVariants.{Before}
+use Rattle.vyrd_own_states.proofs.Prelude.{◌≡◌, ◌++◌, map, take, amount_of, Before}
 use Rattle.vyrd_own_states.proofs.states.push_shown.Given as goal
 
 abbrev pub invariant-loop-key : goal.invariant-loop-key

@@ -1,10 +1,6 @@
-use Rattle.std.proofs.Common.{◌≡◌, ◌++◌, ◌∷◌, [], List, ap, sym, ◌∙◌}
-use Rattle.std.specs.Prelude.{map}
-use Rattle.std.proofs.lemmas.List.{map-append}
+use Rattle.vyrd_own_text.proofs.Prelude.{◌≡◌, ◌++◌, ◌∷◌, [], List, ap, sym, ◌∙◌, map, map-append}
+use Rattle.vyrd_own_text.proofs.Prelude.{Change, with_change, case_of, change_of, method_of}
 use Rattle.vyrd_own.specs.declared.program.Case.{Case}
-use Rattle.vyrd_base.specs.Own.Programs.{Change}
-use Rattle.vyrd_base.specs.Own.Lines.{with_change}
-use Rattle.vyrd_own.specs.Layout.{case_of, change_of, method_of}
 use Rattle.vyrd_own_text.proofs.LastLaws.{with_change_last}
 use Rattle.vyrd_own_text.proofs.change.put_change.Goals as goal
 

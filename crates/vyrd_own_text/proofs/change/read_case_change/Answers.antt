@@ -1,8 +1,4 @@
-use Rattle.std.proofs.Common.{◌≡◌, subst}
-use Rattle.std.specs.Prelude.{IfOk}
-use Rattle.vyrd_base.specs.Own.Changes.{change_read}
-use Rattle.vyrd_own.specs.Layout.{texts}
-use Rattle.vyrd_own_text.specs.Meaning.{change_as}
+use Rattle.vyrd_own_text.proofs.Prelude.{◌≡◌, subst, IfOk, change_read, texts, change_as}
 use Rattle.vyrd_own_text.proofs.change.read_case_change.Goals as goal
 
 pub returns : goal.returns

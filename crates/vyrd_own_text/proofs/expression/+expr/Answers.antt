@@ -1,6 +1,4 @@
-use Rattle.std.proofs.Common.{◌∙◌, sym, ◌-◌}
-use Rattle.vyrd_own_text.specs.Growth.{scope_of}
-use Rattle.vyrd_base.specs.Own.Reading.{expr_read}
+use Rattle.vyrd_own_text.proofs.Prelude.{◌∙◌, sym, ◌-◌, scope_of, expr_read}
 use Rattle.vyrd_own_text.proofs.WholeLaws.{expr_whole, moved, whole_round, whole_square}
 use Rattle.vyrd_own_text.proofs.WholeLaws.{whole_curly, whole_atom}
 use Rattle.vyrd_own_text.proofs.expression.+expr.Goals as goal

@@ -1,5 +1,4 @@
-use Rattle.std.proofs.Common.{ap, ◌∙◌, arith}
-use Rattle.vyrd_own.specs.Nodes.{earlier, exprs_of}
+use Rattle.vyrd_own_text.proofs.Prelude.{ap, ◌∙◌, arith, earlier, exprs_of}
 use Rattle.vyrd_own_text.proofs.GrowthLaws.{expr_of-last}
 use Rattle.vyrd_own_text.proofs.expression.last.Goals as goal
 

@@ -1,6 +1,4 @@
-use Rattle.std.proofs.Common.{ap, ◌∙◌, subst, sym}
-use Rattle.vyrd_own.specs.Nodes.{expr_of}
-use Rattle.vyrd_own_text.specs.Growth.{Adds}
+use Rattle.vyrd_own_text.proofs.Prelude.{ap, ◌∙◌, subst, sym, expr_of, Adds}
 use Rattle.vyrd_own_text.proofs.GrowthLaws.{expr_of-snoc, Adds-snoc}
 use Rattle.vyrd_own_text.proofs.expression.push.Goals as goal
 

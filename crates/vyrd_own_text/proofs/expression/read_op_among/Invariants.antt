@@ -1,5 +1,4 @@
-use Rattle.std.proofs.Common.{◌≡◌, drop}
-use Rattle.vyrd_base.specs.Own.Reading.{op_among}
+use Rattle.vyrd_own_text.proofs.Prelude.{◌≡◌, drop, op_among}
 use Rattle.vyrd_own_text.proofs.expression.read_op_among.Given as goal
 
 abbrev pub invariant-loop-op : goal.invariant-loop-op

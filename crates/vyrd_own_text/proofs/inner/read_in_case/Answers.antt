@@ -1,7 +1,4 @@
-use Rattle.std.proofs.Common.{◌≡◌, subst}
-use Rattle.std.specs.Prelude.{IfOk}
-use Rattle.vyrd_base.specs.Own.Pieces.{last_read}
-use Rattle.vyrd_own_text.specs.Meaning.{last_as}
+use Rattle.vyrd_own_text.proofs.Prelude.{◌≡◌, subst, IfOk, last_read, last_as}
 use Rattle.vyrd_own_text.proofs.inner.read_in_case.Goals as goal
 
 pub returns : goal.returns

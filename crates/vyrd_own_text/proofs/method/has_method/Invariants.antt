@@ -1,7 +1,4 @@
-use Rattle.std.proofs.Common.{◌≡◌, drop}
-use Rattle.std.specs.Prelude.{map}
-use Rattle.vyrd_base.specs.Own.Methods.{is_method}
-use Rattle.vyrd_own.specs.Layout.{method_of}
+use Rattle.vyrd_own_text.proofs.Prelude.{◌≡◌, drop, map, is_method, method_of}
 use Rattle.vyrd_own_text.proofs.method.has_method.Given as goal
 
 abbrev pub invariant-loop-method : goal.invariant-loop-method

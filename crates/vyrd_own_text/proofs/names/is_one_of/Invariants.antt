@@ -1,7 +1,5 @@
-use Rattle.std.proofs.Common.{◌≡◌, drop, Bor, List, ℕ}
-use Rattle.std.specs.Prelude.{map}
+use Rattle.vyrd_own_text.proofs.Prelude.{◌≡◌, drop, Bor, List, ℕ, map, bytes_eq}
 use Rattle.std.specs.List.{list_any}
-use Rattle.std.specs.Str.{bytes_eq}
 use Rattle.vyrd_own_text.proofs.names.is_one_of.Given as goal
 
 abbrev pub invariant-loop-other : goal.invariant-loop-other

@@ -1,8 +1,6 @@
-use Rattle.std.proofs.Common.{◌≡◌, ◌++◌, ◌∷◌, [], ℕ, List, ap, sym, ◌∙◌}
-use Rattle.std.specs.Prelude.{map}
+use Rattle.vyrd_own_text.proofs.Prelude.{◌≡◌, ◌++◌, ◌∷◌, [], ℕ, List, ap, sym, ◌∙◌, map, map-append}
+use Rattle.vyrd_own_text.proofs.Prelude.{holding}
 use Rattle.std.specs.Global.{Vec}
-use Rattle.std.proofs.lemmas.List.{map-append}
-use Rattle.vyrd_base.specs.Own.Lines.{holding}
 use Rattle.vyrd_own_text.proofs.LastLaws.{holding_last}
 use Rattle.vyrd_own_text.proofs.outer.hold.Goals as goal
 

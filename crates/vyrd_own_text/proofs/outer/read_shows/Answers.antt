@@ -1,7 +1,4 @@
-use Rattle.std.proofs.Common.{◌≡◌, subst}
-use Rattle.std.specs.Prelude.{IfOk, codes}
-use Rattle.vyrd_base.specs.Own.Pieces.{two_read}
-use Rattle.vyrd_own_text.specs.Meaning.{two_as}
+use Rattle.vyrd_own_text.proofs.Prelude.{◌≡◌, subst, IfOk, codes, two_read, two_as}
 use Rattle.vyrd_own_text.proofs.outer.read_shows.Goals as goal
 
 pub returns : goal.returns

@@ -1,11 +1,5 @@
-use Rattle.std.proofs.Common.{◌∷◌, [], ap, sym, ◌∙◌}
-use Rattle.std.specs.Prelude.{map}
-use Rattle.std.proofs.lemmas.List.{map-append}
-use Rattle.vyrd_base.specs.Own.Lines.{inner, with_line}
-use Rattle.vyrd_base.specs.Own.Pieces.{taken_with}
-use Rattle.vyrd_base.specs.Own.Changes.{within_read}
-use Rattle.vyrd_own.specs.Layout.{written, method_of}
-use Rattle.vyrd_own_text.specs.Meaning.{took_as}
+use Rattle.vyrd_own_text.proofs.Prelude.{◌∷◌, [], ap, sym, ◌∙◌, map, map-append, inner, with_line}
+use Rattle.vyrd_own_text.proofs.Prelude.{taken_with, within_read, written, method_of, took_as}
 use Rattle.vyrd_own_text.proofs.LastLaws.{method_line_is, within_same, line_joined}
 use Rattle.vyrd_own_text.proofs.reader.take_method_line.Goals as goal
 

@@ -1,6 +1,5 @@
-use Rattle.std.proofs.Common.{◌≡◌, ◌++◌, ℕ, List, [], ◌∷◌, take, Bor, refl, ap, subst, suc, zero}
-use Rattle.std.specs.Prelude.{IfOk, map}
-use Rattle.vyrd_own.specs.Layout.{texts}
+use Rattle.vyrd_own_text.proofs.Prelude.{◌≡◌, ◌++◌, ℕ, List, [], ◌∷◌, take, Bor, refl, ap, subst}
+use Rattle.vyrd_own_text.proofs.Prelude.{suc, zero, IfOk, map, texts}
 use Rattle.vyrd_own_text.proofs.scopes.put_first_words.Goals as goal
 
 map-take : (n : ℕ) (ws : List (Bor (List ℕ))) → map (λ (w : Bor (List ℕ)). w.now) (take n ws)

@@ -1,5 +1,4 @@
-use Rattle.std.proofs.Common.{◌≡◌, ◌++◌, take}
-use Rattle.vyrd_own.specs.Layout.{texts}
+use Rattle.vyrd_own_text.proofs.Prelude.{◌≡◌, ◌++◌, take, texts}
 use Rattle.vyrd_own_text.proofs.scopes.put_names.Given as goal
 
 abbrev pub invariant-loop-name : goal.invariant-loop-name

@@ -1,6 +1,4 @@
-use Rattle.std.proofs.Common.{◌≡◌, ◌++◌, take, subst}
-use Rattle.std.specs.Prelude.{IfOk}
-use Rattle.vyrd_own.specs.Layout.{texts}
+use Rattle.vyrd_own_text.proofs.Prelude.{◌≡◌, ◌++◌, take, subst, IfOk, texts}
 use Rattle.vyrd_base.specs.Own.Names.{words_of_parts}
 use Rattle.vyrd_own_text.proofs.scopes.put_part_words.Goals as goal
 

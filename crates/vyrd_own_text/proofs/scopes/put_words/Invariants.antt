@@ -1,6 +1,4 @@
-use Rattle.std.proofs.Common.{◌≡◌, ◌++◌, take, Bor, List, ℕ}
-use Rattle.std.specs.Prelude.{map}
-use Rattle.vyrd_own.specs.Layout.{texts}
+use Rattle.vyrd_own_text.proofs.Prelude.{◌≡◌, ◌++◌, take, Bor, List, ℕ, map, texts}
 use Rattle.vyrd_own_text.proofs.scopes.put_words.Given as goal
 
 abbrev pub invariant-loop-word : goal.invariant-loop-word

@@ -1,6 +1,5 @@
-use Rattle.std.proofs.Common.{◌≡◌, ◌++◌, List, ℕ, sym, Option, Some, None, Bor}
+use Rattle.vyrd_own_text.proofs.Prelude.{◌≡◌, ◌++◌, List, ℕ, sym, Option, Some, None, Bor, after}
 use Rattle.std.specs.Prelude.{option_map, MatchOption}
-use Rattle.vyrd_base.specs.Own.Reading.{after}
 use Rattle.vyrd_own_text.proofs.TextLaws.{after_is, after_none}
 use Rattle.vyrd_own_text.proofs.text.after.Goals as goal
 

@@ -1,6 +1,4 @@
-use Rattle.std.proofs.Common.{◌≡◌, drop}
-use Rattle.vyrd_base.specs.Own.Reading.{place_from}
-use Rattle.vyrd_own.specs.Layout.{texts}
+use Rattle.vyrd_own_text.proofs.Prelude.{◌≡◌, drop, place_from, texts}
 use Rattle.vyrd_own_text.proofs.text.find_name.Given as goal
 
 abbrev pub invariant-loop-i : goal.invariant-loop-i

@@ -1,7 +1,5 @@
-use Rattle.std.proofs.Common.{◌≡◌, ℕ, List, ◌∙◌, ap, sym, arith, ◌<◌, ◌^◌}
-use Rattle.std.specs.Prelude.{decimal}
-use Rattle.std.specs.Str.Parse.{digits_value}
-use Rattle.vyrd_base.proofs.SplitLaws.{number_of_decimal}
+use Rattle.vyrd_own_text.proofs.Prelude.{decimal, digits_value, number_of_decimal}
+use Rattle.std.proofs.Common.{◌^◌, ◌≡◌, ℕ, List, ◌∙◌, ap, sym, arith, ◌<◌}
 use Rattle.vyrd_own_text.proofs.TextLaws.{number_is, number_isnt}
 use Rattle.vyrd_own_text.proofs.text.read_number.Goals as goal
 

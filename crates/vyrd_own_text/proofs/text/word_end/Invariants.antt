@@ -1,5 +1,4 @@
-use Rattle.std.proofs.Common.{◌≡◌, ◌++◌, take, drop}
-use Rattle.vyrd_base.specs.Own.Reading.{word_of, after_word}
+use Rattle.vyrd_own_text.proofs.Prelude.{◌≡◌, ◌++◌, take, drop, word_of, after_word}
 use Rattle.vyrd_own_text.proofs.text.word_end.Given as goal
 
 abbrev pub invariant-loop-i : goal.invariant-loop-i

@@ -1,6 +1,4 @@
-use Rattle.std.proofs.Common.{length}
-use Rattle.vyrd_base.specs.Verdicts.{accepted}
-use Rattle.vyrd_base.specs.declared.verdict.Verdict.TheVariants.{Accepted}
+use Rattle.vyrd_plain.proofs.Prelude.{length, accepted, Accepted}
 use Rattle.vyrd_plain.proofs.counts.accepted.Goals as goal
 
 pub returns : goal.returns

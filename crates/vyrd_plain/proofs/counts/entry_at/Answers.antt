@@ -1,7 +1,4 @@
-use Rattle.std.proofs.Common.{take}
-use Rattle.vyrd_base.specs.Places.{newest_first}
-use Rattle.vyrd_base.proofs.ShadowLaws.{caller_kept}
-use Rattle.vyrd_base.proofs.KeptLaws.{kept_at}
+use Rattle.vyrd_plain.proofs.Prelude.{take, newest_first, caller_kept, kept_at}
 use Rattle.vyrd_plain.proofs.counts.entry_at.Goals as goal
 
 pub returns-clause-caller : goal.returns-clause-caller

@@ -1,7 +1,5 @@
-use Rattle.std.proofs.Common.{◌≡◌, ◌≤◌, ◌+◌, take, vec_len}
-use Rattle.vyrd_base.specs.Places.{newest_first}
-use Rattle.vyrd_base.specs.Verdicts.{observer_count}
-use Rattle.vyrd_plain.specs.Committed.{AreCommitted}
+use Rattle.vyrd_plain.proofs.Prelude.{newest_first, observer_count, AreCommitted}
+use Rattle.std.proofs.Common.{vec_len, ◌≡◌, ◌≤◌, ◌+◌, take}
 use Rattle.vyrd_plain.proofs.CountLaws.{observers_from}
 use Rattle.vyrd_plain.proofs.counts.observer_count.Given as goal
 

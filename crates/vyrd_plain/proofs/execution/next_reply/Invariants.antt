@@ -1,5 +1,4 @@
-use Rattle.std.proofs.Common.{◌≡◌, drop}
-use Rattle.vyrd_base.specs.Commits.{next_reply}
+use Rattle.vyrd_plain.proofs.Prelude.{◌≡◌, drop, next_reply}
 use Rattle.vyrd_plain.proofs.execution.next_reply.Given as goal
 
 abbrev pub invariant-loop-entry : goal.invariant-loop-entry

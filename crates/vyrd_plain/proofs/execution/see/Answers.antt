@@ -1,8 +1,5 @@
-use Rattle.std.proofs.Common.{◌≡◌, ◌<◌, Some, None, length, map, drop, get_or, slice_get, sym, ap}
-use Rattle.std.proofs.Common.{◌∙◌, arith}
-use Rattle.std.proofs.lemmas.Option.{slice_get-get_or}
-use Rattle.vyrd_plain.specs.Executions.{seeing}
-use Rattle.vyrd_base.specs.Rules.{rules_by}
+use Rattle.vyrd_plain.proofs.Prelude.{◌≡◌, ◌<◌, Some, None, length, map, drop, get_or, slice_get}
+use Rattle.vyrd_plain.proofs.Prelude.{sym, ap, ◌∙◌, arith, slice_get-get_or, seeing, rules_by}
 use Rattle.vyrd_base.proofs.ChangedLists.{changed_next, changed_all, unchanged_at, written_back}
 use Rattle.vyrd_plain.proofs.execution.see.Goals as goal
 

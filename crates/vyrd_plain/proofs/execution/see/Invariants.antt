@@ -1,6 +1,4 @@
-use Rattle.std.proofs.Common.{◌≡◌}
-use Rattle.vyrd_plain.specs.Executions.{seeing}
-use Rattle.vyrd_base.specs.Rules.{rules_by}
+use Rattle.vyrd_plain.proofs.Prelude.{◌≡◌, seeing, rules_by}
 use Rattle.vyrd_base.proofs.ChangedLists.{changed_below}
 use Rattle.vyrd_plain.proofs.execution.see.Given as goal
 

@@ -1,12 +1,7 @@
-use Rattle.std.proofs.Common.{◌≡◌, Bool, true, false, Result, Ok, Err, take, sym, subst, ap, ◌∙◌}
-use Rattle.std.specs.Result.{MatchResult, is_err}
-use Rattle.std.proofs.Math.Seq.{take-length}
-use Rattle.vyrd_base.specs.Places.{newest_first}
-use Rattle.vyrd_base.specs.Front.{first_break}
-use Rattle.vyrd_base.specs.Verdicts.{is_call_open}
-use Rattle.vyrd_shape.specs.Following.{HasFollowed}
-use Rattle.vyrd_base.proofs.FrontLaws.{kept_next, newest_next, front_at, break_at, kept_all}
-use Rattle.vyrd_base.proofs.FrontLaws.{take_past, front_of_all, nothing_broken}
+use Rattle.vyrd_plain.proofs.Prelude
+use Prelude.{◌≡◌, Bool, true, false, Result, Ok, Err, take, sym, subst, ap, ◌∙◌, MatchResult}
+use Prelude.{is_err, take-length, newest_first, first_break, is_call_open, HasFollowed, kept_next}
+use Prelude.{newest_next, front_at, break_at, kept_all, take_past, front_of_all, nothing_broken}
 use Rattle.vyrd_plain.proofs.front.front_of.Goals as goal
 
 pub loop-i-init : goal.loop-i-init

@@ -1,7 +1,4 @@
-use Rattle.std.proofs.Common.{◌≡◌, None, take}
-use Rattle.vyrd_base.specs.Places.{newest_first}
-use Rattle.vyrd_base.specs.Front.{first_break}
-use Rattle.vyrd_shape.specs.Following.{HasFollowed}
+use Rattle.vyrd_plain.proofs.Prelude.{◌≡◌, None, take, newest_first, first_break, HasFollowed}
 use Rattle.vyrd_plain.proofs.front.front_of.Given as goal
 
 abbrev pub invariant-loop-i : goal.invariant-loop-i

@@ -1,15 +1,12 @@
-use Rattle.std.proofs.Common.{◌≡◌, ℕ, ◌+◌, true, false, [], length, sym, ap, ◌∙◌, arith}
-use Rattle.std.specs.Prelude.{◌==◌, ◌≢◌}
+use Rattle.vyrd_plain.proofs.Prelude.{◌≡◌, ℕ, ◌+◌, true, false, [], length, sym, ap, ◌∙◌, arith}
+use Rattle.vyrd_plain.proofs.Prelude.{◌==◌, ◌≢◌, rules_of, start_verdict-none, Malformed, line_of}
+use Rattle.vyrd_plain.proofs.Prelude.{accepted, line_without, IfOk-weaker}
 use Rattle.std.proofs.lemmas.Bool.Decides.{nat_tests}
-use Rattle.vyrd_base.specs.Rules.{rules_of}
-use Rattle.vyrd_base.proofs.NoStart.{start_verdict-none}
 use Rattle.vyrd_base.specs.declared.verdict.Rule.TheVariants.{CallOpen}
 use Rattle.vyrd_base.specs.declared.verdict.Stop.TheVariants.{End}
-use Rattle.vyrd_base.specs.declared.verdict.Verdict.TheVariants.{Malformed}
-use Rattle.vyrd_base.specs.Verdicts.{line_of, verdict_at, accepted}
-use Rattle.vyrd_base.proofs.VerdictParts.{line_without, at_end_open, at_end_accepted, at_text_open}
+use Rattle.vyrd_base.specs.Verdicts.{verdict_at}
+use Rattle.vyrd_base.proofs.VerdictParts.{at_end_open, at_end_accepted, at_text_open}
 use Rattle.vyrd_base.proofs.VerdictParts.{at_text_before, at_text_closed}
-use Rattle.std.proofs.lemmas.Result.{IfOk-weaker}
 use Rattle.vyrd_plain.proofs.judge.at_stop.Goals as goal
 use Rattle.vyrd_plain.proofs.judge.at_stop.Goals.{then-is_open-2+else-line-after, else-is_open-2}
 

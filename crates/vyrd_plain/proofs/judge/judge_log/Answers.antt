@@ -1,10 +1,6 @@
-use Rattle.std.proofs.Common.{[], sym, ap, ◌∙◌}
-use Rattle.vyrd_base.specs.Rules.{rules_of}
-use Rattle.vyrd_base.proofs.NoStart.{start_verdict-none}
-use Rattle.vyrd_base.specs.declared.verdict.Verdict.TheVariants.{Malformed}
-use Rattle.vyrd_base.specs.Verdicts.{line_of}
-use Rattle.vyrd_base.proofs.VerdictParts.{line_without, verdict_standing, so_far_fault}
-use Rattle.vyrd_base.proofs.VerdictParts.{so_far_break, so_far_none}
+use Rattle.vyrd_plain.proofs.Prelude.{[], sym, ap, ◌∙◌, rules_of, start_verdict-none, Malformed}
+use Rattle.vyrd_plain.proofs.Prelude.{line_of, line_without}
+use Rattle.vyrd_base.proofs.VerdictParts.{verdict_standing, so_far_fault, so_far_break, so_far_none}
 use Rattle.vyrd_plain.proofs.judge.judge_log.Goals as goal
 
 pub returns-in-Some : goal.returns-in-Some

@@ -1,9 +1,6 @@
-use Rattle.std.proofs.Common.{◌+◌, [], Ok, Some, take, drop, sym, ap, ◌∙◌, subst, arith}
-use Rattle.vyrd_base.specs.Rules.{Rules, rules_of, rules_by}
+use Rattle.vyrd_plain.proofs.Prelude.{◌+◌, [], Ok, Some, take, drop, sym, ap, ◌∙◌, subst, arith}
+use Rattle.vyrd_plain.proofs.Prelude.{Rules, rules_of, rules_by, states_along, Tracks, HasEffects}
 use Rattle.vyrd_base.proofs.NoStart.{state_at_start-none}
-use Rattle.vyrd_base.specs.Verdicts.{states_along}
-use Rattle.vyrd_plain.specs.Tracking.{Tracks}
-use Rattle.vyrd_plain.specs.OpenBlocks.{HasEffects}
 use Rattle.vyrd_plain.proofs.StepLaws.{fault_from_start, fault_goes, fault_found, fault_ends}
 use Rattle.vyrd_plain.proofs.StepLaws.{fault_past, tracks_first, some_at, next_is, leads_at}
 use Rattle.vyrd_plain.proofs.BlockFacts.{effects_first}

@@ -1,9 +1,5 @@
-use Rattle.std.proofs.Common.{◌≡◌, ◌≤◌, [], take, drop}
-use Rattle.vyrd_base.specs.Rules.{built_in, rules_of}
-use Rattle.vyrd_base.specs.Places.{newest_first}
-use Rattle.vyrd_base.specs.Verdicts.{states_along, first_fault}
-use Rattle.vyrd_plain.specs.Tracking.{Tracks}
-use Rattle.vyrd_plain.specs.OpenBlocks.{HasEffects}
+use Rattle.vyrd_plain.proofs.Prelude.{◌≡◌, ◌≤◌, [], take, drop, built_in, rules_of, newest_first}
+use Rattle.vyrd_plain.proofs.Prelude.{states_along, first_fault, Tracks, HasEffects}
 use Rattle.vyrd_plain.proofs.StepLaws.{fault_from}
 use Rattle.vyrd_plain.proofs.violation.first_violation.Given as goal
 

@@ -1,7 +1,6 @@
-use Rattle.std.proofs.Common.{◌≡◌, ◌+◌, ◌≤◌, ◌++◌, length, drop, vec_len}
+use Rattle.vyrd_shadow.proofs.Prelude.{keys_of, with_writes, AreInRange}
+use Rattle.std.proofs.Common.{vec_len, ◌≡◌, ◌+◌, ◌≤◌, ◌++◌, length, drop}
 use Rattle.std.specs.Prelude.{vec_capacity}
-use Rattle.std.specs.Map.{keys_of}
-use Rattle.vyrd_shadow.specs.Blocks.{with_writes, AreInRange}
 use Rattle.vyrd_shadow.proofs.block.take_effect.Given as goal
 
 abbrev pub invariant-loop-word : goal.invariant-loop-word

@@ -1,5 +1,4 @@
-use Rattle.std.proofs.Common.{◌≡◌, None}
-use Rattle.std.specs.Prelude.{replicate}
+use Rattle.vyrd_shadow.proofs.Prelude.{◌≡◌, None, replicate}
 use Rattle.vyrd_shadow.proofs.blocks.closed_blocks.Given as goal
 
 abbrev pub invariant-loop : goal.invariant-loop

@@ -1,7 +1,4 @@
-use Rattle.std.proofs.Common.{◌≡◌, ◌+◌, map}
-use Rattle.std.specs.List.{sum_by}
-use Rattle.vyrd_shape.specs.Costs.{held_count}
-use Rattle.vyrd_shape.specs.Holding.{released, IsLinked}
+use Rattle.vyrd_shape.proofs.Prelude.{◌≡◌, ◌+◌, map, sum_by, held_count, released, IsLinked}
 use Rattle.vyrd_shape.proofs.StampLaws.{IsRaising}
 use Rattle.vyrd_shape.proofs.holders.release_linked.Given as goal
 

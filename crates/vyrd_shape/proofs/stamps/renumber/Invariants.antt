@@ -1,5 +1,4 @@
-use Rattle.std.proofs.Common.{◌≡◌, ℕ, ◌+◌, ◌*◌, ◌<◌, ◌≤◌, length, get_or}
-use Rattle.vyrd_shape.specs.Stamps.{rank}
+use Rattle.vyrd_shape.proofs.Prelude.{◌≡◌, ℕ, ◌+◌, ◌*◌, ◌<◌, ◌≤◌, length, get_or, rank}
 use Rattle.vyrd_shape.proofs.stamps.renumber.Given as goal
 
 abbrev pub invariant-loop-place : goal.invariant-loop-place

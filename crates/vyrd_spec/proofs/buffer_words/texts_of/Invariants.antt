@@ -1,7 +1,4 @@
-use Rattle.std.proofs.Common.{◌≡◌, true, map}
-use Rattle.std.specs.List.{list_all}
-use Rattle.vyrd_base.specs.Places.{numbers_below}
-use Rattle.vyrd_base.specs.Buffers.{buffer_at, is_buffer}
+use Rattle.vyrd_spec.proofs.Prelude.{◌≡◌, true, map, list_all, numbers_below, buffer_at, is_buffer}
 use Rattle.vyrd_spec.specs.Texts.{text_of_buffer}
 use Rattle.vyrd_spec.proofs.buffer_words.texts_of.Given as goal
 

@@ -1,10 +1,7 @@
-use Rattle.std.proofs.Common.{arith, ap, ◌∙◌, ◌+◌, ◌*◌}
-use Rattle.std.specs.Prelude.{flat_map, slice_index}
-use Rattle.vyrd_base.specs.Added.{added}
-use Rattle.vyrd_base.specs.Places.{numbers_below}
-use Rattle.vyrd_base.specs.Amounts.{amount_of}
+use Rattle.vyrd_spec.proofs.Prelude.{arith, ap, ◌∙◌, ◌+◌, ◌*◌, flat_map, slice_index, added}
+use Rattle.vyrd_spec.proofs.Prelude.{numbers_below, amount_of, place_parts}
 use Rattle.vyrd_base.proofs.AddedLaws.{added-push, amount_of-added}
-use Rattle.vyrd_base.proofs.PartLaws.{place_parts, places_at_most, node_parts-places, place_is}
+use Rattle.vyrd_base.proofs.PartLaws.{places_at_most, node_parts-places, place_is}
 use Rattle.vyrd_spec.proofs.LeafLaws.{entry_sound}
 use Rattle.vyrd_spec.proofs.leaves.add_leaf.Goals as goal
 

@@ -1,7 +1,5 @@
-use Rattle.std.proofs.Common.{arith, ap, ◌+◌, ◌-◌}
-use Rattle.vyrd_base.specs.Amounts.{amount_of}
+use Rattle.vyrd_spec.proofs.Prelude.{arith, ap, ◌+◌, ◌-◌, amount_of, node_grows}
 use Rattle.vyrd_spec.proofs.TreeWordLaws.{tree_of, leaf_entries}
-use Rattle.vyrd_base.proofs.PartLaws.{node_grows}
 use Rattle.vyrd_spec.proofs.LeafLaws.{walk_begins, walk_left, walk_ends, walk_goes_on, node_small}
 use Rattle.vyrd_spec.proofs.LeafLaws.{nothing_small}
 use Rattle.vyrd_spec.proofs.leaves.values.Goals as goal

@@ -1,5 +1,4 @@
-use Rattle.std.proofs.Common.{ℕ, ◌-◌, ◌*◌, ◌^◌, ◌≤◌}
-use Rattle.vyrd_base.specs.Amounts.{amount_of}
+use Rattle.vyrd_spec.proofs.Prelude.{ℕ, ◌-◌, ◌*◌, ◌^◌, ◌≤◌, amount_of}
 use Rattle.vyrd_spec.proofs.LeafLaws.{AreLeafAmounts, LeafWalk}
 use Rattle.vyrd_spec.proofs.leaves.values.Given as goal
 

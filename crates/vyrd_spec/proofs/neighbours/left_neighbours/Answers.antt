@@ -1,6 +1,5 @@
-use Rattle.std.proofs.Common.{◌≡◌, Bool, true, false, not, refl, arith, ◌∙◌, sym}
-use Rattle.vyrd_base.specs.Tree.{right_of}
-use Rattle.vyrd_spec.specs.Neighbours.{has_left}
+use Rattle.vyrd_spec.proofs.Prelude.{◌≡◌, Bool, true, false, not, refl, arith, ◌∙◌, sym, right_of}
+use Rattle.vyrd_spec.proofs.Prelude.{has_left}
 use Rattle.vyrd_spec.proofs.NeighbourLaws.{told_more, told_twice, told_all}
 use Rattle.vyrd_spec.proofs.neighbours.left_neighbours.Goals as goal
 

@@ -1,5 +1,4 @@
-use Rattle.std.proofs.Common.{arith, sym, ◌∙◌, ◌*◌}
-use Rattle.vyrd_base.specs.Multiset.{is_sound_slot}
+use Rattle.vyrd_spec.proofs.Prelude.{arith, sym, ◌∙◌, ◌*◌, is_sound_slot}
 use Rattle.vyrd_spec.proofs.RowLaws.{one_fails, passes_more}
 use Rattle.vyrd_spec.proofs.slot_words.are_sound.Goals as goal
 

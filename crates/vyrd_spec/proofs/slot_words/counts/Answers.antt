@@ -1,6 +1,4 @@
-use Rattle.std.proofs.Common.{arith}
-use Rattle.vyrd_base.proofs.AddedLaws.{collected-push}
-use Rattle.vyrd_base.proofs.PartLaws.{slots_at_most}
+use Rattle.vyrd_spec.proofs.Prelude.{arith, collected-push, slots_at_most}
 use Rattle.vyrd_spec.proofs.slot_words.counts.Goals as goal
 
 pub add_slot-requires : goal.add_slot-requires

@@ -1,5 +1,4 @@
-use Rattle.std.proofs.Common.{arith}
-use Rattle.std.proofs.Math.Nat.{one-le-pow}
+use Rattle.vyrd_spec.proofs.Prelude.{arith, one-le-pow}
 use Rattle.vyrd_spec.proofs.text.cut_to.Goals as goal
 
 pub nonzero_rem-result : goal.nonzero_rem-result

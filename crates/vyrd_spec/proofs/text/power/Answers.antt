@@ -1,5 +1,4 @@
-use Rattle.std.proofs.Common.{arith}
-use Rattle.std.proofs.Math.Nat.{pow-le-pow_right}
+use Rattle.vyrd_spec.proofs.Prelude.{arith, pow-le-pow_right}
 use Rattle.vyrd_spec.proofs.text.power.Goals as goal
 
 pub pow-requires : goal.pow-requires

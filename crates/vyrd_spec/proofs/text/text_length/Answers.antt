@@ -1,5 +1,4 @@
-use Rattle.std.proofs.Common.{◌≡◌, ap, arith, ◌∙◌}
-use Rattle.vyrd_base.specs.Buffers.{text_length, powers_within}
+use Rattle.vyrd_spec.proofs.Prelude.{◌≡◌, ap, arith, ◌∙◌, text_length, powers_within}
 use Rattle.vyrd_base.proofs.TextLaws.{powers_at_most}
 use Rattle.vyrd_spec.proofs.text.text_length.Goals as goal
 

@@ -1,5 +1,4 @@
-use Rattle.std.proofs.Common.{◌≡◌}
-use Rattle.vyrd_base.specs.Buffers.{powers_within}
+use Rattle.vyrd_spec.proofs.Prelude.{◌≡◌, powers_within}
 use Rattle.vyrd_spec.proofs.text.text_length.Given as goal
 
 abbrev pub invariant-loop-n : goal.invariant-loop-n

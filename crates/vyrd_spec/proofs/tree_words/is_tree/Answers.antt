@@ -1,6 +1,4 @@
-use Rattle.std.proofs.Common.{◌≡◌, false, ◌∙◌, sym}
-use Rattle.vyrd_base.specs.Tree.{root_of, last_of}
-use Rattle.vyrd_spec.specs.Neighbours.{have_one_left}
+use Rattle.vyrd_spec.proofs.Prelude.{◌≡◌, false, ◌∙◌, sym, root_of, last_of, have_one_left}
 use Rattle.vyrd_spec.proofs.TreeWordLaws.{are_nodes, tree_is, two_links}
 use Rattle.vyrd_spec.proofs.tree_words.is_tree.Goals as goal
 

@@ -1,8 +1,5 @@
-use Rattle.std.proofs.Common.{◌≡◌, ◌+◌, ◌∙◌, ap, subst, sym, arith}
-use Rattle.std.specs.Prelude.{IfSome}
-use Rattle.std.specs.Option.{option_map}
-use Rattle.vyrd_base.specs.Rules.{rules_by}
-use Rattle.vyrd_states.specs.Running.{LeadsTo, run_by, state_past}
+use Rattle.vyrd_states.proofs.Prelude.{◌≡◌, ◌+◌, ◌∙◌, ap, subst, sym, arith, IfSome, option_map}
+use Rattle.vyrd_states.proofs.Prelude.{rules_by, LeadsTo, run_by, state_past}
 use Rattle.vyrd_states.proofs.RunLaws.{known_first, known_next, none_next, known_none, never_known}
 use Rattle.vyrd_states.proofs.known.spec_at.Goals as goal
 

@@ -1,5 +1,4 @@
-use Rattle.std.proofs.Common.{Some}
-use Rattle.vyrd_states.specs.Running.{IsKnown, run_by}
+use Rattle.vyrd_states.proofs.Prelude.{Some, IsKnown, run_by}
 use Rattle.vyrd_states.proofs.known.spec_at.Given as goal
 
 abbrev pub invariant-loop-at : goal.invariant-loop-at

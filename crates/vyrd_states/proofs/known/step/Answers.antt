@@ -1,9 +1,5 @@
-use Rattle.std.proofs.Common.{ap, subst, ◌∙◌, sym}
-use Rattle.std.specs.Prelude.{option_and_then, IfOk}
-use Rattle.std.specs.Option.{option_map}
-use Rattle.vyrd_base.specs.Rules.{rules_by}
-use Rattle.vyrd_base.proofs.CommitLaws.{commits_by}
-use Rattle.vyrd_states.specs.Running.{LeadsTo, run_by, state_by}
+use Rattle.vyrd_states.proofs.Prelude.{ap, subst, ◌∙◌, sym, option_and_then, IfOk, option_map}
+use Rattle.vyrd_states.proofs.Prelude.{rules_by, commits_by, LeadsTo, run_by, state_by}
 use Rattle.vyrd_states.proofs.CallLaws.{execution_allowed, execution_mutates, state_past-commit}
 use Rattle.vyrd_states.proofs.known.step.Goals as goal
 

@@ -1,10 +1,7 @@
-use Rattle.std.proofs.Common.{subst, sym, ap, ◌∙◌}
-use Rattle.std.specs.Prelude.{is_some}
-use Rattle.std.specs.Option.{option_map}
-use Rattle.vyrd_base.specs.Rules.{built_in, rules_by, rules_of}
+use Rattle.vyrd_states.proofs.Prelude.{subst, sym, ap, ◌∙◌, is_some, option_map, rules_by, rules_of}
+use Rattle.vyrd_states.proofs.Prelude.{state_then, IsKnown, called_by, run_by}
+use Rattle.vyrd_base.specs.Rules.{built_in}
 use Rattle.vyrd_spec.specs.AnySpecs.{header_in, state_in, made_in}
-use Rattle.vyrd_states.specs.Known.{state_then}
-use Rattle.vyrd_states.specs.Running.{IsKnown, called_by, run_by}
 use Rattle.vyrd_states.proofs.ReplyLaws.{reply_allowed, reply_refused}
 use Rattle.vyrd_states.proofs.replies.push_allowed.Goals as goal
 use Rattle.vyrd_states.proofs.replies.push_allowed.Goals.{then-branch+in_ok-push, else-branch}

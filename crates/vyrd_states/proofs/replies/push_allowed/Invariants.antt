@@ -1,7 +1,4 @@
-use Rattle.std.proofs.Common.{◌≡◌, ◌++◌}
-use Rattle.vyrd_base.specs.Rules.{rules_of}
-use Rattle.vyrd_states.specs.Known.{state_then}
-use Rattle.vyrd_states.specs.Running.{called_by}
+use Rattle.vyrd_states.proofs.Prelude.{◌≡◌, ◌++◌, rules_of, state_then, called_by}
 use Rattle.vyrd_states.proofs.ReplyLaws.{allowed_below}
 use Rattle.vyrd_states.proofs.replies.push_allowed.Given as goal
 

@@ -1,8 +1,6 @@
-use Rattle.std.proofs.Common.{[], ◌∷◌, ◌++◌, take, map, sym, ap, ◌∙◌}
-use Rattle.vyrd_base.specs.Rules.{rules_by}
+use Rattle.vyrd_states.proofs.Prelude.{[], ◌∷◌, ◌++◌, take, map, sym, ap, ◌∙◌, rules_by, Before}
+use Rattle.vyrd_states.proofs.Prelude.{amount_in}
 use Rattle.vyrd_base.proofs.FrontLaws.{take_past}
-use Rattle.vyrd_witness.specs.declared.item.Item.TheVariants.{Before}
-use Rattle.vyrd_states.specs.Known.{amount_in}
 use Rattle.vyrd_states.proofs.replies.push_keys.Goals as goal
 
 pub returns : goal.returns

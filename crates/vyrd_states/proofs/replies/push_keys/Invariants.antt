@@ -1,7 +1,4 @@
-use Rattle.std.proofs.Common.{◌≡◌, ◌++◌, map, take}
-use Rattle.vyrd_base.specs.Rules.{rules_by}
-use Rattle.vyrd_witness.specs.declared.item.Item.TheVariants.{Before}
-use Rattle.vyrd_states.specs.Known.{amount_in}
+use Rattle.vyrd_states.proofs.Prelude.{◌≡◌, ◌++◌, map, take, rules_by, Before, amount_in}
 use Rattle.vyrd_states.proofs.replies.push_keys.Given as goal
 
 abbrev pub invariant-loop-key : goal.invariant-loop-key

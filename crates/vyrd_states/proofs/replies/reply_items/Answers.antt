@@ -1,9 +1,5 @@
-use Rattle.std.proofs.Common.{◌++◌, [], ap, sym, ◌∙◌}
-use Rattle.std.specs.Option.{option_map_or}
-use Rattle.vyrd_base.specs.Rules.{rules_of}
-use Rattle.vyrd_states.specs.Known.{state_then}
-use Rattle.vyrd_states.specs.Replies.{before_items}
-use Rattle.vyrd_states.specs.Running.{called_by}
+use Rattle.vyrd_states.proofs.Prelude.{◌++◌, [], ap, sym, ◌∙◌, option_map_or, rules_of, state_then}
+use Rattle.vyrd_states.proofs.Prelude.{before_items, called_by}
 use Rattle.vyrd_states.proofs.CallLaws.{execution_allowed}
 use Rattle.vyrd_states.proofs.ReplyLaws.{allowed_below, replies_to, no_replies}
 use Rattle.vyrd_states.proofs.replies.reply_items.Goals as goal

@@ -1,15 +1,9 @@
-use Rattle.std.proofs.Common.{◌≡◌, ℕ, ◌+◌, ◌-◌, List, ◌++◌, Option, Some, None, ap, subst, ◌∙◌}
-use Rattle.std.proofs.Common.{sym, arith}
-use Rattle.std.specs.Option.{option_map}
-use Rattle.vyrd_base.specs.declared.log.Entry.{Entry}
-use Rattle.vyrd_base.specs.declared.log.StartWord.{StartWord}
-use Rattle.vyrd_base.specs.Places.{numbers_from}
-use Rattle.vyrd_base.specs.Rules.{Charter, rules_by}
-use Rattle.vyrd_base.specs.States.{State}
+use Rattle.vyrd_states.proofs.Prelude.{◌≡◌, ℕ, ◌+◌, ◌-◌, List, ◌++◌, Option, Some, None, ap, subst}
+use Rattle.vyrd_states.proofs.Prelude.{◌∙◌, sym, arith, option_map, Entry, StartWord, numbers_from}
+use Rattle.vyrd_states.proofs.Prelude.{Charter, rules_by, State, IsKnown, LeadsTo, Run, state_past}
+use Rattle.vyrd_states.proofs.Prelude.{called_by, run_by, answer_after, answers_along}
 use Rattle.vyrd_base.specs.Subjects.{are_args}
 use Rattle.vyrd_base.proofs.KeptLaws.{method_subject, method_args}
-use Rattle.vyrd_states.specs.Running.{IsKnown, LeadsTo, Run, state_past, called_by, run_by}
-use Rattle.vyrd_states.specs.Windows.{answer_after, answers_along}
 use Rattle.vyrd_states.proofs.RunLaws.{known_next, none_next}
 use Rattle.vyrd_states.proofs.WindowLaws.{answers_more, answers_end, answer_known}
 use Rattle.vyrd_states.proofs.windows.answers_to.Goals as goal

@@ -1,8 +1,5 @@
-use Rattle.std.proofs.Common.{◌≡◌, ◌-◌, ◌++◌, Some, None}
-use Rattle.vyrd_base.specs.Places.{numbers_from}
-use Rattle.vyrd_base.specs.Rules.{rules_by}
-use Rattle.vyrd_states.specs.Running.{IsKnown, called_by, run_by}
-use Rattle.vyrd_states.specs.Windows.{answer_after, answers_along}
+use Rattle.vyrd_states.proofs.Prelude.{◌≡◌, ◌-◌, ◌++◌, Some, None, numbers_from, rules_by, IsKnown}
+use Rattle.vyrd_states.proofs.Prelude.{called_by, run_by, answer_after, answers_along}
 use Rattle.vyrd_states.proofs.windows.answers_to.Given as goal
 
 abbrev pub invariant-loop-position : goal.invariant-loop-position

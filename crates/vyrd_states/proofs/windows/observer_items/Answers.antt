@@ -1,5 +1,4 @@
-use Rattle.std.proofs.Common.{◌∙◌, sym}
-use Rattle.vyrd_base.specs.Rules.{rules_by}
+use Rattle.vyrd_states.proofs.Prelude.{◌∙◌, sym, rules_by}
 use Rattle.vyrd_states.proofs.CallLaws.{execution_allowed}
 use Rattle.vyrd_states.proofs.WindowLaws.{call_low}
 use Rattle.vyrd_states.proofs.windows.observer_items.Goals as goal

@@ -1,7 +1,5 @@
-use Rattle.std.proofs.Common.{◌+◌, ◌-◌, ◌^◌, min, length, ap, sym, subst, ◌∙◌, arith}
-use Rattle.vyrd_table.specs.Growing.{HasRoom}
-use Rattle.vyrd_table.specs.Placed.{entries_of, names_of}
-use Rattle.vyrd_table.specs.Prices.{first_room}
+use Rattle.vyrd_table.proofs.Prelude.{◌+◌, ◌-◌, ◌^◌, min, length, ap, sym, subst, ◌∙◌, arith}
+use Rattle.vyrd_table.proofs.Prelude.{HasRoom, entries_of, names_of, first_room}
 use Rattle.vyrd_table.proofs.NameLaws.{keys_fewer}
 use Rattle.vyrd_table.proofs.PlaceLaws.{entries_formed}
 use Rattle.vyrd_table.proofs.GrowingLaws.{few_keys, grown_room, grown_cost}

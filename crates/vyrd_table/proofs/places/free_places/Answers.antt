@@ -1,5 +1,4 @@
-use Rattle.std.proofs.Common.{replicate, ◌∙◌}
-use Rattle.std.proofs.lemmas.Result.{IfOk-weaker}
+use Rattle.vyrd_table.proofs.Prelude.{replicate, ◌∙◌, IfOk-weaker}
 use Rattle.vyrd_table.proofs.places.free_places.Goals as goal
 
 pub returns-clause-free : goal.returns-clause-free

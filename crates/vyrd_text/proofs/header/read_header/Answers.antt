@@ -1,6 +1,4 @@
-use Rattle.std.proofs.Common.{ap, ◌∙◌, sym, ◌≡◌, true, false}
-use Rattle.std.specs.Prelude.{ok_or}
-use Rattle.vyrd_base.specs.declared.verdict.Rule.TheVariants.{UnknownVersion}
+use Rattle.vyrd_text.proofs.Prelude.{ap, ◌∙◌, sym, ◌≡◌, true, false, ok_or, UnknownVersion}
 use Rattle.vyrd_text.proofs.HeaderLaws.{header_known, header_unknown, made, not_made}
 use Rattle.vyrd_text.proofs.header.read_header.Goals as goal
 

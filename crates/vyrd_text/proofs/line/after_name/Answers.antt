@@ -1,5 +1,4 @@
-use Rattle.std.proofs.Common.{◌∷◌, ◌++◌, sym, ap, ◌∙◌}
-use Rattle.std.proofs.lemmas.List.{append_cancel_left}
+use Rattle.vyrd_text.proofs.Prelude.{◌∷◌, ◌++◌, sym, ap, ◌∙◌, append_cancel_left}
 use Rattle.vyrd_text.proofs.line.after_name.Goals as goal
 
 pub returns-in_err-rest-2 : goal.returns-in_err-rest-2

@@ -1,8 +1,7 @@
-use Rattle.std.proofs.Common.{inl, inr, ◌∷◌, ◌++◌, arith, ap, ◌∙◌, sym}
-use Rattle.std.specs.Prelude.{slice_get}
+use Rattle.vyrd_text.proofs.Prelude.{◌∷◌, ◌++◌, arith, ap, ◌∙◌, sym, slice_get, method_name}
+use Rattle.std.proofs.Common.{inl, inr}
 use Rattle.std.proofs.Math.Nat.{eq-or-lt_of_le}
 use Rattle.std.proofs.lemmas.Option.{get_or_from_slice_get, slice_get_within}
-use Rattle.vyrd_base.specs.Spelling.{method_name}
 use Rattle.vyrd_base.proofs.StructureLaws.{place_of, method_listed}
 use Rattle.vyrd_text.proofs.line.read_method.Goals as goal
 

@@ -1,7 +1,5 @@
-use Rattle.std.proofs.Common.{◌≡◌, ℕ, List, ◌∷◌, ◌++◌, ◌<◌, Some}
-use Rattle.std.specs.Prelude.{slice_get}
-use Rattle.vyrd_base.specs.declared.subject.Method.{Method}
-use Rattle.vyrd_base.specs.Spelling.{method_name}
+use Rattle.vyrd_text.proofs.Prelude.{◌≡◌, ℕ, List, ◌∷◌, ◌++◌, ◌<◌, Some, slice_get, Method}
+use Rattle.vyrd_text.proofs.Prelude.{method_name}
 use Rattle.vyrd_text.proofs.line.read_method.Given as goal
 
 -- none of the methods so far has its name there

@@ -1,5 +1,4 @@
-use Rattle.std.proofs.Common.{◌≡◌, ◌≤◌, take}
-use Rattle.std.specs.Prelude.{◌==◌, count_by}
+use Rattle.vyrd_text.proofs.Prelude.{◌≡◌, ◌≤◌, take, ◌==◌, count_by}
 use Rattle.vyrd_text.proofs.lines.count_few.Given as goal
 
 abbrev pub invariant-loop-at : goal.invariant-loop-at

@@ -1,5 +1,4 @@
-use Rattle.std.proofs.Common.{◌≡◌, ◌+◌, ◌≤◌, length}
-use Rattle.std.specs.Prelude.{◌==◌, count_by}
+use Rattle.vyrd_text.proofs.Prelude.{◌≡◌, ◌+◌, ◌≤◌, length, ◌==◌, count_by}
 use Rattle.vyrd_text.proofs.lines.count_line_feeds.Given as goal
 
 abbrev pub invariant-loop-rest : goal.invariant-loop-rest

@@ -1,6 +1,5 @@
-use Rattle.std.proofs.Common.{arith, get_or}
-use Rattle.std.proofs.lemmas.Str.Parse.{digit_from_value}
-use Rattle.std.proofs.lemmas.Int.Digits.{digits_more, digits_value_more}
+use Rattle.vyrd_text.proofs.Prelude.{arith, get_or, digit_from_value, digits_more}
+use Rattle.vyrd_text.proofs.Prelude.{digits_value_more}
 use Rattle.vyrd_text.proofs.NumberLaws.{bad_byte, too_large, digit_is}
 use Rattle.vyrd_text.proofs.number.digits.Goals as goal
 

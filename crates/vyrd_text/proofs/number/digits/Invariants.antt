@@ -1,5 +1,4 @@
-use Rattle.std.proofs.Common.{◌≡◌, take}
-use Rattle.std.specs.Str.Parse.{AllDigits, digits_value}
+use Rattle.vyrd_text.proofs.Prelude.{◌≡◌, take, AllDigits, digits_value}
 use Rattle.vyrd_text.proofs.number.digits.Given as goal
 
 abbrev pub invariant-loop-at : goal.invariant-loop-at

@@ -1,5 +1,4 @@
-use Rattle.std.proofs.Common.{arith, sym, ◌∙◌, ◌≡◌}
-use Rattle.std.proofs.lemmas.Fmt.{decimal_injective}
+use Rattle.vyrd_text.proofs.Prelude.{arith, sym, ◌∙◌, ◌≡◌, decimal_injective}
 use Rattle.vyrd_text.proofs.number.read_u32.Goals as goal
 
 pub returns-then-number-from : goal.returns-then-number-from

@@ -1,5 +1,4 @@
-use Rattle.std.proofs.Common.{arith, None, decimal, ap, sym, ◌∙◌, length}
-use Rattle.std.proofs.lemmas.List.{append-nil}
+use Rattle.vyrd_text.proofs.Prelude.{arith, None, decimal, ap, sym, ◌∙◌, length, append-nil}
 use Rattle.vyrd_text.proofs.NumberLaws.{one_number}
 use Rattle.vyrd_text.proofs.number.read_u64.Goals as goal
 

@@ -1,5 +1,4 @@
-use Rattle.std.proofs.Common.{arith, get_or}
-use Rattle.std.proofs.lemmas.Int.Digits.{digits_more, digits_value_more}
+use Rattle.vyrd_text.proofs.Prelude.{arith, get_or, digits_more, digits_value_more}
 use Rattle.vyrd_text.proofs.NumberLaws.{digit_is}
 use Rattle.vyrd_text.proofs.QuickLaws.{front_digit, front_digits}
 use Rattle.vyrd_text.proofs.quick.few_digits.Goals as goal

@@ -1,5 +1,4 @@
-use Rattle.std.proofs.Common.{◌≡◌, ◌-◌, ◌≤◌, length, take}
-use Rattle.std.specs.Str.Parse.{AllDigits, digits_value}
+use Rattle.vyrd_text.proofs.Prelude.{◌≡◌, ◌-◌, ◌≤◌, length, take, AllDigits, digits_value}
 use Rattle.vyrd_text.proofs.quick.few_digits.Given as goal
 
 abbrev pub invariant-loop-end : goal.invariant-loop-end

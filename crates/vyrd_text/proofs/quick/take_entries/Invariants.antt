@@ -1,5 +1,4 @@
-use Rattle.std.proofs.Common.{◌+◌, ◌-◌, ◌≤◌, vec_len}
-use Rattle.std.specs.Prelude.{◌==◌, count_by, vec_capacity}
+use Rattle.vyrd_text.proofs.Prelude.{◌+◌, ◌-◌, ◌≤◌, vec_len, ◌==◌, count_by, vec_capacity}
 use Rattle.vyrd_text.specs.Quick.{AreEntriesAtFront}
 use Rattle.vyrd_text.proofs.quick.take_entries.Given as goal
 

@@ -1,6 +1,4 @@
-use Rattle.std.proofs.Common.{ap, sym, ◌∙◌}
-use Rattle.vyrd_base.proofs.SplitLaws.{cut}
-use Rattle.vyrd_text.specs.Ahead.{front_starts, after_first}
+use Rattle.vyrd_text.proofs.Prelude.{ap, sym, ◌∙◌, cut, front_starts, after_first}
 use Rattle.vyrd_text.proofs.AheadLaws.{later_step, later_last}
 use Rattle.vyrd_text.proofs.start.count_later_starts.Goals as goal
 

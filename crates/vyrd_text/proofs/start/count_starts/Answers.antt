@@ -1,6 +1,5 @@
-use Rattle.std.proofs.Common.{◌+◌, ◌∷◌, length, cond, arith, ap, sym, ◌∙◌, length-append}
-use Rattle.vyrd_base.proofs.SplitLaws.{cut}
-use Rattle.vyrd_text.specs.Ahead.{front_starts}
+use Rattle.vyrd_text.proofs.Prelude.{◌+◌, ◌∷◌, length, cond, arith, ap, sym, ◌∙◌, length-append}
+use Rattle.vyrd_text.proofs.Prelude.{cut, front_starts}
 use Rattle.vyrd_text.proofs.AheadLaws.{front_step, front_last}
 use Rattle.vyrd_text.proofs.start.count_starts.Goals as goal
 

@@ -1,7 +1,4 @@
-use Rattle.std.proofs.Common.{◌≡◌, ◌≤◌, ◌+◌, length}
-use Rattle.std.specs.Prelude.{◌==◌}
-use Rattle.std.specs.List.{slice_split}
-use Rattle.vyrd_text.specs.Ahead.{front_starts}
+use Rattle.vyrd_text.proofs.Prelude.{◌≡◌, ◌≤◌, ◌+◌, length, ◌==◌, slice_split, front_starts}
 use Rattle.vyrd_text.proofs.start.count_starts.Given as goal
 
 abbrev pub invariant-loop-line : goal.invariant-loop-line

@@ -1,6 +1,4 @@
-use Rattle.std.proofs.Common.{◌≡◌, ◌++◌, take}
-use Rattle.std.specs.Prelude.{flat_map}
-use Rattle.vyrd_base.specs.Spelling.{entry_line, ended_line}
+use Rattle.vyrd_text.proofs.Prelude.{◌≡◌, ◌++◌, take, flat_map, entry_line, ended_line}
 use Rattle.vyrd_text.proofs.writer.append_entries.Given as goal
 
 abbrev pub invariant-loop-entry : goal.invariant-loop-entry

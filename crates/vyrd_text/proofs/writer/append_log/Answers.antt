@@ -1,7 +1,6 @@
-use Rattle.std.proofs.Common.{codes, ◌++◌, ◌∙◌, append_assoc, ap}
-use Rattle.std.specs.Prelude.{flat_map}
+use Rattle.vyrd_text.proofs.Prelude.{codes, ◌++◌, ◌∙◌, append_assoc, ap, flat_map, ended_line}
+use Rattle.vyrd_text.proofs.Prelude.{start_line, header_line}
 use Rattle.std.proofs.lemmas.Result.{err_from_is_err_and}
-use Rattle.vyrd_base.specs.Spelling.{ended_line, start_line, header_line}
 use Rattle.vyrd_text.proofs.WrittenLaws.{front_of_front, appended, whole_log}
 use Rattle.vyrd_text.proofs.writer.append_log.Goals as goal
 

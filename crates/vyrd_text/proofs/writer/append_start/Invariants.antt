@@ -1,6 +1,4 @@
-use Rattle.std.proofs.Common.{◌≡◌, ◌++◌, take}
-use Rattle.std.specs.Prelude.{flat_map}
-use Rattle.vyrd_base.specs.Spelling.{start_line, ended_line}
+use Rattle.vyrd_text.proofs.Prelude.{◌≡◌, ◌++◌, take, flat_map, start_line, ended_line}
 use Rattle.vyrd_text.proofs.writer.append_start.Given as goal
 
 abbrev pub invariant-loop-word : goal.invariant-loop-word

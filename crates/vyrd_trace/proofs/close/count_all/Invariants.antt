@@ -1,6 +1,4 @@
-use Rattle.std.proofs.Common.{◌≡◌, ◌≤◌, ◌*◌, length, take}
-use Rattle.std.specs.List.{sum_by}
-use Rattle.vyrd_trace.specs.Hands.{HandView, most_events}
+use Rattle.vyrd_trace.proofs.Prelude.{◌≡◌, ◌≤◌, ◌*◌, length, take, sum_by, HandView, most_events}
 use Rattle.vyrd_trace.proofs.close.count_all.Given as goal
 
 abbrev pub invariant-loop-hand : goal.invariant-loop-hand

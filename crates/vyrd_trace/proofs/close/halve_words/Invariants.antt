@@ -1,6 +1,5 @@
-use Rattle.std.proofs.Common.{◌≡◌, ◌<◌, ◌+◌, ◌/◌, ℕ, vec_len, vec_capacity}
-use Rattle.std.specs.Prelude.{slice_index}
-use Rattle.std.specs.Slots.{slots_items}
+use Rattle.vyrd_trace.proofs.Prelude.{◌≡◌, ◌<◌, ◌+◌, ◌/◌, ℕ, vec_len, vec_capacity, slice_index}
+use Rattle.vyrd_trace.proofs.Prelude.{slots_items}
 use Rattle.vyrd_trace.proofs.close.halve_words.Given as goal
 
 abbrev pub invariant-loop-k : goal.invariant-loop-k

@@ -1,8 +1,5 @@
-use Rattle.std.proofs.Common.{◌≡◌, ◌<◌, length, sym, ap, ◌∙◌, arith}
-use Rattle.std.specs.Prelude.{drop}
-use Rattle.std.proofs.lemmas.List.{length-map}
-use Rattle.vyrd_trace.specs.Hands.{HandView}
-use Rattle.vyrd_trace.specs.Closing.{lanes_of}
+use Rattle.vyrd_trace.proofs.Prelude.{◌≡◌, ◌<◌, length, sym, ap, ◌∙◌, arith, drop, length-map}
+use Rattle.vyrd_trace.proofs.Prelude.{HandView, lanes_of}
 use Rattle.vyrd_trace.proofs.Merges.{lane_at_item, lane_in_place, merge_step, merged}
 use Rattle.vyrd_trace.proofs.merge.merge.Goals as goal
 

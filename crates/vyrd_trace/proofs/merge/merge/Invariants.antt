@@ -1,7 +1,5 @@
-use Rattle.std.proofs.Common.{◌≡◌, ℕ, ◌<◌, List, length, Some}
-use Rattle.std.specs.Prelude.{slice_get}
-use Rattle.vyrd_base.specs.declared.history.Stamped.{Stamped}
-use Rattle.vyrd_trace.specs.Closing.{IsMerge, lanes_of}
+use Rattle.vyrd_trace.proofs.Prelude.{◌≡◌, ℕ, ◌<◌, List, length, Some, slice_get, Stamped, IsMerge}
+use Rattle.vyrd_trace.proofs.Prelude.{lanes_of}
 use Rattle.vyrd_trace.proofs.merge.merge.Given as goal
 
 abbrev pub invariant-loop-hand : goal.invariant-loop-hand

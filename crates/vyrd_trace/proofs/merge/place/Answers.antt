@@ -1,11 +1,8 @@
-use Rattle.std.proofs.Common.{◌≡◌, ◌+◌, List, take, sym, ap, ◌∙◌, subst, arith}
-use Rattle.std.specs.Prelude.{slice_get}
-use Rattle.std.specs.List.{All}
-use Rattle.vyrd_base.specs.declared.history.Did.TheVariants.{Read}
-use Rattle.vyrd_base.specs.declared.history.Stamped.{Stamped}
+use Rattle.vyrd_trace.proofs.Prelude.{◌≡◌, ◌+◌, List, take, sym, ap, ◌∙◌, subst, arith, slice_get}
+use Rattle.vyrd_trace.proofs.Prelude.{All, Read, Stamped}
 use Rattle.vyrd_trace.proofs.Merges.{IsInPlace, write_keeps, write_places, has_place, all_placed}
-use Rattle.vyrd_trace.proofs.merge.place.Goals.{then-number-history, else-number-history}
 use Rattle.vyrd_trace.proofs.merge.place.Goals as goal
+use Rattle.vyrd_trace.proofs.merge.place.Goals.{then-number-history, else-number-history}
 
 pub loop-event-preserved : goal.loop-event-preserved
 loop-event-preserved c =

@@ -1,7 +1,4 @@
-use Rattle.std.proofs.Common.{◌≡◌, ℕ, List, length, take, Some}
-use Rattle.std.specs.Prelude.{slice_get}
-use Rattle.std.specs.List.{All}
-use Rattle.vyrd_base.specs.declared.history.Stamped.{Stamped}
+use Rattle.vyrd_trace.proofs.Prelude.{◌≡◌, ℕ, List, length, take, Some, slice_get, All, Stamped}
 use Rattle.vyrd_trace.proofs.merge.place.Given as goal
 
 abbrev pub invariant-loop-event : goal.invariant-loop-event

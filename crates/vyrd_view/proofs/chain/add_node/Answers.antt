@@ -1,10 +1,6 @@
-use Rattle.std.proofs.Common.{arith, ap, ◌∙◌}
-use Rattle.std.specs.Prelude.{flat_map}
-use Rattle.vyrd_base.specs.Places.{numbers_below}
-use Rattle.vyrd_base.specs.Amounts.{amount_of}
-use Rattle.vyrd_base.specs.Added.{added}
+use Rattle.vyrd_view.proofs.Prelude.{arith, ap, ◌∙◌, flat_map, numbers_below, amount_of, added}
 use Rattle.vyrd_base.proofs.AddedLaws.{added-push, amount_of-added}
-use Rattle.vyrd_base.proofs.PartLaws.{place_parts, places_at_most, node_parts-places, place_is}
+use Rattle.vyrd_base.proofs.PartLaws.{places_at_most, place_is, place_parts, node_parts-places}
 use Rattle.vyrd_view.proofs.chain.add_node.Goals as goal
 
 pub add_entry-requires : goal.add_entry-requires

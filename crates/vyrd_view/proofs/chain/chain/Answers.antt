@@ -1,8 +1,6 @@
-use Rattle.std.proofs.Common.{◌≡◌, ℕ, List, Bool, true, false, get_or, length-set, arith, rules, ap}
-use Rattle.std.proofs.Common.{◌∙◌, ◌-◌, ◌+◌, set, sym}
-use Rattle.vyrd_base.specs.Amounts.{amount_of}
-use Rattle.vyrd_base.specs.Tree.{right_of}
-use Rattle.vyrd_base.proofs.PartLaws.{node_grows}
+use Rattle.vyrd_view.proofs.Prelude.{◌≡◌, ℕ, List, Bool, true, false, get_or, length-set, arith}
+use Rattle.vyrd_view.proofs.Prelude.{rules, ap, ◌∙◌, ◌-◌, ◌+◌, set, sym, amount_of, right_of}
+use Rattle.vyrd_view.proofs.Prelude.{node_grows}
 use Rattle.vyrd_view.proofs.ChainLaws.{walk_begins, walk_left, walk_ends, walk_breaks, walk_goes_on}
 use Rattle.vyrd_view.proofs.ChainLaws.{unseen_within}
 use Rattle.vyrd_view.proofs.chain.chain.Goals as goal

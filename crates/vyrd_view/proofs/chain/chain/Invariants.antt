@@ -1,5 +1,4 @@
-use Rattle.std.proofs.Common.{◌≡◌, ℕ, ◌-◌, ◌*◌, ◌^◌, ◌<◌, ◌≤◌, length}
-use Rattle.vyrd_base.specs.Amounts.{amount_of}
+use Rattle.vyrd_view.proofs.Prelude.{◌≡◌, ℕ, ◌-◌, ◌*◌, ◌^◌, ◌<◌, ◌≤◌, length, amount_of}
 use Rattle.vyrd_view.proofs.ChainLaws.{Walk}
 use Rattle.vyrd_view.proofs.chain.chain.Given as goal
 

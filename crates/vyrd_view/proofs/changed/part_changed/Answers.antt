@@ -1,8 +1,6 @@
-use Rattle.std.proofs.Common.{◌≡◌, ℕ, ◌+◌, ◌*◌, ◌<◌, List, length, get_or}
-use Rattle.std.proofs.Common.{set, length-set, ap, ◌∙◌, arith}
-use Rattle.vyrd_view.specs.Decoded.{pair_at}
-use Rattle.vyrd_view.proofs.DecodedLaws.{place_inside}
-use Rattle.vyrd_view.proofs.DecodedLaws.{place_outside}
+use Rattle.vyrd_view.proofs.Prelude.{◌≡◌, ℕ, ◌+◌, ◌*◌, ◌<◌, List, length, get_or, set, length-set}
+use Rattle.vyrd_view.proofs.Prelude.{ap, ◌∙◌, arith, pair_at}
+use Rattle.vyrd_view.proofs.DecodedLaws.{place_inside, place_outside}
 use Rattle.vyrd_view.proofs.changed.part_changed.Goals as goal
 
 pub loop-place-preserved : goal.loop-place-preserved

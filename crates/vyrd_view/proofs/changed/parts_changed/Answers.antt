@@ -1,5 +1,4 @@
-use Rattle.std.proofs.Common.{◌≡◌, ℕ, ◌/◌, get_or, ◌∙◌, arith}
-use Rattle.vyrd_view.specs.Decoded.{pair_at}
+use Rattle.vyrd_view.proofs.Prelude.{◌≡◌, ℕ, ◌/◌, get_or, ◌∙◌, arith, pair_at}
 use Rattle.vyrd_view.proofs.DecodedLaws.{part_places, part_within, part_of_within}
 use Rattle.vyrd_view.proofs.PairLaws.{all_kept}
 use Rattle.vyrd_view.proofs.PlacedLaws.{parts_fresh_more, untouched_end, mapped}

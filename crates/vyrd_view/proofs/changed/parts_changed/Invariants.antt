@@ -1,6 +1,5 @@
-use Rattle.std.proofs.Common.{◌≡◌, ℕ, ◌+◌, ◌*◌, ◌/◌, ◌<◌, ◌≤◌, false, length, drop, get_or}
-use Rattle.vyrd_view.specs.Decoded.{pair_at}
-use Rattle.vyrd_view.specs.Pairs.{is_touched}
+use Rattle.vyrd_view.proofs.Prelude.{◌≡◌, ℕ, ◌+◌, ◌*◌, ◌/◌, ◌<◌, ◌≤◌, false, length, drop, get_or}
+use Rattle.vyrd_view.proofs.Prelude.{pair_at, is_touched}
 use Rattle.vyrd_view.proofs.changed.parts_changed.Given as goal
 
 abbrev pub invariant-loop-word : goal.invariant-loop-word

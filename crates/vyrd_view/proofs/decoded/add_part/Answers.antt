@@ -1,10 +1,6 @@
-use Rattle.std.proofs.Common.{◌≡◌, ℕ, ◌+◌, ◌*◌, ◌^◌, ◌<◌, map, get_or, ap, ◌∙◌, arith}
-use Rattle.vyrd_base.specs.Places.{numbers_below}
-use Rattle.vyrd_base.specs.Amounts.{amount_of, given}
-use Rattle.vyrd_base.proofs.SumLaws.{amount_of-collected}
-use Rattle.vyrd_view.specs.Decoded.{pair_at}
-use Rattle.vyrd_view.proofs.DecodedLaws.{place_within, place_fits, sums_more}
-use Rattle.vyrd_view.proofs.DecodedLaws.{sums_same}
+use Rattle.vyrd_view.proofs.Prelude.{◌≡◌, ℕ, ◌+◌, ◌*◌, ◌^◌, ◌<◌, map, get_or, ap, ◌∙◌, arith}
+use Rattle.vyrd_view.proofs.Prelude.{numbers_below, amount_of, given, amount_of-collected, pair_at}
+use Rattle.vyrd_view.proofs.DecodedLaws.{place_within, place_fits, sums_more, sums_same}
 use Rattle.vyrd_view.proofs.decoded.add_part.Goals as goal
 use Rattle.vyrd_view.proofs.decoded.add_part.Goals.{then-pair-ne0+in_ok-add, else-pair-ne0}
 

@@ -1,7 +1,4 @@
-use Rattle.std.proofs.Common.{◌≡◌, ◌+◌, ◌*◌, map}
-use Rattle.vyrd_base.specs.Places.{numbers_below}
-use Rattle.vyrd_base.specs.Amounts.{collected}
-use Rattle.vyrd_view.specs.Decoded.{pair_at}
+use Rattle.vyrd_view.proofs.Prelude.{◌≡◌, ◌+◌, ◌*◌, map, numbers_below, collected, pair_at}
 use Rattle.vyrd_view.proofs.decoded.add_part.Given as goal
 
 abbrev pub invariant-loop-place : goal.invariant-loop-place

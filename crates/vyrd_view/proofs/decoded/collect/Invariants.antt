@@ -1,6 +1,4 @@
-use Rattle.std.proofs.Common.{◌≡◌}
-use Rattle.vyrd_base.specs.Amounts.{collected}
-use Rattle.vyrd_view.specs.Decoded.{pairs_by}
+use Rattle.vyrd_view.proofs.Prelude.{◌≡◌, collected, pairs_by}
 use Rattle.vyrd_view.proofs.decoded.collect.Given as goal
 
 abbrev pub invariant-loop-part : goal.invariant-loop-part

@@ -1,6 +1,4 @@
-use Rattle.std.proofs.Common.{◌≡◌, ap, sym, ◌∙◌, length, Some, false}
-use Rattle.std.specs.Prelude.{◌==◌, ◌&&◌}
-use Rattle.std.specs.Option.{option_or}
+use Rattle.vyrd_view.proofs.Prelude.{◌≡◌, ap, sym, ◌∙◌, length, Some, false, ◌==◌, ◌&&◌, option_or}
 use Rattle.std.proofs.lemmas.Slice.Zip.{zip_turn, zip_end}
 use Rattle.vyrd_view.proofs.ApartLaws.{first_apart_of, apart_here, apart_end, keys_apart}
 use Rattle.vyrd_view.proofs.ApartLaws.{amounts_apart}

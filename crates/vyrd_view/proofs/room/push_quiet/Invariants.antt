@@ -1,5 +1,4 @@
-use Rattle.std.proofs.Common.{◌≡◌, ◌++◌, false, map, replicate}
-use Rattle.vyrd_base.specs.Places.{numbers_below}
+use Rattle.vyrd_view.proofs.Prelude.{◌≡◌, ◌++◌, false, map, replicate, numbers_below}
 use Rattle.vyrd_view.proofs.room.push_quiet.Given as goal
 
 abbrev pub invariant-loop-place : goal.invariant-loop-place

@@ -1,9 +1,6 @@
-use Rattle.std.proofs.Common.{◌≡◌, ℕ, ◌+◌, ◌*◌, ◌/◌, ◌<◌, ◌≤◌, true, false, ◌∷◌, List}
-use Rattle.std.proofs.Common.{length, drop, get_or, ap, sym, ◌∙◌, subst, arith}
-use Rattle.std.proofs.Math.Bool.{and-false}
-use Rattle.std.proofs.lemmas.List.{drop_all}
-use Rattle.vyrd_view.specs.Chains.{is_stale}
-use Rattle.vyrd_view.specs.Comparing.{differing}
+use Rattle.vyrd_view.proofs.Prelude.{◌≡◌, ℕ, ◌+◌, ◌*◌, ◌/◌, ◌<◌, ◌≤◌, true, false, ◌∷◌, List}
+use Rattle.vyrd_view.proofs.Prelude.{length, drop, get_or, ap, sym, ◌∙◌, subst, arith, and-false}
+use Rattle.vyrd_view.proofs.Prelude.{drop_all, is_stale, differing}
 use Rattle.vyrd_view.proofs.DifferingLaws.{one_differs, one_stays}
 use Rattle.vyrd_view.proofs.NodeLaws.{AreNodesFresh, fresh_unmarked, fresh_marked, marked_within}
 use Rattle.vyrd_view.proofs.tree.entries_changed.Goals as goal

@@ -1,6 +1,5 @@
-use Rattle.std.proofs.Common.{◌≡◌, ℕ, ◌+◌, ◌*◌, ◌/◌, ◌<◌, ◌≤◌, false, length, drop, get_or}
-use Rattle.vyrd_view.specs.Chains.{node_pair, is_stale}
-use Rattle.vyrd_view.specs.Comparing.{differing}
+use Rattle.vyrd_view.proofs.Prelude.{◌≡◌, ℕ, ◌+◌, ◌*◌, ◌/◌, ◌<◌, ◌≤◌, false, length, drop, get_or}
+use Rattle.vyrd_view.proofs.Prelude.{node_pair, is_stale, differing}
 use Rattle.vyrd_view.proofs.tree.entries_changed.Given as goal
 
 abbrev pub invariant-loop-word : goal.invariant-loop-word

@@ -1,6 +1,4 @@
-use Rattle.std.proofs.Common.{◌≡◌, drop}
-use Rattle.vyrd_view.specs.Chains.{has_link}
-use Rattle.vyrd_view.specs.Comparing.{differing}
+use Rattle.vyrd_view.proofs.Prelude.{◌≡◌, drop, has_link, differing}
 use Rattle.vyrd_view.proofs.tree.has_turned.Given as goal
 
 abbrev pub invariant-loop-word : goal.invariant-loop-word

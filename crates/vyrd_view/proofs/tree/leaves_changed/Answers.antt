@@ -1,10 +1,7 @@
-use Rattle.std.proofs.Common.{◌≡◌, ℕ, ◌+◌, ◌*◌, ◌<◌, false, List, length, length-set, set, ap, sym}
-use Rattle.std.proofs.Common.{◌∙◌, subst, arith, get_or-set_same, get_or-set_other}
-use Rattle.std.proofs.lemmas.Result.{on_ok_weaker}
-use Rattle.vyrd_view.specs.Kept.{ComparedKept}
-use Rattle.vyrd_view.specs.Chained.{IsWalked}
-use Rattle.vyrd_view.specs.Chains.{end_pair, has_link, is_on_chain, is_broken}
-use Rattle.vyrd_view.specs.Comparing.{differing}
+use Rattle.vyrd_view.proofs.Prelude.{◌≡◌, ℕ, ◌+◌, ◌*◌, ◌<◌, false, List, length, length-set, set}
+use Rattle.vyrd_view.proofs.Prelude.{ap, sym, ◌∙◌, subst, arith, get_or-set_same, get_or-set_other}
+use Rattle.vyrd_view.proofs.Prelude.{on_ok_weaker, ComparedKept, IsWalked, end_pair, has_link}
+use Rattle.vyrd_view.proofs.Prelude.{is_on_chain, is_broken, differing}
 use Rattle.vyrd_view.proofs.DifferingLaws.{agree_elsewhere}
 use Rattle.vyrd_view.proofs.ReadyLaws.{tree_count, tree_others, tree_marks, tree_end, walked_now}
 use Rattle.vyrd_view.proofs.tree.leaves_changed.Goals as goal

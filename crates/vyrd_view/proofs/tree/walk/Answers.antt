@@ -1,6 +1,5 @@
-use Rattle.std.proofs.Common.{◌≡◌, ◌+◌, ◌-◌, true, false, length, length-set, get_or, set, subst}
-use Rattle.std.proofs.Common.{sym, ◌∙◌, arith}
-use Rattle.vyrd_base.specs.Tree.{right_of}
+use Rattle.vyrd_view.proofs.Prelude.{◌≡◌, ◌+◌, ◌-◌, true, false, length, length-set, get_or, set}
+use Rattle.vyrd_view.proofs.Prelude.{subst, sym, ◌∙◌, arith, right_of}
 use Rattle.vyrd_view.proofs.ChainLaws.{unseen_within}
 use Rattle.vyrd_view.proofs.WalkLaws.{Walks, walks_begin, walks_left, walk_over, unbroken_over}
 use Rattle.vyrd_view.proofs.WalkLaws.{walk_stops, unbroken_stops, walk_breaks_off, broken_off}

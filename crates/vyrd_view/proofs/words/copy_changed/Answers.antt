@@ -1,7 +1,4 @@
-use Rattle.std.proofs.Common.{ap, sym, arith}
-use Rattle.std.specs.Prelude.{◌==◌}
-use Rattle.std.specs.List.{list_any}
-use Rattle.std.proofs.lemmas.List.{ext_get_or, drop_all}
+use Rattle.vyrd_view.proofs.Prelude.{ap, sym, arith, ◌==◌, list_any, ext_get_or, drop_all}
 use Rattle.vyrd_view.proofs.words.copy_changed.Goals as goal
 
 pub returns : goal.returns

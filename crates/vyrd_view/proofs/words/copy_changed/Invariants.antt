@@ -1,6 +1,4 @@
-use Rattle.std.proofs.Common.{◌≡◌, ℕ, false, length, drop, get_or}
-use Rattle.std.specs.Prelude.{◌==◌}
-use Rattle.std.specs.List.{list_any}
+use Rattle.vyrd_view.proofs.Prelude.{◌≡◌, ℕ, false, length, drop, get_or, ◌==◌, list_any}
 use Rattle.vyrd_view.proofs.words.copy_changed.Given as goal
 
 abbrev pub invariant-loop-word : goal.invariant-loop-word

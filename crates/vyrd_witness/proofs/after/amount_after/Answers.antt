@@ -1,7 +1,4 @@
-use Rattle.std.proofs.Common.{◌≡◌, ◌+◌, arith}
-use Rattle.vyrd_base.specs.Rules.{rules_of}
-use Rattle.vyrd_base.proofs.HeaderLaws.{size_in_32_bits}
-use Rattle.vyrd_witness.specs.Changes.{amount_shown}
+use Rattle.vyrd_witness.proofs.Prelude.{◌≡◌, ◌+◌, arith, rules_of, size_in_32_bits, amount_shown}
 use Rattle.vyrd_witness.proofs.PartLaws.{slot_at_most, slot_turned, few_shown}
 use Rattle.vyrd_witness.proofs.after.amount_after.Goals as goal
 

@@ -1,5 +1,4 @@
-use Rattle.std.proofs.Common.{◌≡◌, drop, vec_len}
-use Rattle.vyrd_witness.specs.Changes.{words_through}
+use Rattle.vyrd_witness.proofs.Prelude.{◌≡◌, drop, vec_len, words_through}
 use Rattle.vyrd_witness.proofs.change.apply.Given as goal
 
 abbrev pub invariant-loop-effect : goal.invariant-loop-effect

@@ -1,6 +1,5 @@
-use Rattle.std.proofs.Common.{◌≡◌, ◌++◌, drop, vec_len}
-use Rattle.vyrd_base.specs.Rules.{rules_by}
-use Rattle.vyrd_witness.specs.Changes.{amount_shown, changes_in, words_through}
+use Rattle.vyrd_witness.proofs.Prelude.{◌≡◌, ◌++◌, drop, vec_len, rules_by, amount_shown}
+use Rattle.vyrd_witness.proofs.Prelude.{changes_in, words_through}
 use Rattle.vyrd_witness.proofs.change.push_changes.Given as goal
 
 abbrev pub invariant-loop-effect : goal.invariant-loop-effect

@@ -1,5 +1,4 @@
-use Rattle.std.proofs.Common.{ap, ◌∙◌, ◌∷◌, ◌++◌, [], arith}
-use Rattle.std.proofs.lemmas.Option.{slice_get_within}
+use Rattle.vyrd_witness.proofs.Prelude.{ap, ◌∙◌, ◌∷◌, ◌++◌, [], arith, slice_get_within}
 use Rattle.std.proofs.lemmas.Result.{IfOk-weaker}
 use Rattle.vyrd_witness.proofs.EffectKinds.{is_phase, write_inside, write_outside, commit_inside}
 use Rattle.vyrd_witness.proofs.EffectKinds.{commit_outside, end_committed, end_alone}

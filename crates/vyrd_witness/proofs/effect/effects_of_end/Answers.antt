@@ -1,6 +1,4 @@
-use Rattle.std.proofs.Common.{ap, sym, ◌∙◌, map, reverse}
-use Rattle.vyrd_base.specs.Words.{block_writes}
-use Rattle.vyrd_witness.specs.Effects.{effect_of}
+use Rattle.vyrd_witness.proofs.Prelude.{ap, sym, ◌∙◌, map, reverse, block_writes, effect_of}
 use Rattle.vyrd_witness.proofs.NumberedLaws.{behind, turned_is, map-newest_first}
 use Rattle.vyrd_witness.proofs.effect.effects_of_end.Goals as goal
 

@@ -1,5 +1,4 @@
-use Rattle.std.proofs.Common.{◌≡◌, ◌++◌, map, take}
-use Rattle.vyrd_witness.specs.declared.item.Item.TheVariants.{Changed}
+use Rattle.vyrd_witness.proofs.Prelude.{◌≡◌, ◌++◌, map, take, Changed}
 use Rattle.vyrd_witness.proofs.items.push_changes.Given as goal
 
 abbrev pub invariant-loop-change : goal.invariant-loop-change

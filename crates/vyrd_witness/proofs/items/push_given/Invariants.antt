@@ -1,5 +1,4 @@
-use Rattle.std.proofs.Common.{◌≡◌, ◌++◌, take}
-use Rattle.vyrd_witness.specs.Given.{given_items}
+use Rattle.vyrd_witness.proofs.Prelude.{◌≡◌, ◌++◌, take, given_items}
 use Rattle.vyrd_witness.proofs.items.push_given.Given as goal
 
 abbrev pub invariant-loop-given : goal.invariant-loop-given

@@ -1,7 +1,5 @@
-use Rattle.std.proofs.Common.{ap, ◌∙◌, ◌++◌, ◌∷◌, [], map}
-use Rattle.std.specs.Option.{option_map_or}
+use Rattle.vyrd_witness.proofs.Prelude.{ap, ◌∙◌, ◌++◌, ◌∷◌, [], map, option_map_or, given_items}
 use Rattle.vyrd_witness.specs.declared.item.Item.TheVariants.{Shown, Changed}
-use Rattle.vyrd_witness.specs.Given.{given_items}
 use Rattle.vyrd_witness.specs.Items.{agreed_item, witness_items, execution_items, execution_at}
 use Rattle.vyrd_witness.proofs.items.view_items.Goals as goal
 

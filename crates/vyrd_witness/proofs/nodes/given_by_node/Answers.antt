@@ -1,7 +1,5 @@
-use Rattle.std.proofs.Common.{ap, ◌∙◌, arith}
-use Rattle.vyrd_base.specs.Amounts.{given}
-use Rattle.vyrd_base.proofs.PartLaws.{place_parts, place_is, node_parts-places}
-use Rattle.vyrd_view.specs.Laws.Sums.{given_flat_push}
+use Rattle.vyrd_witness.proofs.Prelude.{ap, ◌∙◌, arith, given, given_flat_push}
+use Rattle.vyrd_base.proofs.PartLaws.{place_is, place_parts, node_parts-places}
 use Rattle.vyrd_witness.proofs.nodes.given_by_node.Goals as goal
 
 pub loop-j-preserved : goal.loop-j-preserved

@@ -1,8 +1,5 @@
-use Rattle.std.proofs.Common.{◌≡◌, ◌≤◌, ◌*◌, ◌^◌}
-use Rattle.std.specs.Prelude.{flat_map}
-use Rattle.vyrd_base.specs.Amounts.{given}
-use Rattle.vyrd_base.specs.Places.{numbers_below}
-use Rattle.vyrd_base.proofs.PartLaws.{place_parts}
+use Rattle.vyrd_witness.proofs.Prelude.{◌≡◌, ◌≤◌, ◌*◌, ◌^◌, flat_map, given, numbers_below}
+use Rattle.vyrd_witness.proofs.Prelude.{place_parts}
 use Rattle.vyrd_witness.proofs.nodes.given_by_node.Given as goal
 
 abbrev pub invariant-loop-j : goal.invariant-loop-j

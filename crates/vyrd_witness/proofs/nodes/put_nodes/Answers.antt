@@ -1,9 +1,7 @@
-use Rattle.std.proofs.Common.{◌≡◌, ◌-◌, ◌+◌, ◌||◌, ℕ, List, Bool, true, false, get_or, set}
-use Rattle.std.proofs.Common.{length-set, refl, ap, ◌∙◌, sym, arith}
-use Rattle.std.specs.Prelude.{◌==◌}
+use Rattle.vyrd_witness.proofs.Prelude.{◌≡◌, ◌-◌, ◌+◌, ◌||◌, ℕ, List, Bool, true, false, get_or}
+use Rattle.vyrd_witness.proofs.Prelude.{set, length-set, refl, ap, ◌∙◌, sym, arith, ◌==◌, right_of}
+use Rattle.vyrd_witness.proofs.Prelude.{is_same, isnt_same}
 use Rattle.std.proofs.Math.Bool.{or-true}
-use Rattle.vyrd_base.specs.Tree.{right_of}
-use Rattle.vyrd_base.proofs.TestLaws.{is_same, isnt_same}
 use Rattle.vyrd_view.proofs.ChainLaws.{unseen_within}
 use Rattle.vyrd_witness.proofs.NodeLaws.{walk_left, walk_stops, walk_on}
 use Rattle.vyrd_witness.proofs.nodes.put_nodes.Goals as goal

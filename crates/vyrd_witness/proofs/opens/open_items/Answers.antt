@@ -1,6 +1,4 @@
-use Rattle.std.proofs.Common.{[]}
-use Rattle.vyrd_base.specs.Places.{newest_first}
-use Rattle.vyrd_witness.specs.Opens.{open_items_of}
+use Rattle.vyrd_witness.proofs.Prelude.{[], newest_first, open_items_of}
 use Rattle.vyrd_witness.proofs.BelowLaws.{below_next}
 use Rattle.vyrd_witness.proofs.opens.open_items.Goals as goal
 

@@ -1,7 +1,5 @@
-use Rattle.std.proofs.Common.{◌≡◌}
+use Rattle.vyrd_witness.proofs.Prelude.{◌≡◌, newest_first, numbers_below, open_items_of}
 use Rattle.std.specs.List.{flat_map}
-use Rattle.vyrd_base.specs.Places.{newest_first, numbers_below}
-use Rattle.vyrd_witness.specs.Opens.{open_items_of}
 use Rattle.vyrd_witness.proofs.opens.open_items.Given as goal
 
 abbrev pub invariant-loop-caller : goal.invariant-loop-caller

@@ -1,6 +1,4 @@
-use Rattle.std.proofs.Common.{◌≡◌, take}
-use Rattle.vyrd_base.specs.Places.{newest_first}
-use Rattle.vyrd_witness.specs.Opens.{opened_in}
+use Rattle.vyrd_witness.proofs.Prelude.{◌≡◌, take, newest_first, opened_in}
 use Rattle.vyrd_witness.proofs.opens.opened_in.Given as goal
 
 abbrev pub invariant-loop-at : goal.invariant-loop-at

@@ -1,7 +1,5 @@
-use Rattle.std.proofs.Common.{ap, ◌∙◌, ◌++◌, sym, arith}
-use Rattle.std.proofs.lemmas.List.{append-nil}
-use Rattle.vyrd_base.specs.Buffers.{buffer_at, buffer_parts}
-use Rattle.vyrd_witness.specs.Given.{told}
+use Rattle.vyrd_witness.proofs.Prelude.{ap, ◌∙◌, ◌++◌, sym, arith, append-nil, buffer_at}
+use Rattle.vyrd_witness.proofs.Prelude.{buffer_parts, told}
 use Rattle.vyrd_witness.proofs.GivenLaws.{at_home, no_home, buffer_elsewhere}
 use Rattle.vyrd_witness.proofs.parts.put_buffer.Goals as goal
 

@@ -1,7 +1,5 @@
-use Rattle.std.proofs.Common.{ap, ◌∙◌, ◌++◌, sym, arith}
-use Rattle.std.proofs.lemmas.List.{append-nil}
-use Rattle.vyrd_base.specs.Cache.{chunk_at, chunk_parts}
-use Rattle.vyrd_witness.specs.Given.{told}
+use Rattle.vyrd_witness.proofs.Prelude.{ap, ◌∙◌, ◌++◌, sym, arith, append-nil, chunk_at}
+use Rattle.vyrd_witness.proofs.Prelude.{chunk_parts, told}
 use Rattle.vyrd_witness.proofs.GivenLaws.{at_home, no_home, chunk_elsewhere}
 use Rattle.vyrd_witness.proofs.parts.put_chunk.Goals as goal
 

@@ -1,7 +1,4 @@
-use Rattle.std.proofs.Common.{◌≡◌, ◌*◌, ap, arith}
-use Rattle.vyrd_base.specs.Amounts.{given}
-use Rattle.vyrd_base.specs.Multiset.{slot_parts}
-use Rattle.vyrd_witness.specs.Given.{told}
+use Rattle.vyrd_witness.proofs.Prelude.{◌≡◌, ◌*◌, ap, arith, given, slot_parts, told}
 use Rattle.vyrd_witness.proofs.GivenLaws.{given_numbered, one_more}
 use Rattle.vyrd_witness.proofs.parts.put_slots.Goals as goal
 

@@ -1,9 +1,4 @@
-use Rattle.std.proofs.Common.{◌≡◌, ◌++◌}
-use Rattle.std.specs.Prelude.{flat_map}
-use Rattle.vyrd_base.specs.Amounts.{given}
-use Rattle.vyrd_base.specs.Multiset.{slot_parts}
-use Rattle.vyrd_base.specs.Places.{numbers_below}
-use Rattle.vyrd_witness.specs.Given.{told}
+use Rattle.vyrd_witness.proofs.Prelude.{◌≡◌, ◌++◌, flat_map, given, slot_parts, numbers_below, told}
 use Rattle.vyrd_witness.proofs.parts.put_slots.Given as goal
 
 abbrev pub invariant-loop-slot : goal.invariant-loop-slot

@@ -1,5 +1,4 @@
-use Rattle.std.proofs.Common.{◌≡◌, ◌+◌, drop}
-use Rattle.std.specs.Prelude.{sum_by}
+use Rattle.vyrd_witness.proofs.Prelude.{◌≡◌, ◌+◌, drop, sum_by}
 use Rattle.vyrd_witness.proofs.parts.sum_of.Given as goal
 
 abbrev pub invariant-loop-part : goal.invariant-loop-part

@@ -1,8 +1,5 @@
-use Rattle.std.proofs.Common.{◌≡◌, take, cond, None}
-use Rattle.vyrd_base.specs.Callers.{has_block}
-use Rattle.vyrd_base.specs.Places.{newest_first}
-use Rattle.vyrd_base.proofs.BlockLaws.{wrote}
-use Rattle.vyrd_witness.specs.Races.{last_of, is_write_to}
+use Rattle.vyrd_witness.proofs.Prelude.{◌≡◌, take, cond, None, has_block, newest_first, wrote}
+use Rattle.vyrd_witness.proofs.Prelude.{last_of, is_write_to}
 use Rattle.vyrd_witness.proofs.races.held_write.Given as goal
 
 abbrev pub invariant-loop-at : goal.invariant-loop-at

@@ -1,10 +1,5 @@
-use Rattle.std.proofs.Common.{◌≡◌, ◌<◌, take, cond, None}
-use Rattle.std.specs.Prelude.{IfSome}
-use Rattle.vyrd_base.specs.Callers.{has_block}
-use Rattle.vyrd_base.specs.Places.{newest_first}
-use Rattle.vyrd_base.specs.Words.{is_lone_commit}
-use Rattle.vyrd_base.proofs.EffectLaws.{committed_since_open}
-use Rattle.vyrd_witness.specs.Races.{last_of}
+use Rattle.vyrd_witness.proofs.Prelude.{◌≡◌, ◌<◌, take, cond, None, IfSome, has_block, newest_first}
+use Rattle.vyrd_witness.proofs.Prelude.{is_lone_commit, committed_since_open, last_of}
 use Rattle.vyrd_witness.proofs.races.inner_commit.Given as goal
 
 abbrev pub invariant-loop-at : goal.invariant-loop-at

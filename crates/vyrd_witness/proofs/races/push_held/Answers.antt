@@ -1,5 +1,4 @@
-use Rattle.vyrd_base.specs.Places.{newest_first}
-use Rattle.vyrd_witness.specs.Races.{held_by}
+use Rattle.vyrd_witness.proofs.Prelude.{newest_first, held_by}
 use Rattle.vyrd_witness.proofs.BelowLaws.{below_next}
 use Rattle.vyrd_witness.proofs.races.push_held.Goals as goal
 

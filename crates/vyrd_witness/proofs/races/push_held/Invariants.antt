@@ -1,7 +1,5 @@
-use Rattle.std.proofs.Common.{◌≡◌, ◌++◌}
+use Rattle.vyrd_witness.proofs.Prelude.{◌≡◌, ◌++◌, newest_first, numbers_below, held_by}
 use Rattle.std.specs.List.{flat_map}
-use Rattle.vyrd_base.specs.Places.{newest_first, numbers_below}
-use Rattle.vyrd_witness.specs.Races.{held_by}
 use Rattle.vyrd_witness.proofs.races.push_held.Given as goal
 
 abbrev pub invariant-loop-other : goal.invariant-loop-other

@@ -1,7 +1,4 @@
-use Rattle.std.proofs.Common.{◌≡◌, ◌++◌, map, take}
-use Rattle.std.specs.Prelude.{filter}
-use Rattle.vyrd_witness.specs.declared.item.Item.TheVariants.{Passed}
-use Rattle.vyrd_witness.specs.Races.{is_of_other}
+use Rattle.vyrd_witness.proofs.Prelude.{◌≡◌, ◌++◌, map, take, filter, Passed, is_of_other}
 use Rattle.vyrd_witness.proofs.races.push_others.Given as goal
 
 abbrev pub invariant-loop-effect : goal.invariant-loop-effect

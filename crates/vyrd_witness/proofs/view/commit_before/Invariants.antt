@@ -1,6 +1,4 @@
-use Rattle.std.proofs.Common.{◌≡◌, ◌<◌}
-use Rattle.std.specs.Prelude.{IfSome}
-use Rattle.vyrd_witness.specs.ViewWitnesses.{commit_before}
+use Rattle.vyrd_witness.proofs.Prelude.{◌≡◌, ◌<◌, IfSome, commit_before}
 use Rattle.vyrd_witness.proofs.view.commit_before.Given as goal
 
 abbrev pub invariant-loop-i : goal.invariant-loop-i

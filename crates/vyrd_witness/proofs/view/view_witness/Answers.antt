@@ -1,10 +1,7 @@
-use Rattle.std.proofs.Common.{◌≤◌, ◌+◌, ◌++◌, ap, refl, sym, ◌∙◌, arith, length, subst}
-use Rattle.vyrd_base.specs.Rules.{Rules, Charter, rules_by}
-use Rattle.vyrd_base.specs.Starts.{words_at_start}
-use Rattle.vyrd_witness.specs.Changes.{amount_shown, changes_in}
-use Rattle.vyrd_witness.specs.Effects.{effects_along}
-use Rattle.vyrd_witness.specs.Given.{given_parts, parts_by_number}
-use Rattle.vyrd_witness.specs.ViewWitnesses.{amount_then, changes_along, up_to}
+use Rattle.vyrd_witness.proofs.Prelude.{◌≤◌, ◌+◌, ◌++◌, ap, refl, sym, ◌∙◌, arith, length, subst}
+use Rattle.vyrd_witness.proofs.Prelude.{Rules, Charter, rules_by, words_at_start, amount_shown}
+use Rattle.vyrd_witness.proofs.Prelude.{changes_in, effects_along, given_parts, parts_by_number}
+use Rattle.vyrd_witness.specs.ViewWitnesses.{changes_along, amount_then, up_to}
 use Rattle.vyrd_witness.proofs.CommitLaws.{up_to_low}
 use Rattle.vyrd_witness.proofs.EffectLaws.{words_reached}
 use Rattle.vyrd_witness.proofs.StartWords.{length_start}

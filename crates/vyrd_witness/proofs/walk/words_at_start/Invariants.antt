@@ -1,5 +1,4 @@
-use Rattle.std.proofs.Common.{◌≡◌, ◌-◌, length, drop}
-use Rattle.vyrd_base.specs.Starts.{words_at_start}
+use Rattle.vyrd_witness.proofs.Prelude.{◌≡◌, ◌-◌, length, drop, words_at_start}
 use Rattle.vyrd_witness.proofs.walk.words_at_start.Given as goal
 
 abbrev pub invariant-loop-i : goal.invariant-loop-i

@@ -1,6 +1,5 @@
-use Rattle.std.proofs.Common.{◌≡◌, ◌+◌, ◌≤◌, ◌++◌, length, take, vec_len}
-use Rattle.std.specs.Prelude.{vec_capacity}
-use Rattle.vyrd_words.specs.Cuts.{written}
+use Rattle.vyrd_words.proofs.Prelude.{◌≡◌, ◌+◌, ◌≤◌, ◌++◌, length, take, vec_len, vec_capacity}
+use Rattle.vyrd_words.proofs.Prelude.{written}
 use Rattle.vyrd_words.proofs.apart.put_last.Given as goal
 
 abbrev pub invariant-loop-word : goal.invariant-loop-word

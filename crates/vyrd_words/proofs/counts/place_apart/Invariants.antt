@@ -1,5 +1,4 @@
-use Rattle.std.proofs.Common.{◌≡◌, ◌+◌, take, drop}
-use Rattle.vyrd_words.specs.Counts.{apart_in}
+use Rattle.vyrd_words.proofs.Prelude.{◌≡◌, ◌+◌, take, drop, apart_in}
 use Rattle.vyrd_words.proofs.counts.place_apart.Given as goal
 
 abbrev pub invariant-loop-later : goal.invariant-loop-later

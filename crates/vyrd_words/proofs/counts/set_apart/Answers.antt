@@ -1,5 +1,4 @@
-use Rattle.std.proofs.Common.{length-drop, set, ap, ◌∙◌, arith}
-use Rattle.vyrd_words.specs.Counts.{counts_of, just}
+use Rattle.vyrd_words.proofs.Prelude.{length-drop, set, ap, ◌∙◌, arith, counts_of, just}
 use Rattle.vyrd_words.proofs.CountLaws.{apart_few, says_count, apart_in-parts, same_grown}
 use Rattle.vyrd_words.proofs.CountLaws.{apart_set_grown}
 use Rattle.vyrd_words.proofs.counts.set_apart.Goals as goal

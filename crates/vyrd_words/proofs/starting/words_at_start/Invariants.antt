@@ -1,5 +1,4 @@
-use Rattle.std.proofs.Common.{◌≡◌, take}
-use Rattle.vyrd_base.specs.Starts.{words_at_start}
+use Rattle.vyrd_words.proofs.Prelude.{◌≡◌, take, words_at_start}
 use Rattle.vyrd_words.proofs.starting.words_at_start.Given as goal
 
 abbrev pub invariant-loop-s : goal.invariant-loop-s

@@ -1,6 +1,5 @@
-use Rattle.std.proofs.Common.{◌++◌, ◌∷◌, [], get_or, map, ap, sym, ◌∙◌}
+use Rattle.vyrd_words.proofs.Prelude.{◌++◌, ◌∷◌, [], get_or, map, ap, sym, ◌∙◌, StartWord}
 use Rattle.std.proofs.lemmas.List.{map_more}
-use Rattle.vyrd_base.specs.declared.log.StartWord.{StartWord}
 use Rattle.vyrd_base.proofs.FrontLaws.{take_past}
 use Rattle.vyrd_words.proofs.starting.words_of.Goals as goal
 

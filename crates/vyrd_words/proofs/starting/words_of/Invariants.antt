@@ -1,5 +1,4 @@
-use Rattle.std.proofs.Common.{◌≡◌, map, take}
-use Rattle.vyrd_base.specs.declared.log.StartWord.{StartWord}
+use Rattle.vyrd_words.proofs.Prelude.{◌≡◌, map, take, StartWord}
 use Rattle.vyrd_words.proofs.starting.words_of.Given as goal
 
 abbrev pub invariant-loop-s : goal.invariant-loop-s

@@ -1,7 +1,5 @@
-use Rattle.std.proofs.Common.{ℕ, ◌+◌, take, get_or, ap, sym, subst, ◌∙◌}
-use Rattle.std.proofs.lemmas.List.{take_all}
-use Rattle.vyrd_base.specs.Amounts.{Amounts, IsAmounts, with_amount}
-use Rattle.vyrd_view.specs.Known.{Known}
+use Rattle.vyrd_words.proofs.Prelude.{ℕ, ◌+◌, take, get_or, ap, sym, subst, ◌∙◌, take_all, Amounts}
+use Rattle.vyrd_words.proofs.Prelude.{IsAmounts, with_amount, Known}
 use Rattle.vyrd_words.proofs.StartingLaws.{told_more}
 use Rattle.vyrd_words.proofs.views.tell_amounts.Goals as goal
 

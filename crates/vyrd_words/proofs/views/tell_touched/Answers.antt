@@ -1,9 +1,6 @@
-use Rattle.std.proofs.Common.{ℕ, ◌+◌, arith, refl, take, get_or, ap, sym, ◌∙◌}
-use Rattle.std.proofs.lemmas.List.{take_all}
-use Rattle.vyrd_base.specs.Amounts.{Amounts, amount_of, with_amount}
-use Rattle.vyrd_base.specs.Rules.{rules_by}
-use Rattle.vyrd_spec.specs.Touching.{with_touched}
-use Rattle.vyrd_view.specs.Known.{Known}
+use Rattle.vyrd_words.proofs.Prelude.{ℕ, ◌+◌, arith, refl, take, get_or, ap, sym, ◌∙◌, take_all}
+use Rattle.vyrd_words.proofs.Prelude.{Amounts, amount_of, with_amount, rules_by, with_touched}
+use Rattle.vyrd_words.proofs.Prelude.{Known}
 use Rattle.vyrd_words.proofs.TouchedLaws.{touched_more}
 use Rattle.vyrd_words.proofs.views.tell_touched.Goals as goal
 

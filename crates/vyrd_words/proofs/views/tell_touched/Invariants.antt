@@ -1,6 +1,4 @@
-use Rattle.std.proofs.Common.{◌≡◌, ◌≤◌, ◌+◌, ◌*◌, take}
-use Rattle.vyrd_base.specs.Rules.{rules_by}
-use Rattle.vyrd_spec.specs.Touching.{with_touched}
+use Rattle.vyrd_words.proofs.Prelude.{◌≡◌, ◌≤◌, ◌+◌, ◌*◌, take, rules_by, with_touched}
 use Rattle.vyrd_words.proofs.views.tell_touched.Given as goal
 
 abbrev pub invariant-loop-key : goal.invariant-loop-key

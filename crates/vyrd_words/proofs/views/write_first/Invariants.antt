@@ -1,6 +1,5 @@
-use Rattle.std.proofs.Common.{◌≡◌, ◌+◌, ◌-◌, ◌≤◌, ◌++◌, length, map, take, drop, vec_len}
-use Rattle.std.specs.Prelude.{vec_capacity}
-use Rattle.vyrd_shadow.specs.Blocks.{with_writes, AreInRange}
+use Rattle.vyrd_words.proofs.Prelude.{◌≡◌, ◌+◌, ◌-◌, ◌≤◌, ◌++◌, length, map, take, drop, vec_len}
+use Rattle.vyrd_words.proofs.Prelude.{vec_capacity, with_writes, AreInRange}
 use Rattle.vyrd_words.proofs.views.write_first.Given as goal
 
 abbrev pub invariant-loop : goal.invariant-loop

@@ -1,6 +1,5 @@
-use Rattle.std.proofs.Common.{◌≡◌, ◌+◌, ◌≤◌, ◌++◌, length, map, drop, vec_len}
-use Rattle.std.specs.Prelude.{vec_capacity}
-use Rattle.vyrd_shadow.specs.Blocks.{with_writes, AreInRange}
+use Rattle.vyrd_words.proofs.Prelude.{◌≡◌, ◌+◌, ◌≤◌, ◌++◌, length, map, drop, vec_len, vec_capacity}
+use Rattle.vyrd_words.proofs.Prelude.{with_writes, AreInRange}
 use Rattle.vyrd_words.proofs.views.write_late.Given as goal
 
 abbrev pub invariant-loop-write : goal.invariant-loop-write

@@ -1,9 +1,7 @@
-use Rattle.std.proofs.Common.{◌≡◌, ℕ, List, ◌+◌, ◌∷◌, ◌++◌, [], ◌≤◌, length, take, get_or, arith}
-use Rattle.std.proofs.Common.{ap, subst, sym, ◌∙◌}
-use Rattle.std.proofs.lemmas.List.{take_more, take_all}
-use Rattle.std.specs.List.{sum_by}
-use Rattle.std.proofs.lemmas.List.Sums.{sum_by_push, sum_by-take-le}
-use Rattle.vyrd_words.specs.Cuts.{first_with, with_part, begun_with, written}
+use Rattle.vyrd_words.proofs.Prelude.{◌≡◌, ℕ, List, ◌+◌, ◌∷◌, ◌++◌, [], ◌≤◌, length, take, get_or}
+use Rattle.vyrd_words.proofs.Prelude.{arith, ap, subst, sym, ◌∙◌, take_more, take_all, sum_by}
+use Rattle.vyrd_words.proofs.Prelude.{sum_by_push, first_with, with_part, begun_with, written}
+use Rattle.std.proofs.lemmas.List.Sums.{sum_by-take-le}
 use Rattle.vyrd_words.proofs.CutLaws.{first_with_nothing, with_part_nothing, first_with_twice}
 use Rattle.vyrd_words.proofs.CutLaws.{with_part_twice, length-with_part, written_more}
 use Rattle.vyrd_words.proofs.FewLaws.{begun_grows, begun_twice}

@@ -1,6 +1,5 @@
-use Rattle.std.proofs.Common.{◌≡◌, ◌≤◌, ◌+◌, ◌*◌, false, take}
-use Rattle.std.specs.List.{sum_by}
-use Rattle.vyrd_words.specs.Cuts.{first_with, with_part, begun_with, written}
+use Rattle.vyrd_words.proofs.Prelude.{◌≡◌, ◌≤◌, ◌+◌, ◌*◌, false, take, sum_by, first_with}
+use Rattle.vyrd_words.proofs.Prelude.{with_part, begun_with, written}
 use Rattle.vyrd_words.proofs.words.give.Given as goal
 
 abbrev pub invariant-loop-word : goal.invariant-loop-word

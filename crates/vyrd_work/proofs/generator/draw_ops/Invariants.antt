@@ -1,5 +1,4 @@
-use Rattle.std.proofs.Common.{◌≡◌, ◌-◌, ◌<◌, ◌^◌, ◌++◌}
-use Rattle.vyrd_work.specs.Generated.{ops_from}
+use Rattle.vyrd_work.proofs.Prelude.{◌≡◌, ◌-◌, ◌<◌, ◌^◌, ◌++◌, ops_from}
 use Rattle.vyrd_work.proofs.generator.draw_ops.Given as goal
 
 abbrev pub invariant-loop-i : goal.invariant-loop-i

@@ -1,7 +1,5 @@
-use Rattle.std.proofs.Common.{subst, sym}
+use Rattle.vyrd_work.proofs.Prelude.{subst, sym, KeepsLimits, generated}
 use Rattle.vyrd_memory.specs.declared.op.Variant.TheVariants.{Correct}
-use Rattle.vyrd_work.specs.WorkLimits.{KeepsLimits}
-use Rattle.vyrd_work.specs.Generated.{generated}
 use Rattle.vyrd_work.proofs.GeneratedLaws.{generated_keeps}
 use Rattle.vyrd_work.proofs.generator.generate.Goals as goal
 

@@ -1,9 +1,5 @@
-use Rattle.std.proofs.Common.{◌≤◌, length, ap, ◌∙◌, subst, sym}
-use Rattle.std.proofs.lemmas.Result.{IfOk-weaker}
-use Rattle.vyrd_memory.specs.Players.{are_callable}
-use Rattle.vyrd_memory.specs.Bounds.{most_ops}
-use Rattle.vyrd_work.specs.Workloads.{workload_of}
-use Rattle.vyrd_work.specs.WorkScripts.{ops_of}
+use Rattle.vyrd_work.proofs.Prelude.{◌≤◌, length, ap, ◌∙◌, subst, sym, IfOk-weaker, are_callable}
+use Rattle.vyrd_work.proofs.Prelude.{most_ops, workload_of, ops_of}
 use Rattle.vyrd_work.proofs.ScriptLaws.{ops_are_few, ops_are_callable}
 use Rattle.vyrd_work.proofs.machine.ops_of.Goals as goal
 

@@ -1,13 +1,9 @@
-use Rattle.std.proofs.Common.{◌++◌, [], ◌∷◌, take, ap, ◌∙◌, sym, append-nil}
-use Rattle.std.specs.Prelude.{get_or}
-use Rattle.std.specs.List.{cons_option}
+use Rattle.vyrd_work.proofs.Prelude.{◌++◌, [], ◌∷◌, take, ap, ◌∙◌, sym, append-nil, get_or}
+use Rattle.vyrd_work.proofs.Prelude.{cons_option, Insert, WorkOp, ops_of}
 use Rattle.vyrd_base.specs.declared.subject.Method.TheVariants.{Multiset as OfMultiset}
-use Rattle.vyrd_base.specs.declared.multiset.MultisetMethod.TheVariants.{Insert}
-use Rattle.vyrd_work.specs.declared.work.WorkOp.{WorkOp}
-use Rattle.vyrd_work.specs.WorkScripts.{ops_of}
 use Rattle.vyrd_work.proofs.ScriptLaws.{ops_more, own_op, other_op}
-use Rattle.vyrd_work.proofs.machine.own_ops.Goals.{then-op-caller+in_ok-push, else-op-caller}
 use Rattle.vyrd_work.proofs.machine.own_ops.Goals as goal
+use Rattle.vyrd_work.proofs.machine.own_ops.Goals.{then-op-caller+in_ok-push, else-op-caller}
 
 -- what stands for the operation past the end
 abbrev past : WorkOp

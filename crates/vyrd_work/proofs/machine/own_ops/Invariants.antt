@@ -1,5 +1,4 @@
-use Rattle.std.proofs.Common.{◌≡◌, take}
-use Rattle.vyrd_work.specs.WorkScripts.{ops_of}
+use Rattle.vyrd_work.proofs.Prelude.{◌≡◌, take, ops_of}
 use Rattle.vyrd_work.proofs.machine.own_ops.Given as goal
 
 -- those before this one

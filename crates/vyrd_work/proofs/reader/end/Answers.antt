@@ -1,5 +1,4 @@
-use Rattle.std.proofs.Common.{◌≡◌, ◌∙◌, ap, true, false, length}
-use Rattle.std.specs.Prelude.{◌==◌}
+use Rattle.vyrd_work.proofs.Prelude.{◌≡◌, ◌∙◌, ap, true, false, length, ◌==◌}
 use Rattle.vyrd_work.proofs.WalkLaws.{more_after}
 use Rattle.vyrd_work.proofs.reader.end.Goals as goal
 

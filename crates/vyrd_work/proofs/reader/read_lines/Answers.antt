@@ -1,5 +1,4 @@
-use Rattle.std.proofs.Common.{arith, length-append}
-use Rattle.vyrd_work.specs.WorkReading.{refused}
+use Rattle.vyrd_work.proofs.Prelude.{arith, length-append, refused}
 use Rattle.vyrd_work.proofs.WalkLaws.{end_found, line_found, lines_last, refusal_at}
 use Rattle.vyrd_work.proofs.reader.read_lines.Goals as goal
 

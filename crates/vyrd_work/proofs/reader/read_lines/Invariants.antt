@@ -1,7 +1,4 @@
-use Rattle.std.proofs.Common.{◌≡◌, ◌+◌, ◌≤◌, length}
-use Rattle.vyrd_base.proofs.SplitLaws.{cut}
-use Rattle.vyrd_work.specs.Workloads.{workload_of}
-use Rattle.vyrd_work.specs.WorkReading.{turns_in, lines_read}
+use Rattle.vyrd_work.proofs.Prelude.{◌≡◌, ◌+◌, ◌≤◌, length, cut, workload_of, turns_in, lines_read}
 use Rattle.vyrd_work.proofs.reader.read_lines.Given as goal
 
 abbrev pub invariant-loop-line : goal.invariant-loop-line

@@ -1,9 +1,6 @@
-use Rattle.std.proofs.Common.{Ok, Err, ap, sym, ◌∙◌}
-use Rattle.std.specs.Prelude.{Result}
-use Rattle.std.proofs.lemmas.Result.{err_from_is_err_and}
-use Rattle.vyrd_base.proofs.SplitLaws.{cut}
-use Rattle.vyrd_work.specs.Workloads.{Workload, workload_of}
-use Rattle.vyrd_work.specs.WorkReading.{Refusal, refused, lines_read, work_reading}
+use Rattle.vyrd_work.proofs.Prelude.{Ok, Err, ap, sym, ◌∙◌, Result, err_from_is_err_and, cut}
+use Rattle.vyrd_work.proofs.Prelude.{Workload, workload_of, Refusal, refused, lines_read}
+use Rattle.vyrd_work.proofs.Prelude.{work_reading}
 use Rattle.vyrd_work.proofs.WalkLaws.{first_step, first_last, refusal_first}
 use Rattle.vyrd_work.proofs.TextLaws.{reading_sound}
 use Rattle.vyrd_work.proofs.reader.read_work.Goals as goal

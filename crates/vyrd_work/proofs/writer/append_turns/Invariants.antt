@@ -1,8 +1,5 @@
-use Rattle.std.proofs.Common.{◌≡◌, ◌++◌, take}
-use Rattle.std.specs.Prelude.{flat_map}
-use Rattle.vyrd_base.specs.Spelling.{ended_line}
+use Rattle.vyrd_work.proofs.Prelude.{◌≡◌, ◌++◌, take, flat_map, ended_line, item_line}
 use Rattle.vyrd_work.specs.declared.line.Item.TheVariants as item
-use Rattle.vyrd_work.specs.Workloads.{item_line}
 use Rattle.vyrd_work.proofs.writer.append_turns.Given as goal
 
 abbrev pub invariant-loop-turn : goal.invariant-loop-turn

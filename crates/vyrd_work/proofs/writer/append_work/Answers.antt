@@ -1,7 +1,5 @@
-use Rattle.std.proofs.Common.{codes, ap, ◌++◌, ◌∙◌, append_assoc}
-use Rattle.std.proofs.lemmas.Result.{err_from_is_err_and}
-use Rattle.vyrd_base.specs.Spelling.{ended_line}
-use Rattle.vyrd_work.specs.Workloads.{workload_of, work_header_line}
+use Rattle.vyrd_work.proofs.Prelude.{codes, ap, ◌++◌, ◌∙◌, append_assoc, err_from_is_err_and}
+use Rattle.vyrd_work.proofs.Prelude.{ended_line, workload_of, work_header_line}
 use Rattle.vyrd_text.proofs.WrittenLaws.{front_of_front, appended}
 use Rattle.vyrd_work.proofs.WrittenLaws.{ops_text, whole_work}
 use Rattle.vyrd_work.proofs.writer.append_work.Goals as goal

@@ -1,6 +1,4 @@
-use Rattle.std.proofs.Common.{ap, ◌∙◌}
-use Rattle.std.specs.Prelude.{unwrap_or}
-use Rattle.vyrd_base.specs.Amounts.{amount_of}
+use Rattle.vyrd_base.proofs.Prelude.{ap, ◌∙◌, unwrap_or, amount_of}
 use Rattle.vyrd_base.proofs.AmountMaps.{lookup-find}
 use Rattle.vyrd_base.proofs.amount_map.AmountMap.amount.Goals as goal
 

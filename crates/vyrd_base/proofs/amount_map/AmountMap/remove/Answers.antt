@@ -1,5 +1,4 @@
-use Rattle.std.proofs.Common.{subst, sym, ap, ◌∙◌}
-use Rattle.vyrd_base.specs.Amounts.{IsAmounts, with_amount}
+use Rattle.vyrd_base.proofs.Prelude.{subst, sym, ap, ◌∙◌, IsAmounts, with_amount}
 use Rattle.vyrd_base.proofs.AmountLaws.{IsAmounts-with_amount}
 use Rattle.vyrd_base.proofs.AmountMaps.{remove-with_amount}
 use Rattle.vyrd_base.proofs.amount_map.AmountMap.remove.Goals as goal

@@ -1,7 +1,6 @@
-use Rattle.std.proofs.Common.{subst, sym, ap, ◌∙◌}
-use Rattle.std.specs.Prelude.{unwrap_or}
+use Rattle.vyrd_base.proofs.Prelude.{subst, sym, ap, ◌∙◌, unwrap_or, IsAmounts, amount_of}
+use Rattle.vyrd_base.proofs.Prelude.{with_amount}
 use Rattle.std.proofs.lemmas.Result.{err_from_is_err_and}
-use Rattle.vyrd_base.specs.Amounts.{IsAmounts, amount_of, with_amount}
 use Rattle.vyrd_base.proofs.AmountLaws.{IsAmounts-with_amount}
 use Rattle.vyrd_base.proofs.AmountMaps.{lookup-find, insert-with_amount}
 use Rattle.vyrd_base.proofs.amount_map.AmountMap.set.Goals as goal

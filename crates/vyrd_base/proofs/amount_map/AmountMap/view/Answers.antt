@@ -1,5 +1,4 @@
-use Rattle.std.proofs.Common.{ap, sym, ◌∙◌, subst, ◌++◌}
-use Rattle.vyrd_base.specs.Amounts.{IsAmounts}
+use Rattle.vyrd_base.proofs.Prelude.{ap, sym, ◌∙◌, subst, ◌++◌, IsAmounts}
 use Rattle.vyrd_base.proofs.KeyLaws.{lesser_keys}
 use Rattle.vyrd_base.proofs.amount_map.AmountMap.view.Goals as goal
 

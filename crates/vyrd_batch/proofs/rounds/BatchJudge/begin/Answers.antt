@@ -1,6 +1,5 @@
-use Rattle.std.proofs.Common.{◌≡◌, ◌∙◌, drop, None, refl, ap, subst, sym}
-use Rattle.vyrd_batch.specs.Rounds.{AreJudged, AreJudgedTo, BatchView}
-use Rattle.vyrd_batch.specs.Costs.{IsBegun}
+use Rattle.vyrd_batch.proofs.Prelude.{◌≡◌, ◌∙◌, drop, None, refl, ap, subst, sym, AreJudged}
+use Rattle.vyrd_batch.proofs.Prelude.{AreJudgedTo, BatchView, IsBegun}
 use Rattle.vyrd_batch.proofs.RoundLaws.{none_there, judged_begun}
 use Rattle.vyrd_batch.proofs.rounds.BatchJudge.begin.Goals as goal
 

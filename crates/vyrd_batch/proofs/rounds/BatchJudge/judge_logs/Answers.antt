@@ -1,8 +1,5 @@
-use Rattle.std.proofs.Common.{◌≡◌, Some, map, length, ap, subst, sym, ◌++◌, ◌∙◌, arith}
-use Rattle.vyrd_batch.specs.Batches.{bytes_of}
-use Rattle.vyrd_batch.specs.BatchAnswers.{verdicts_of}
-use Rattle.vyrd_batch.specs.Rounds.{AreJudgedTo, BatchView, IsCut}
-use Rattle.vyrd_batch.specs.Costs.{IsLeft}
+use Rattle.vyrd_batch.proofs.Prelude.{◌≡◌, Some, map, length, ap, subst, sym, ◌++◌, ◌∙◌, arith}
+use Rattle.vyrd_batch.proofs.Prelude.{bytes_of, verdicts_of, AreJudgedTo, BatchView, IsCut, IsLeft}
 use Rattle.vyrd_batch.proofs.JudgedFacts.{verdict_each}
 use Rattle.vyrd_batch.proofs.RoundLaws.{judged_logs}
 use Rattle.vyrd_batch.proofs.rounds.BatchJudge.judge_logs.Goals as goal

@@ -1,5 +1,4 @@
-use Rattle.std.proofs.Common.{◌≡◌, length, subst, sym, arith}
-use Rattle.vyrd_batch.specs.Rounds.{AreJudgedTo, IsNothingEver}
+use Rattle.vyrd_batch.proofs.Prelude.{◌≡◌, length, subst, sym, arith, AreJudgedTo, IsNothingEver}
 use Rattle.vyrd_batch.proofs.RoundLaws.{judged_never}
 use Rattle.vyrd_batch.proofs.rounds.BatchJudge.refuse.Goals as goal
 

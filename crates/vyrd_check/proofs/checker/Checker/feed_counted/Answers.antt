@@ -1,8 +1,6 @@
-use Rattle.std.proofs.Common.{◌≡◌, [], ◌++◌, refl, append_assoc, append-nil, take-append-drop, ap}
-use Rattle.std.proofs.Common.{subst, sym, ◌∙◌}
-use Rattle.vyrd_base.specs.TextVerdicts.{text_verdict_so_far}
-use Rattle.vyrd_base.specs.Limits.{IsLimit}
-use Rattle.vyrd_check.specs.Checking.{CheckerState, HasChecked}
+use Rattle.vyrd_check.proofs.Prelude.{◌≡◌, [], ◌++◌, refl, append_assoc, append-nil, ap, subst, sym}
+use Rattle.vyrd_check.proofs.Prelude.{◌∙◌, text_verdict_so_far, IsLimit, CheckerState, HasChecked}
+use Rattle.std.proofs.Common.{take-append-drop}
 use Rattle.vyrd_check.proofs.CostLaws.{first_part, parts_paid, stands_paid, all_paid}
 use Rattle.vyrd_check.proofs.CheckedLaws.{so_far_is, checked_all, checked_stands, empty_of}
 use Rattle.vyrd_check.proofs.checker.Checker.feed_counted.Goals as goal

@@ -1,7 +1,5 @@
-use Rattle.std.proofs.Common.{◌≡◌, ◌+◌, ◌≤◌, ◌++◌, List, ℕ, false, length}
-use Rattle.vyrd_check.specs.Checking.{HasChecked}
-use Rattle.vyrd_check.specs.Costs.{bytes_cost}
-use Rattle.vyrd_check.specs.Owed.{checker_debt}
+use Rattle.vyrd_check.proofs.Prelude.{◌≡◌, ◌+◌, ◌≤◌, ◌++◌, List, ℕ, false, length, HasChecked}
+use Rattle.vyrd_check.proofs.Prelude.{bytes_cost, checker_debt}
 use Rattle.vyrd_check.proofs.checker.Checker.feed_counted.Given as goal
 
 abbrev pub invariant-loop-rest : goal.invariant-loop-rest

@@ -1,9 +1,6 @@
-use Rattle.std.proofs.Common.{◌+◌, ◌≤◌, ◌++◌, ap, subst, sym, ◌∙◌}
+use Rattle.vyrd_check.proofs.Prelude.{◌+◌, ◌≤◌, ◌++◌, ap, subst, sym, ◌∙◌, IsLimit, CheckerState}
+use Rattle.vyrd_check.proofs.Prelude.{FollowsBy, HasChecked, bytes_cost, debt_after, checker_debt}
 use Rattle.std.proofs.Math.Logic.{∥∥₁_map}
-use Rattle.vyrd_base.specs.Limits.{IsLimit}
-use Rattle.vyrd_check.specs.Checking.{CheckerState, FollowsBy, HasChecked}
-use Rattle.vyrd_check.specs.Costs.{bytes_cost}
-use Rattle.vyrd_check.specs.Owed.{debt_after, checker_debt}
 use Rattle.vyrd_check.proofs.CostLaws.{part_paid}
 use Rattle.vyrd_check.proofs.checker.Checker.feed_part.Goals as goal
 

@@ -1,6 +1,4 @@
-use Rattle.std.proofs.Common.{ap, subst, sym, ◌∙◌}
-use Rattle.vyrd_base.specs.Limits.{IsLimit}
-use Rattle.vyrd_check.specs.Checking.{CheckerState}
+use Rattle.vyrd_check.proofs.Prelude.{ap, subst, sym, ◌∙◌, IsLimit, CheckerState}
 use Rattle.vyrd_check.proofs.CheckedLaws.{checked_whole}
 use Rattle.vyrd_check.proofs.checker.Checker.finish_counted.Goals as goal
 

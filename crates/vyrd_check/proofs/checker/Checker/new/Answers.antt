@@ -1,5 +1,4 @@
-use Rattle.std.proofs.Common.{[], subst, sym}
-use Rattle.vyrd_base.specs.Limits.{IsLimit}
+use Rattle.vyrd_check.proofs.Prelude.{[], subst, sym, IsLimit}
 use Rattle.vyrd_check.proofs.CostLaws.{unread, nothing_owed}
 use Rattle.vyrd_check.proofs.checker.Checker.new.Goals as goal
 

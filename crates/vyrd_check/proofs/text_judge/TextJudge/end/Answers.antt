@@ -1,17 +1,10 @@
-use Rattle.std.proofs.Common.{◌+◌, ◌≤◌, ap, subst, sym, ◌∙◌}
-use Rattle.std.proofs.Math.Logic.{∥∥₁_elim}
-use Rattle.vyrd_base.specs.Rules.{rules_by}
-use Rattle.vyrd_base.specs.TextVerdicts.{text_verdict}
-use Rattle.vyrd_base.specs.Verdicts.{verdict}
-use Rattle.vyrd_base.specs.declared.verdict.Verdict.TheVariants.{Malformed}
-use Rattle.vyrd_check.specs.LogReadings.{read_so_far}
-use Rattle.vyrd_check.specs.Costs.{finish_cost}
+use Rattle.vyrd_check.proofs.Prelude.{◌+◌, ◌≤◌, ap, subst, sym, ◌∙◌, ∥∥₁_elim, rules_by}
+use Rattle.vyrd_check.proofs.Prelude.{text_verdict, verdict, Malformed, read_so_far, finish_cost}
+use Rattle.vyrd_check.proofs.Prelude.{CheckerKept, IsJudging, IsUndecided, where_same}
 use Rattle.vyrd_check.proofs.CostLaws.{end_is}
 use Rattle.vyrd_check.proofs.WholeFacts.{whole_same}
-use Rattle.vyrd_check.specs.Checking.{CheckerKept, IsJudging, IsUndecided}
 use Rattle.vyrd_check.proofs.ReadingFacts.{whole_faulty, whole_accepted, not_ended}
 use Rattle.vyrd_check.proofs.PieceLaws.{header_of_charter}
-use Rattle.vyrd_judge.proofs.EndFacts.{where_same}
 use Rattle.vyrd_check.proofs.text_judge.TextJudge.end.Goals as goal
 
 pub returns-in-Err-Malformed-clause-verdict : goal.returns-in-Err-Malformed-clause-verdict

@@ -1,14 +1,10 @@
-use Rattle.std.proofs.Common.{◌+◌, ◌≤◌, ◌++◌, ap, subst, sym, ◌∙◌}
-use Rattle.vyrd_base.specs.TextVerdicts.{text_verdict_so_far}
-use Rattle.vyrd_base.specs.Limits.{IsLimit}
-use Rattle.vyrd_check.specs.LogReadings.{read_so_far}
-use Rattle.vyrd_check.specs.Checking.{CheckerKept, IsUndecided, IsSomewhere}
-use Rattle.vyrd_check.specs.Costs.{bytes_cost}
-use Rattle.vyrd_check.specs.Owed.{kept_debt, judge_owes, following_cost}
+use Rattle.vyrd_check.proofs.Prelude.{◌+◌, ◌≤◌, ◌++◌, ap, subst, sym, ◌∙◌, text_verdict_so_far}
+use Rattle.vyrd_check.proofs.Prelude.{IsLimit, read_so_far, CheckerKept, IsUndecided, IsSomewhere}
+use Rattle.vyrd_check.proofs.Prelude.{bytes_cost, kept_debt, judge_owes, following_cost}
 use Rattle.vyrd_check.proofs.ReadingFacts.{first_none}
 use Rattle.vyrd_check.proofs.FedLaws.{Fed, fed_start, fed_built_in, fed_ready, fed_room, fed_answer}
-use Rattle.vyrd_check.proofs.FedLaws.{fed_undecided, fed_paid}
-use Rattle.vyrd_check.proofs.FedLaws.{ended_answer, ended_undecided, ended_paid}
+use Rattle.vyrd_check.proofs.FedLaws.{fed_undecided, fed_paid, ended_answer, ended_undecided}
+use Rattle.vyrd_check.proofs.FedLaws.{ended_paid}
 use Rattle.vyrd_check.proofs.text_judge.TextJudge.take_in.Goals as goal
 
 pub begin-requires : goal.begin-requires

@@ -1,10 +1,9 @@
-use Rattle.std.proofs.Common.{◌∙◌, sym, ap}
-use Rattle.vyrd_base.specs.Rules.{rules_by}
+use Rattle.vyrd_command.proofs.Prelude.{◌∙◌, sym, ap, rules_by}
 use Rattle.vyrd_command.proofs.AccountLaws.{verdict_told, log_told, history_told}
+use Rattle.vyrd_command.proofs.account.Account.close.Goals as goal
 use Rattle.vyrd_command.proofs.account.Account.close.Goals.{in-Verdict+in_ok-write_verdict-in-Verdict}
 use Rattle.vyrd_command.proofs.account.Account.close.Goals.{in-Log+in_ok-extend_from_slice-in-Log+in_ok-write_verdict-in-Log}
 use Rattle.vyrd_command.proofs.account.Account.close.Goals.{in-History+in_ok-extend_from_slice-in-History}
-use Rattle.vyrd_command.proofs.account.Account.close.Goals as goal
 
 pub returns-clause-text : goal.returns-clause-text
 returns-clause-text c = λ history taken.

@@ -1,14 +1,10 @@
-use Rattle.std.proofs.Common.{◌∙◌, sym, subst, ap, ◌++◌, [], refl}
-use Rattle.vyrd_base.specs.Rules.{rules_by}
-use Rattle.vyrd_base.specs.Spelling.{ended_line, header_line}
-use Rattle.vyrd_mover.specs.HistoryText.{history_header_line}
-use Rattle.vyrd_judge.specs.Following.{HasFollowed}
-use Rattle.vyrd_verifier.proofs.JudgeLaws.{no_log}
+use Rattle.vyrd_command.proofs.Prelude.{◌∙◌, sym, subst, ap, ◌++◌, [], refl, rules_by, ended_line}
+use Rattle.vyrd_command.proofs.Prelude.{header_line, history_header_line, HasFollowed, no_log}
 use Rattle.vyrd_command.proofs.AccountLaws.{nothing_begun, log_begun, history_begun}
+use Rattle.vyrd_command.proofs.account.Account.new.Goals as goal
 use Rattle.vyrd_command.proofs.account.Account.new.Goals.{in-Verdict}
 use Rattle.vyrd_command.proofs.account.Account.new.Goals.{in-Log+in_ok-write_header-in-Log}
 use Rattle.vyrd_command.proofs.account.Account.new.Goals.{in-History+in_ok-write_history_header-in-History}
-use Rattle.vyrd_command.proofs.account.Account.new.Goals as goal
 
 pub returns-clause-taken : goal.returns-clause-taken
 returns-clause-taken c =

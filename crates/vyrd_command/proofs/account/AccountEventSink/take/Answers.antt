@@ -1,12 +1,8 @@
-use Rattle.std.proofs.Common.{◌∙◌, sym, subst, ap, ◌++◌, [], ◌∷◌, ◌+◌, length-append, arith}
-use Rattle.std.proofs.lemmas.Result.{on_ok_weaker}
-use Rattle.vyrd_base.specs.Rules.{rules_by}
-use Rattle.vyrd_base.specs.Histories.{log_of}
-use Rattle.vyrd_judge.specs.Following.{HasFollowed}
-use Rattle.vyrd_command.specs.Inside.Accounts.{HasTaken, text_so_far}
-use Rattle.vyrd_verifier.proofs.JudgeLaws.{log_with, log_without}
-use Rattle.vyrd_command.proofs.account.AccountEventSink.take.Goals.{in-Some+in_ok-feed, in_default}
+use Rattle.vyrd_command.proofs.Prelude.{◌∙◌, sym, subst, ap, ◌++◌, [], ◌∷◌, ◌+◌, length-append}
+use Rattle.vyrd_command.proofs.Prelude.{arith, on_ok_weaker, rules_by, log_of, HasFollowed}
+use Rattle.vyrd_command.proofs.Prelude.{HasTaken, text_so_far, log_with, log_without}
 use Rattle.vyrd_command.proofs.account.AccountEventSink.take.Goals as goal
+use Rattle.vyrd_command.proofs.account.AccountEventSink.take.Goals.{in-Some+in_ok-feed, in_default}
 
 pub invariant_of-self : goal.invariant_of-self
 invariant_of-self c = omega (arith, c.feed.ensures.counted, c.self.invariant)

@@ -1,8 +1,7 @@
-use Rattle.std.proofs.Common.{rules, [], ◌∷◌, ◌++◌, ap, ◌∙◌, sym, append-nil}
-use Rattle.vyrd_base.specs.Rules.{rules_of}
+use Rattle.vyrd_follow.proofs.Prelude.{rules, [], ◌∷◌, ◌++◌, ap, ◌∙◌, sym, append-nil, rules_of}
+use Rattle.vyrd_follow.proofs.Prelude.{amounts_set}
 use Rattle.vyrd_spec.specs.AnySpecs.{header_in, state_in}
 use Rattle.vyrd_states.specs.Looks.{keys_looked_at}
-use Rattle.vyrd_follow.specs.Doings.{amounts_set}
 use Rattle.vyrd_follow.proofs.SetLaws.{one_key, no_key, set_so}
 use Rattle.vyrd_follow.proofs.built_in_spec.AnySpecTells.step_told.Goals as goal
 use Rattle.vyrd_follow.proofs.built_in_spec.AnySpecTells.step_told.Goals.{else-named-gt0}

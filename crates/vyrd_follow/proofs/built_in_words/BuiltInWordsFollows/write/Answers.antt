@@ -1,12 +1,8 @@
-use Rattle.std.proofs.Common.{◌++◌, ap, ◌∙◌, sym}
-use Rattle.std.specs.Prelude.{slice_index}
-use Rattle.vyrd_base.specs.Rules.{rules_of}
-use Rattle.vyrd_base.specs.Views.{view_of_words}
+use Rattle.vyrd_follow.proofs.Prelude.{◌++◌, ap, ◌∙◌, sym, slice_index, rules_of, view_of_words}
 use Rattle.vyrd_follow.specs.WordsBy.{WordsBy}
 use Rattle.vyrd_follow.proofs.TurnLaws.{nothing_written, written_back, word_read, kept_shown}
 use Rattle.vyrd_follow.proofs.built_in_words.BuiltInWordsFollows.write.Goals as goal
 use Rattle.vyrd_follow.proofs.built_in_words.BuiltInWordsFollows.write.Goals.{in-Some}
-use Rattle.vyrd_follow.proofs.built_in_words.BuiltInWordsFollows.write.Goals.{}
 use Rattle.vyrd_follow.proofs.built_in_words.BuiltInWordsFollows.write.Goals.{in-None+in_ok-shown-in-None}
 
 pub returns-then-was-effect-clause-items : goal.returns-then-was-effect-clause-items

@@ -1,9 +1,5 @@
-use Rattle.std.proofs.Common.{◌≡◌, ◌*◌, ◌/◌, length, take, ap, ◌∙◌, sym, arith}
-use Rattle.std.specs.Arc.{arc_value}
-use Rattle.std.proofs.lemmas.List.{length-take}
-use Rattle.vyrd_base.specs.declared.subject.Subject.TheVariants.{Own}
-use Rattle.vyrd_base.specs.Own.OwnRules.{own_view}
-use Rattle.vyrd_base.specs.Own.Reader.{written_in}
+use Rattle.vyrd_follow.proofs.Prelude.{◌≡◌, ◌*◌, ◌/◌, length, take, ap, ◌∙◌, sym, arith, arc_value}
+use Rattle.vyrd_follow.proofs.Prelude.{length-take, Own, own_view, written_in}
 use Rattle.vyrd_follow.proofs.OwnWordLaws.{start_count, whole_within, whole_shows}
 use Rattle.vyrd_follow.proofs.own_words.OwnWords.new.Goals as goal
 

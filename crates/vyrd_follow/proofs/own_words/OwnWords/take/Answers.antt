@@ -1,12 +1,8 @@
+use Rattle.vyrd_follow.proofs.Prelude.{arc_value, slice_index, own_view, written_in, rules_by}
 use Rattle.std.proofs.Common.{◌≡◌, ◌≤◌, ◌*◌, ◌++◌, length, length-set, set, ap, ◌∙◌, sym, arith}
-use Rattle.std.specs.Arc.{arc_value}
-use Rattle.std.specs.Prelude.{slice_index}
-use Rattle.vyrd_base.specs.Own.OwnRules.{own_view}
-use Rattle.vyrd_base.specs.Own.Reader.{written_in}
-use Rattle.vyrd_base.specs.Rules.{rules_by}
 use Rattle.vyrd_follow.specs.NextKeys.{key_items}
-use Rattle.vyrd_follow.proofs.OwnWordLaws.{past_whole, whole_shows, behind_shows}
-use Rattle.vyrd_follow.proofs.OwnWordLaws.{same_items, no_items}
+use Rattle.vyrd_follow.proofs.OwnWordLaws.{past_whole, whole_shows, behind_shows, same_items}
+use Rattle.vyrd_follow.proofs.OwnWordLaws.{no_items}
 use Rattle.vyrd_follow.proofs.own_words.OwnWords.take.Goals as goal
 
 pub write_word-requires-clause-shown : goal.write_word-requires-clause-shown

@@ -1,14 +1,8 @@
-use Rattle.std.proofs.Common.{◌≡◌, ◌+◌, ◌≤◌, ◌++◌, [], ◌∷◌, Some, map, ap, ◌∙◌, sym, subst, arith}
-use Rattle.std.specs.Prelude.{IfSome}
-use Rattle.vyrd_base.specs.Amounts.{IsAmounts, amount_of, with_amount}
-use Rattle.vyrd_base.proofs.AmountLaws.{IsAmounts-with_amount, same_amount}
-use Rattle.vyrd_base.proofs.SumLaws.{IsAmounts-collected}
-use Rattle.vyrd_own_states.specs.PartPairs.{pairs_in}
-use Rattle.vyrd_view.specs.Decoded.{pairs_by}
-use Rattle.vyrd_view.specs.Known.{view_by}
-use Rattle.vyrd_witness.specs.declared.item.Item.TheVariants.{Changed}
-use Rattle.vyrd_follow.specs.Following.{differences}
-use Rattle.vyrd_follow.specs.NextKeys.{changed_item}
+use Rattle.vyrd_follow.proofs.Prelude.{◌≡◌, ◌+◌, ◌≤◌, ◌++◌, [], ◌∷◌, Some, map, ap, ◌∙◌, sym, subst}
+use Rattle.vyrd_follow.proofs.Prelude.{arith, IfSome, IsAmounts, amount_of, with_amount}
+use Rattle.vyrd_follow.proofs.Prelude.{IsAmounts-with_amount, IsAmounts-collected, pairs_in}
+use Rattle.vyrd_follow.proofs.Prelude.{pairs_by, view_by, Changed, differences, changed_item}
+use Rattle.vyrd_base.proofs.AmountLaws.{same_amount}
 use Rattle.vyrd_follow.proofs.NextKeyLaws.{AreUpTo, AgreeFrom, agree_where_none, amount_kept}
 use Rattle.vyrd_follow.proofs.NextKeyLaws.{up_to_next, items_put, up_to_date, items_all, at_end}
 use Rattle.vyrd_follow.proofs.part_change.PartChange.put_items.Goals as goal

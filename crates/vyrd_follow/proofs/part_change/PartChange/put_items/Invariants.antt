@@ -1,10 +1,6 @@
-use Rattle.std.proofs.Common.{◌≡◌, ◌-◌, ◌^◌, ◌++◌, map}
-use Rattle.std.specs.Option.{option_map_or}
-use Rattle.vyrd_base.specs.Amounts.{IsAmounts}
-use Rattle.vyrd_follow.specs.Following.{differences}
-use Rattle.vyrd_follow.specs.NextKeys.{changed_item}
+use Rattle.vyrd_follow.proofs.Prelude.{◌≡◌, ◌-◌, ◌^◌, ◌++◌, map, option_map_or, IsAmounts}
+use Rattle.vyrd_follow.proofs.Prelude.{differences, changed_item, view_by}
 use Rattle.vyrd_follow.proofs.NextKeyLaws.{AreUpTo}
-use Rattle.vyrd_view.specs.Known.{view_by}
 use Rattle.vyrd_follow.proofs.part_change.PartChange.put_items.Given as goal
 
 abbrev pub invariant-loop-next : goal.invariant-loop-next

@@ -1,7 +1,4 @@
-use Rattle.std.proofs.Common.{ap, ◌∙◌}
-use Rattle.std.specs.Prelude.{unwrap_or}
-use Rattle.vyrd_base.specs.Amounts.{amount_of}
-use Rattle.vyrd_base.proofs.AmountMaps.{lookup-find}
+use Rattle.vyrd_follow.proofs.Prelude.{ap, ◌∙◌, unwrap_or, amount_of, lookup-find}
 use Rattle.vyrd_follow.proofs.wide_amounts.WideAmounts.amount.Goals as goal
 
 pub returns-clause-amount : goal.returns-clause-amount

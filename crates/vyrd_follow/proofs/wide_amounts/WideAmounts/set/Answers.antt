@@ -1,6 +1,5 @@
-use Rattle.std.proofs.Common.{subst, sym, ap, ◌∙◌}
-use Rattle.vyrd_base.specs.Amounts.{IsAmounts, with_amount}
-use Rattle.vyrd_base.proofs.AmountLaws.{IsAmounts-with_amount}
+use Rattle.vyrd_follow.proofs.Prelude.{subst, sym, ap, ◌∙◌, IsAmounts, with_amount}
+use Rattle.vyrd_follow.proofs.Prelude.{IsAmounts-with_amount}
 use Rattle.vyrd_base.proofs.AmountMaps.{insert-with_amount, remove-with_amount}
 use Rattle.vyrd_follow.proofs.wide_amounts.WideAmounts.set.Goals as goal
 

@@ -1,8 +1,6 @@
-use Rattle.std.proofs.Common.{Some, ◌+◌, ◌≤◌, sym, subst, arith}
-use Rattle.std.proofs.lemmas.Result.{IfOk-weaker}
-use Rattle.vyrd_base.specs.Rules.{rules_by}
-use Rattle.vyrd_judge.specs.Costs.{debt, debt_by}
-use Rattle.vyrd_judge.specs.Following.{IsCatchingUp, MayCatchUp, AdvanceGives, with_first}
+use Rattle.vyrd_judge.proofs.Prelude.{Some, ◌+◌, ◌≤◌, sym, subst, arith, IfOk-weaker, rules_by}
+use Rattle.vyrd_judge.proofs.Prelude.{debt, debt_by, IsCatchingUp, MayCatchUp, AdvanceGives}
+use Rattle.vyrd_judge.proofs.Prelude.{with_first}
 use Rattle.vyrd_judge.proofs.FollowerLaws.{caught_up, may_catch_up_on}
 use Rattle.vyrd_judge.proofs.CostLaws.{at_most_then}
 use Rattle.vyrd_judge.proofs.follower.Follower.catch_up.Goals as goal

@@ -1,8 +1,5 @@
-use Rattle.std.proofs.Common.{ap, subst, sym, ◌∙◌}
-use Rattle.vyrd_base.specs.Rules.{rules_by}
-use Rattle.vyrd_base.specs.Places.{newest_first}
-use Rattle.vyrd_base.specs.Verdicts.{verdict}
-use Rattle.vyrd_judge.specs.Following.{FollowerKept, IsFaultless}
+use Rattle.vyrd_judge.proofs.Prelude.{ap, subst, sym, ◌∙◌, rules_by, newest_first, verdict}
+use Rattle.vyrd_judge.proofs.Prelude.{FollowerKept, IsFaultless}
 use Rattle.vyrd_judge.proofs.FollowerLaws.{end_open, end_accepted, open_by}
 use Rattle.vyrd_judge.proofs.follower.Follower.end.Goals as goal
 

@@ -1,10 +1,6 @@
-use Rattle.std.proofs.Common.{Ok, List, Some, ◌+◌, ◌≤◌, ap, sym, subst, ◌∙◌}
-use Rattle.vyrd_base.specs.Rules.{rules_by}
-use Rattle.vyrd_base.specs.declared.log.Entry.{Entry}
-use Rattle.vyrd_base.specs.declared.log.StartWord.{StartWord}
-use Rattle.vyrd_base.specs.Verdicts.{first_fault}
-use Rattle.vyrd_judge.specs.Costs.{debt, debt_by}
-use Rattle.vyrd_judge.specs.Following.{IsCatchingUp, MayCatchUp, AdvanceGives, with_first}
+use Rattle.vyrd_judge.proofs.Prelude.{Ok, List, Some, ◌+◌, ◌≤◌, ap, sym, subst, ◌∙◌, rules_by}
+use Rattle.vyrd_judge.proofs.Prelude.{Entry, StartWord, first_fault, debt, debt_by, IsCatchingUp}
+use Rattle.vyrd_judge.proofs.Prelude.{MayCatchUp, AdvanceGives, with_first}
 use Rattle.vyrd_judge.proofs.FollowerLaws.{caught_up, may_catch_up_on}
 use Rattle.vyrd_judge.proofs.CostLaws.{at_most_then}
 use Rattle.vyrd_judge.proofs.follower.Follower.go_on.Goals as goal

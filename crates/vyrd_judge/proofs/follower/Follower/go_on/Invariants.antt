@@ -1,11 +1,6 @@
-use Rattle.std.proofs.Common.{◌≡◌, ◌+◌, ◌≤◌, List, length}
+use Rattle.vyrd_judge.proofs.Prelude.{◌≡◌, ◌+◌, ◌≤◌, List, length, cons_option, Entry, StartWord}
+use Rattle.vyrd_judge.proofs.Prelude.{CanLeave, debt, IsCatchingUp, MayCatchUp, with_first}
 use Rattle.std.specs.Prelude.{IfSome}
-use Rattle.std.specs.List.{cons_option}
-use Rattle.vyrd_base.specs.declared.log.Entry.{Entry}
-use Rattle.vyrd_base.specs.declared.log.StartWord.{StartWord}
-use Rattle.vyrd_judge.specs.Queued.{CanLeave}
-use Rattle.vyrd_judge.specs.Costs.{debt}
-use Rattle.vyrd_judge.specs.Following.{IsCatchingUp, MayCatchUp, with_first}
 use Rattle.vyrd_judge.proofs.follower.Follower.go_on.Given as goal
 
 abbrev pub invariant-loop-next : goal.invariant-loop-next

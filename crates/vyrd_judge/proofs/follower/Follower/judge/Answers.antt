@@ -1,11 +1,7 @@
-use Rattle.std.proofs.Common.{◌+◌, [], Some, refl, ap, subst, sym, ◌∙◌, arith}
-use Rattle.vyrd_base.specs.Rules.{rules_by}
-use Rattle.vyrd_base.specs.declared.verdict.Verdict.TheVariants.{Violation}
-use Rattle.vyrd_base.specs.Places.{newest_first}
-use Rattle.vyrd_base.specs.Verdicts.{first_fault}
-use Rattle.vyrd_judge.specs.Judged.{HeadGives, KnowsState}
-use Rattle.vyrd_words.specs.Effects.{effect_parts}
-use Rattle.vyrd_judge.specs.Following.{FollowerKept, IsCatchingUp, MayCatchUp}
+use Rattle.vyrd_judge.proofs.Prelude.{◌+◌, [], Some, refl, ap, subst, sym, ◌∙◌, arith, rules_by}
+use Rattle.vyrd_judge.proofs.Prelude.{Violation, newest_first, first_fault, HeadGives, effect_parts}
+use Rattle.vyrd_judge.proofs.Prelude.{FollowerKept, IsCatchingUp, MayCatchUp}
+use Rattle.vyrd_judge.specs.Judged.{KnowsState}
 use Rattle.vyrd_judge.proofs.FollowerLaws.{may_judge, few_taken, few_position, taken_on, sound_up}
 use Rattle.vyrd_judge.proofs.CostLaws.{judged_paid}
 use Rattle.vyrd_judge.proofs.follower.Follower.judge.Goals as goal

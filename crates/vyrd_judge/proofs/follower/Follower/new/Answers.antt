@@ -1,6 +1,4 @@
-use Rattle.std.proofs.Common.{refl, ap, sym, ◌∙◌, arith}
-use Rattle.vyrd_base.specs.Rules.{rules_by}
-use Rattle.vyrd_observers.specs.Watching.{unwatched}
+use Rattle.vyrd_judge.proofs.Prelude.{refl, ap, sym, ◌∙◌, arith, rules_by, unwatched}
 use Rattle.vyrd_base.proofs.HeaderLaws.{few_words}
 use Rattle.vyrd_words.proofs.StartWords.{start_few}
 use Rattle.vyrd_judge.proofs.FollowerLaws.{first_taken_in}

@@ -1,8 +1,6 @@
-use Rattle.std.proofs.Common.{◌≡◌, ◌<◌, ◌^◌, ◌∷◌, ◌++◌, [], refl, ap, subst, sym, ◌∙◌}
-use Rattle.vyrd_base.specs.Rules.{rules_by}
-use Rattle.vyrd_base.specs.Verdicts.{first_fault, verdict_so_far}
-use Rattle.vyrd_judge.specs.Following.{FollowerKept, IsFaultless, IsSomewhere}
-use Rattle.std.proofs.lemmas.Result.{IfOk-weaker}
+use Rattle.vyrd_judge.proofs.Prelude.{◌≡◌, ◌<◌, ◌^◌, ◌∷◌, ◌++◌, [], refl, ap, subst, sym, ◌∙◌}
+use Rattle.vyrd_judge.proofs.Prelude.{rules_by, first_fault, verdict_so_far, FollowerKept}
+use Rattle.vyrd_judge.proofs.Prelude.{IsFaultless, IsSomewhere, IfOk-weaker}
 use Rattle.vyrd_judge.proofs.FollowerLaws.{broken_so_far, may_take, may_queue, low_commits}
 use Rattle.vyrd_judge.proofs.FollowerLaws.{few_commits, few_observers, low_caller_of, taken_all}
 use Rattle.vyrd_judge.proofs.FollowerLaws.{may_catch_up, keeps_by, answer_with, sound_of}

@@ -1,9 +1,5 @@
-use Rattle.std.proofs.Common.{◌≡◌, ◌+◌, ◌≤◌, ◌∷◌, ◌++◌, [], subst}
-use Rattle.std.specs.Prelude.{IfOk}
-use Rattle.vyrd_base.specs.Rules.{rules_by}
-use Rattle.vyrd_base.specs.Verdicts.{verdict_so_far}
-use Rattle.vyrd_judge.specs.Costs.{debt, debt_after, entry_cost}
-use Rattle.vyrd_judge.specs.Following.{IsFaultless}
+use Rattle.vyrd_judge.proofs.Prelude.{◌≡◌, ◌+◌, ◌≤◌, ◌∷◌, ◌++◌, [], subst, IfOk, rules_by}
+use Rattle.vyrd_judge.proofs.Prelude.{verdict_so_far, debt, debt_after, entry_cost, IsFaultless}
 use Rattle.vyrd_judge.proofs.FollowerLaws.{of_kind}
 use Rattle.vyrd_judge.proofs.follower.Follower.take_in.Goals as goal
 

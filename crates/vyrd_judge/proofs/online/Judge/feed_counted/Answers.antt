@@ -1,6 +1,4 @@
-use Rattle.std.proofs.Common.{◌∷◌, ◌++◌, [], ap, sym, ◌∙◌}
-use Rattle.vyrd_judge.specs.Following.{JudgeView}
-use Rattle.vyrd_judge.specs.Costs.{entry_cost}
+use Rattle.vyrd_judge.proofs.Prelude.{◌∷◌, ◌++◌, [], ap, sym, ◌∙◌, JudgeView, entry_cost}
 use Rattle.vyrd_judge.proofs.CostLaws.{stands_paid}
 use Rattle.vyrd_judge.proofs.OnlineLaws.{stands_on, followed_on}
 use Rattle.vyrd_judge.proofs.online.Judge.feed_counted.Goals as goal

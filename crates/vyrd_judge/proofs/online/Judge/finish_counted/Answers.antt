@@ -1,5 +1,4 @@
-use Rattle.std.proofs.Common.{ap, sym, ◌∙◌}
-use Rattle.vyrd_judge.specs.Following.{JudgeView}
+use Rattle.vyrd_judge.proofs.Prelude.{ap, sym, ◌∙◌, JudgeView}
 use Rattle.vyrd_judge.proofs.OnlineLaws.{stands_whole}
 use Rattle.vyrd_judge.proofs.online.Judge.finish_counted.Goals as goal
 

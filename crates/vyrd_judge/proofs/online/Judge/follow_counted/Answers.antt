@@ -1,10 +1,6 @@
-use Rattle.std.proofs.Common.{◌+◌, ◌++◌, take, drop, ap, sym, subst, ◌∙◌, arith}
-use Rattle.std.proofs.Common.{append_assoc, append-nil, refl}
-use Rattle.std.proofs.lemmas.List.{take_more, take-append-drop}
-use Rattle.vyrd_base.specs.Rules.{rules_by}
-use Rattle.vyrd_base.specs.Verdicts.{verdict_so_far}
-use Rattle.vyrd_judge.specs.Following.{JudgeView, HasFollowed}
-use Rattle.vyrd_base.proofs.FrontLaws.{take_past}
+use Rattle.vyrd_judge.proofs.Prelude.{◌+◌, ◌++◌, take, drop, ap, sym, subst, ◌∙◌, arith}
+use Rattle.vyrd_judge.proofs.Prelude.{append_assoc, append-nil, refl, take_more, take-append-drop}
+use Rattle.vyrd_judge.proofs.Prelude.{rules_by, verdict_so_far, JudgeView, HasFollowed, take_past}
 use Rattle.vyrd_judge.proofs.CostLaws.{stands_paid, first_paid, entry_paid, verdict_paid}
 use Rattle.vyrd_judge.proofs.OnlineLaws.{stands_on, followed_on, decided, none_stands}
 use Rattle.vyrd_judge.proofs.OnlineLaws.{so_far_is_known}

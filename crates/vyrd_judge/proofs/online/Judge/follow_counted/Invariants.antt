@@ -1,8 +1,5 @@
-use Rattle.std.proofs.Common.{◌≡◌, false, ◌≤◌, ◌+◌, ◌++◌, List, None, take}
-use Rattle.vyrd_base.specs.declared.log.Entry.{Entry}
-use Rattle.vyrd_base.specs.declared.log.StartWord.{StartWord}
-use Rattle.vyrd_judge.specs.Costs.{judge_debt, log_cost}
-use Rattle.vyrd_judge.specs.Following.{HasFollowed}
+use Rattle.vyrd_judge.proofs.Prelude.{◌≡◌, false, ◌≤◌, ◌+◌, ◌++◌, List, None, take, Entry}
+use Rattle.vyrd_judge.proofs.Prelude.{StartWord, judge_debt, log_cost, HasFollowed}
 use Rattle.vyrd_judge.proofs.online.Judge.follow_counted.Given as goal
 
 abbrev pub invariant-loop-entry : goal.invariant-loop-entry

@@ -1,13 +1,7 @@
-use Rattle.std.proofs.Common.{◌+◌, ◌≤◌, length, ◌++◌, take, drop, ap, sym, subst, ◌∙◌, arith}
-use Rattle.std.proofs.Common.{append_assoc, append-nil, refl, []}
-use Rattle.std.specs.Prelude.{get_or}
-use Rattle.std.specs.List.{cons_option}
-use Rattle.std.proofs.lemmas.List.{take_all}
-use Rattle.vyrd_base.specs.Rules.{rules_by}
-use Rattle.vyrd_base.specs.Verdicts.{verdict_so_far}
-use Rattle.vyrd_base.specs.Histories.{logged, log_of}
-use Rattle.vyrd_judge.specs.Following.{JudgeView, HasFollowed}
-use Rattle.vyrd_judge.specs.Costs.{judge_debt, log_cost}
+use Rattle.vyrd_judge.proofs.Prelude.{◌+◌, ◌≤◌, length, ◌++◌, take, drop, ap, sym, subst, ◌∙◌}
+use Rattle.vyrd_judge.proofs.Prelude.{arith, append_assoc, append-nil, refl, [], get_or}
+use Rattle.vyrd_judge.proofs.Prelude.{cons_option, take_all, rules_by, verdict_so_far, logged}
+use Rattle.vyrd_judge.proofs.Prelude.{log_of, JudgeView, HasFollowed, judge_debt, log_cost}
 use Rattle.vyrd_judge.proofs.CostLaws.{stands_events, first_events, more_events, verdict_events}
 use Rattle.vyrd_judge.proofs.CostLaws.{last_events}
 use Rattle.vyrd_judge.proofs.OnlineLaws.{stands_on, followed_on, decided, none_stands}

@@ -1,7 +1,5 @@
-use Rattle.std.proofs.Common.{◌≡◌, Some, [], ap, subst, sym, ◌∙◌}
-use Rattle.std.specs.Prelude.{IfOk}
-use Rattle.vyrd_base.specs.Rules.{rules_by}
-use Rattle.vyrd_base.specs.Starts.{state_at_start}
+use Rattle.vyrd_judge.proofs.Prelude.{◌≡◌, Some, [], ap, subst, sym, ◌∙◌, IfOk, rules_by}
+use Rattle.vyrd_judge.proofs.Prelude.{state_at_start}
 use Rattle.vyrd_base.proofs.NoStart.{state_at_start-none}
 use Rattle.vyrd_judge.proofs.online.Judge.new.Goals as goal
 

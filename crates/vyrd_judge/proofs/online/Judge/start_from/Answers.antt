@@ -1,12 +1,8 @@
-use Rattle.std.proofs.Common.{◌≡◌, ℕ, ◌<◌, ◌^◌, List, length, Option, ap, subst, sym, ◌∙◌}
-use Rattle.std.specs.Prelude.{is_none, All}
+use Rattle.vyrd_judge.proofs.Prelude.{◌≡◌, ℕ, ◌<◌, ◌^◌, List, length, Option, ap, subst, sym, ◌∙◌}
+use Rattle.vyrd_judge.proofs.Prelude.{is_none, All, Header, StartWord, State, rules_of, rules_by}
+use Rattle.vyrd_judge.proofs.Prelude.{words_at_start, state_at_start, may_follow}
+use Rattle.vyrd_judge.proofs.Prelude.{length-words_at_start, small_at_start}
 use Rattle.std.specs.Option.{option_map}
-use Rattle.vyrd_base.specs.declared.header.Header.{Header}
-use Rattle.vyrd_base.specs.declared.log.StartWord.{StartWord}
-use Rattle.vyrd_base.specs.States.{State}
-use Rattle.vyrd_base.specs.Rules.{rules_of, rules_by}
-use Rattle.vyrd_base.specs.Starts.{words_at_start, state_at_start}
-use Rattle.vyrd_words.proofs.StartWords.{may_follow, length-words_at_start, small_at_start}
 use Rattle.vyrd_judge.proofs.online.Judge.start_from.Goals as goal
 
 -- the state at the start is that of the specification that was found

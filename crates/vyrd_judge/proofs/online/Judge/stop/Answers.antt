@@ -1,7 +1,4 @@
-use Rattle.std.proofs.Common.{ap, sym, ◌∙◌}
-use Rattle.std.specs.Prelude.{unwrap_or}
-use Rattle.vyrd_base.specs.declared.verdict.Verdict.TheVariants.{Malformed}
-use Rattle.vyrd_judge.specs.Following.{JudgeView}
+use Rattle.vyrd_judge.proofs.Prelude.{ap, sym, ◌∙◌, unwrap_or, Malformed, JudgeView}
 use Rattle.vyrd_judge.proofs.OnlineLaws.{none_stands}
 use Rattle.vyrd_judge.proofs.online.Judge.stop.Goals as goal
 

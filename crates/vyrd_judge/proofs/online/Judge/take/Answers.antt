@@ -1,7 +1,5 @@
-use Rattle.std.proofs.Common.{◌+◌, ◌≤◌, ◌∷◌, ◌++◌, [], Ok, ap, sym, subst, ◌∙◌}
-use Rattle.std.proofs.Math.Logic.{∥∥₁_map}
-use Rattle.vyrd_judge.specs.Following.{JudgeView, HasFollowed}
-use Rattle.vyrd_judge.specs.Costs.{debt, debt_after, entry_cost}
+use Rattle.vyrd_judge.proofs.Prelude.{◌+◌, ◌≤◌, ◌∷◌, ◌++◌, [], Ok, ap, sym, subst, ◌∙◌, ∥∥₁_map}
+use Rattle.vyrd_judge.proofs.Prelude.{JudgeView, HasFollowed, debt, debt_after, entry_cost}
 use Rattle.vyrd_judge.proofs.OnlineLaws.{faultless_of}
 use Rattle.vyrd_judge.proofs.online.Judge.take.Goals as goal
 

@@ -1,11 +1,8 @@
-use Rattle.std.proofs.Common.{◌<◌, length, arith}
-use Rattle.std.proofs.lemmas.Result.{IfOk-weaker}
-use Rattle.vyrd_base.specs.declared.log.Kind.TheVariants.{Commit, BlockCommit}
+use Rattle.vyrd_judge.proofs.Prelude.{◌<◌, length, arith, IfOk-weaker, Commit, BlockCommit}
+use Rattle.vyrd_judge.proofs.Prelude.{low_caller, keeps_as}
 use Rattle.vyrd_base.proofs.CommitLaws.{alone, with_block}
-use Rattle.vyrd_words.proofs.WordsLaws.{low_caller, keeps_as}
 use Rattle.vyrd_judge.proofs.QueueLaws.{write_up, open_up, close_up, call_up, commit_up}
-use Rattle.vyrd_judge.proofs.QueueTells.{all_ok}
-use Rattle.vyrd_judge.proofs.QueueTells.{queue_caller, queue_few, queue_pending, return_up}
+use Rattle.vyrd_judge.proofs.QueueTells.{all_ok, queue_caller, queue_few, queue_pending, return_up}
 use Rattle.vyrd_judge.proofs.QueueTells.{committing_called, known_caller, taken_kind}
 use Rattle.vyrd_judge.proofs.queue.Queue.follow.Goals as goal
 

@@ -1,15 +1,11 @@
-use Rattle.std.proofs.Common.{◌≡◌, ℕ, List, Ok, length, ap, sym, subst, ◌∙◌, arith}
-use Rattle.std.specs.Prelude.{option_map}
-use Rattle.vyrd_base.specs.Amounts.{Amounts, first_difference}
-use Rattle.vyrd_base.specs.States.{State}
-use Rattle.vyrd_base.specs.Rules.{Rules, rules_by}
-use Rattle.vyrd_base.specs.declared.verdict.Why.TheVariants.{View}
+use Rattle.vyrd_judge.proofs.Prelude.{◌≡◌, ℕ, List, Ok, length, ap, sym, subst, ◌∙◌, arith}
+use Rattle.vyrd_judge.proofs.Prelude.{option_map, Amounts, first_difference, State, Rules, rules_by}
+use Rattle.vyrd_judge.proofs.Prelude.{View, AreCurrent}
 use Rattle.vyrd_base.proofs.ListLaws.{is_none}
 use Rattle.vyrd_judge.proofs.ReachedFaults.{by_next}
 use Rattle.vyrd_judge.proofs.JudgingLaws.{current_closed}
 use Rattle.vyrd_spec.specs.Touching.{with_touched}
 use Rattle.vyrd_view.specs.Known.{view_by}
-use Rattle.vyrd_observers.specs.Watching.{AreCurrent}
 use Rattle.vyrd_observers.proofs.SeeingLaws.{still_current}
 use Rattle.vyrd_base.proofs.KeptLaws.{method_subject, method_args}
 use Rattle.vyrd_words.proofs.FewLaws.{few_answered}

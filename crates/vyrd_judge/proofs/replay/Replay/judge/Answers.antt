@@ -1,12 +1,9 @@
-use Rattle.vyrd_base.specs.Rules.{rules_by}
-use Rattle.std.proofs.Common.{ap, sym, ◌∙◌}
-use Rattle.vyrd_judge.specs.declared.waiting.Event.TheVariants.{Commits}
+use Rattle.vyrd_judge.proofs.Prelude.{rules_by, ap, sym, ◌∙◌, Commits, formed_rules}
 use Rattle.vyrd_judge.proofs.JudgingLaws.{begins_caller, begins_may, begins_free, commits_caller}
 use Rattle.vyrd_judge.proofs.JudgingLaws.{commits_may, commits_mutates, returns_caller, steps_few}
 use Rattle.vyrd_judge.proofs.JudgingLaws.{judged_current, judged_begins, watch_there}
 use Rattle.vyrd_judge.proofs.JudgingLaws.{judged_answered, judged_unanswered, judged_commits}
 use Rattle.vyrd_judge.proofs.JudgingLaws.{commit_splits}
-use Rattle.vyrd_spec.proofs.ShownLaws.{formed_rules}
 use Rattle.vyrd_judge.proofs.replay.Replay.judge.Goals as goal
 
 pub begin-requires-clause-caller : goal.begin-requires-clause-caller

@@ -1,5 +1,4 @@
-use Rattle.std.proofs.Common.{◌≡◌}
-use Rattle.vyrd_live.specs.Sending.{HasSent}
+use Rattle.vyrd_live.proofs.Prelude.{◌≡◌, HasSent}
 use Rattle.vyrd_live.proofs.outbox.Outbox.empty.Given as goal
 
 -- the hand has forgotten nothing yet

@@ -1,8 +1,5 @@
-use Rattle.std.proofs.Common.{◌≡◌, ℕ, ◌+◌, ◌-◌, length, take, drop, List, sym, ap, ◌∙◌, subst}
-use Rattle.std.proofs.Common.{arith}
-use Rattle.std.proofs.lemmas.List.{take_all, length-drop}
-use Rattle.vyrd_base.specs.declared.history.Stamped.{Stamped}
-use Rattle.vyrd_live.specs.Sending.{HasSent}
+use Rattle.vyrd_live.proofs.Prelude.{◌≡◌, ℕ, ◌+◌, ◌-◌, length, take, drop, List, sym, ap, ◌∙◌}
+use Rattle.vyrd_live.proofs.Prelude.{subst, arith, take_all, length-drop, Stamped, HasSent}
 use Rattle.vyrd_live.proofs.SendingLaws.{parcel_own, parcel_sent}
 use Rattle.vyrd_live.proofs.outbox.Outbox.send.Goals as goal
 

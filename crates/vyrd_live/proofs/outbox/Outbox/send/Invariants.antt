@@ -1,5 +1,4 @@
-use Rattle.std.proofs.Common.{◌-◌}
-use Rattle.vyrd_live.specs.Sending.{HasSent}
+use Rattle.vyrd_live.proofs.Prelude.{◌-◌, HasSent}
 use Rattle.vyrd_live.proofs.outbox.Outbox.send.Given as goal
 
 abbrev pub invariant-loop-self : goal.invariant-loop-self

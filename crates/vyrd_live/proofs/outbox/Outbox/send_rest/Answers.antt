@@ -1,5 +1,4 @@
-use Rattle.std.proofs.Common.{refl}
-use Rattle.vyrd_live.proofs.BesideLaws.{goes_on_same, goes_on_then}
+use Rattle.vyrd_live.proofs.Prelude.{refl, goes_on_same, goes_on_then}
 use Rattle.vyrd_live.proofs.outbox.Outbox.send_rest.Goals as goal
 
 pub loop-init : goal.loop-init

@@ -1,5 +1,4 @@
-use Rattle.vyrd_live.specs.Sending.{HasSent}
-use Rattle.vyrd_live.specs.Beside.{GoesOn}
+use Rattle.vyrd_live.proofs.Prelude.{HasSent, GoesOn}
 use Rattle.vyrd_live.proofs.outbox.Outbox.send_rest.Given as goal
 
 abbrev pub invariant-loop : goal.invariant-loop

@@ -1,10 +1,6 @@
 -- One sender more is taken in.
-use Rattle.std.proofs.Common.{◌≡◌, ◌++◌, [], ◌∷◌, List, refl, ap, ◌∙◌, sym, rules}
-use Rattle.std.proofs.lemmas.List.{map-append}
-use Rattle.std.proofs.lemmas.List.Elements.{All-rest}
-use Rattle.vyrd_relay.specs.declared.known.Lane.{Lane}
-use Rattle.vyrd_relay.specs.Ends.{ReceiverView, lane_sent}
-use Rattle.vyrd_live.specs.declared.outbox.Outbox.{Outbox}
+use Rattle.vyrd_live.proofs.Prelude.{◌≡◌, ◌++◌, [], ◌∷◌, List, refl, ap, ◌∙◌, sym, rules}
+use Rattle.vyrd_live.proofs.Prelude.{map-append, All-rest, Lane, ReceiverView, lane_sent, Outbox}
 use Rattle.vyrd_live.proofs.watch.Watch.settle.Goals as goal
 
 pub loop-outbox-init : goal.loop-outbox-init

@@ -1,6 +1,4 @@
-use Rattle.std.proofs.Common.{◌≡◌}
-use Rattle.std.specs.List.{All}
-use Rattle.vyrd_live.specs.Beside.{lanes_sent}
+use Rattle.vyrd_live.proofs.Prelude.{◌≡◌, All, lanes_sent}
 use Rattle.vyrd_live.proofs.watch.Watch.settle.Given as goal
 
 abbrev pub invariant-loop-outbox : goal.invariant-loop-outbox

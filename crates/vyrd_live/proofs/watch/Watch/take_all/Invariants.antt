@@ -1,5 +1,4 @@
-use Rattle.std.proofs.Common.{take}
-use Rattle.vyrd_live.specs.Beside.{HasTakenAll}
+use Rattle.vyrd_live.proofs.Prelude.{take, HasTakenAll}
 use Rattle.vyrd_live.proofs.watch.Watch.take_all.Given as goal
 
 abbrev pub invariant-loop-event : goal.invariant-loop-event

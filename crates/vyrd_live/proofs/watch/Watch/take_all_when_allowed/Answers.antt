@@ -1,7 +1,5 @@
-use Rattle.std.proofs.Common.{◌≡◌, ℕ, suc, ◌+◌, take, sym, ap, ◌∙◌, subst, arith}
-use Rattle.std.proofs.Math.Seq.{take-suc}
-use Rattle.vyrd_live.specs.Beside.{HasTakenAll}
-use Rattle.vyrd_live.proofs.BesideLaws.{none_taken, one_more}
+use Rattle.vyrd_live.proofs.Prelude.{◌≡◌, ℕ, suc, ◌+◌, take, sym, ap, ◌∙◌, subst, arith, take-suc}
+use Rattle.vyrd_live.proofs.Prelude.{HasTakenAll, none_taken, one_more}
 use Rattle.vyrd_live.proofs.watch.Watch.take_all_when_allowed.Goals as goal
 
 pub loop-event-init : goal.loop-event-init

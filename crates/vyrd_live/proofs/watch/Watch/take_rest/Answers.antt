@@ -1,5 +1,4 @@
-use Rattle.std.proofs.Common.{◌∙◌}
-use Rattle.vyrd_live.proofs.BesideLaws.{takes_in_then}
+use Rattle.vyrd_live.proofs.Prelude.{◌∙◌, takes_in_then}
 use Rattle.vyrd_live.proofs.watch.Watch.take_rest.Goals as goal
 
 pub loop-preserved : goal.loop-preserved

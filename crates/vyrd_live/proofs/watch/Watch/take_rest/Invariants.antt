@@ -1,5 +1,4 @@
-use Rattle.std.proofs.Common.{◌≡◌}
-use Rattle.vyrd_live.specs.Beside.{TakesIn, lanes_sent}
+use Rattle.vyrd_live.proofs.Prelude.{◌≡◌, TakesIn, lanes_sent}
 use Rattle.vyrd_live.proofs.watch.Watch.take_rest.Given as goal
 
 abbrev pub invariant-loop : goal.invariant-loop

@@ -1,5 +1,4 @@
-use Rattle.std.proofs.Common.{refl, arith}
-use Rattle.vyrd_live.proofs.BesideLaws.{goes_on_same, goes_on_then}
+use Rattle.vyrd_live.proofs.Prelude.{refl, arith, goes_on_same, goes_on_then}
 use Rattle.vyrd_live.proofs.watch.Watch.take_round.Goals as goal
 
 pub loop-taken-init : goal.loop-taken-init

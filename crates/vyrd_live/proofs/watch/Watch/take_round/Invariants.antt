@@ -1,5 +1,4 @@
-use Rattle.std.proofs.Common.{◌≡◌}
-use Rattle.vyrd_live.specs.Beside.{GoesOn}
+use Rattle.vyrd_live.proofs.Prelude.{◌≡◌, GoesOn}
 use Rattle.vyrd_live.proofs.watch.Watch.take_round.Given as goal
 
 -- before the first event all is as it was

@@ -1,6 +1,4 @@
-use Rattle.std.proofs.Common.{ap, sym, ◌∙◌}
-use Rattle.vyrd_relay.specs.Ends.{with_popped}
-use Rattle.vyrd_live.proofs.BesideLaws.{goes_on_with}
+use Rattle.vyrd_live.proofs.Prelude.{ap, sym, ◌∙◌, with_popped, goes_on_with}
 use Rattle.vyrd_live.proofs.watch.Watch.take_when_allowed.Goals as goal
 
 pub returns-clause-goes_on : goal.returns-clause-goes_on

@@ -1,9 +1,8 @@
 -- The room that is made is the bound of the next operation.
-use Rattle.std.proofs.Common.{◌≡◌, ◌+◌, ◌<◌, max, length, Ok, Err, ap, ◌∙◌, sym, subst}
-use Rattle.std.specs.Prelude.{Result}
+use Rattle.vyrd_live.proofs.Prelude.{Result, with_spare}
+use Rattle.std.proofs.Common.{Ok, ◌≡◌, ◌+◌, ◌<◌, max, length, Err, ap, ◌∙◌, sym, subst}
 use Rattle.vyrd_trace.specs.declared.hand.Reserve.{Reserve}
 use Rattle.vyrd_trace.specs.declared.hand.Reserve.TheVariants as reserve
-use Rattle.vyrd_trace.specs.Hands.{with_spare}
 use Rattle.vyrd_live.proofs.RoomLaws.{room_made}
 use Rattle.vyrd_live.proofs.worker.Worker.make_room.Goals as goal
 

@@ -1,13 +1,8 @@
 -- Event by event the lane is what the script wants, with room for each operation before it begins.
-use Rattle.std.proofs.Common.{◌≡◌, ◌≢◌, ℕ, List, Err, arith, length, refl, ap, ◌∙◌, sym, subst}
-use Rattle.std.proofs.Common.{rules}
-use Rattle.vyrd_base.specs.declared.history.Stamped.{Stamped}
-use Rattle.vyrd_memory.specs.declared.act.Act.TheVariants.{Done}
-use Rattle.vyrd_memory.specs.Scripts.{next_act, after_answer}
-use Rattle.vyrd_trace.specs.Hands.{HandView}
-use Rattle.vyrd_live.specs.Rooms.{HadRoom, HasNoRoom}
-use Rattle.vyrd_live.specs.Working.{dids_of, IsWorking, HasRoomAhead}
-use Rattle.vyrd_live.specs.Acts.{HasActed, MayAct}
+use Rattle.vyrd_live.proofs.Prelude.{◌≡◌, ◌≢◌, ℕ, List, Err, arith, length, refl, ap, ◌∙◌, sym}
+use Rattle.vyrd_live.proofs.Prelude.{subst, rules, Stamped, Done, next_act, after_answer, HandView}
+use Rattle.vyrd_live.proofs.Prelude.{HadRoom, HasNoRoom, dids_of, IsWorking, HasRoomAhead, HasActed}
+use Rattle.vyrd_live.proofs.Prelude.{MayAct}
 use Rattle.vyrd_live.proofs.RoomLaws.{room_for_one}
 use Rattle.vyrd_live.proofs.FitLaws.{next_may}
 use Rattle.vyrd_live.proofs.SendingLaws.{sent_same, sent_before}

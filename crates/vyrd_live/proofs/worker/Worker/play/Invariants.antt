@@ -1,7 +1,4 @@
-use Rattle.std.proofs.Common.{◌≡◌, ◌+◌, ◌≤◌, length}
-use Rattle.vyrd_trace.specs.Hands.{IsOf}
-use Rattle.vyrd_live.specs.Working.{IsWorking}
-use Rattle.vyrd_live.specs.Sending.{HasSent}
+use Rattle.vyrd_live.proofs.Prelude.{◌≡◌, ◌+◌, ◌≤◌, length, IsOf, IsWorking, HasSent}
 use Rattle.vyrd_live.proofs.worker.Worker.play.Given as goal
 
 abbrev pub invariant-loop-self : goal.invariant-loop-self

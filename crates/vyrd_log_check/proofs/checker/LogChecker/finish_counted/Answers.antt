@@ -1,11 +1,7 @@
-use Rattle.std.proofs.Common.{◌≡◌, ℕ, ◌+◌, ◌≤◌, List, subst}
-use Rattle.std.specs.Prelude.{IfOk}
-use Rattle.vyrd_base.specs.LogVerdicts.{log_verdict}
-use Rattle.vyrd_log_check.specs.Checking.{LogCheckerState, HasChecked}
-use Rattle.vyrd_log_check.specs.CheckerView.{log_checker_in}
+use Rattle.vyrd_log_check.proofs.Prelude.{◌≡◌, ℕ, ◌+◌, ◌≤◌, List, subst, IfOk, log_verdict}
+use Rattle.vyrd_log_check.proofs.Prelude.{LogCheckerState, HasChecked, log_checker_in, finish_cost}
 use Rattle.vyrd_log_check.proofs.CheckedLaws.{own_ends, first_ends}
 use Rattle.vyrd_log_check.proofs.CostLaws.{own_ended, first_ended}
-use Rattle.vyrd_log_check.specs.Costs.{finish_cost}
 use Rattle.vyrd_log_check.proofs.checker.LogChecker.finish_counted.Goals as goal
 
 pub returns-in-Some-clause-verdict : goal.returns-in-Some-clause-verdict

@@ -1,15 +1,10 @@
-use Rattle.std.proofs.Common.{◌≡◌, ◌+◌, ◌≤◌, ◌++◌, ℕ, List, Some, None, subst, sym}
-use Rattle.std.specs.Prelude.{IfOk, OnOk}
-use Rattle.std.proofs.lemmas.Result.{on_ok_weaker}
-use Rattle.vyrd_base.specs.LogVerdicts.{log_verdict_so_far}
-use Rattle.vyrd_log_check.specs.Checking.{LogCheckerState, HasChecked}
-use Rattle.vyrd_log_check.specs.Beginnings.{Matches}
-use Rattle.vyrd_log_check.specs.CheckerView.{log_checker_in}
+use Rattle.vyrd_log_check.proofs.Prelude.{◌≡◌, ◌+◌, ◌≤◌, ◌++◌, ℕ, List, Some, None, subst, sym}
+use Rattle.vyrd_log_check.proofs.Prelude.{IfOk, OnOk, on_ok_weaker, log_verdict_so_far}
+use Rattle.vyrd_log_check.proofs.Prelude.{LogCheckerState, HasChecked, Matches, log_checker_in}
+use Rattle.vyrd_log_check.proofs.Prelude.{bytes_cost, checker_debt, debt_by}
 use Rattle.vyrd_log_check.proofs.BeginningLaws.{other_longer}
 use Rattle.vyrd_log_check.proofs.CheckedLaws.{own_answers, own_follows, first_answers}
 use Rattle.vyrd_log_check.proofs.CheckedLaws.{first_follows, never_is}
-use Rattle.vyrd_log_check.specs.Costs.{bytes_cost}
-use Rattle.vyrd_log_check.specs.Owed.{checker_debt, debt_by}
 use Rattle.vyrd_log_check.proofs.CostLaws.{own_paid, first_paid}
 use Rattle.vyrd_log_check.proofs.checker.LogChecker.follow.Goals as goal
 

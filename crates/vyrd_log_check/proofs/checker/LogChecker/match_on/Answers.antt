@@ -1,14 +1,10 @@
-use Rattle.std.proofs.Common.{◌≡◌, ◌+◌, ◌≤◌, ◌++◌, ℕ, List, Some, None, ap, subst, sym, ◌∙◌}
-use Rattle.std.specs.Prelude.{IfOk, OnOk}
-use Rattle.std.proofs.lemmas.Result.{on_ok_weaker}
-use Rattle.vyrd_base.specs.LogVerdicts.{log_verdict_so_far}
-use Rattle.vyrd_log_check.specs.Checking.{LogCheckerState, HasChecked}
-use Rattle.vyrd_log_check.specs.CheckerView.{log_checker_in}
+use Rattle.vyrd_log_check.proofs.Prelude.{◌≡◌, ◌+◌, ◌≤◌, ◌++◌, ℕ, List, Some, None, ap, subst, sym}
+use Rattle.vyrd_log_check.proofs.Prelude.{◌∙◌, IfOk, OnOk, on_ok_weaker, log_verdict_so_far}
+use Rattle.vyrd_log_check.proofs.Prelude.{LogCheckerState, HasChecked, log_checker_in, bytes_cost}
+use Rattle.vyrd_log_check.proofs.Prelude.{checker_debt, debt_by}
 use Rattle.vyrd_log_check.proofs.BeginningLaws.{is_place, isnt_place, matches_on}
 use Rattle.vyrd_log_check.proofs.CheckedLaws.{matched_is, first_answers, first_follows}
 use Rattle.vyrd_log_check.proofs.CheckedLaws.{started_answers, started_follows}
-use Rattle.vyrd_log_check.specs.Costs.{bytes_cost}
-use Rattle.vyrd_log_check.specs.Owed.{checker_debt, debt_by}
 use Rattle.vyrd_log_check.proofs.CostLaws.{started_paid, first_paid}
 use Rattle.vyrd_log_check.proofs.checker.LogChecker.match_on.Goals as goal
 

@@ -1,13 +1,8 @@
-use Rattle.std.proofs.Common.{◌≡◌, ℕ, ◌+◌, true, List, [], ◌∷◌, length, drop, Option, Some, None}
-use Rattle.std.proofs.Common.{ap, sym, ◌∙◌, Bor}
-use Rattle.std.specs.Prelude.{get_or, is_some, nat_lt, MatchOption, IfSome}
-use Rattle.std.specs.List.{list_all}
-use Rattle.std.specs.Option.{option_copied}
-use Rattle.std.proofs.Math.ListN.{drop_of_length-le}
+use Rattle.vyrd_memory.proofs.Prelude
+use Prelude.{◌≡◌, ℕ, ◌+◌, true, List, [], ◌∷◌, length, drop, Option, Some, None, ap, sym, ◌∙◌, Bor}
+use Prelude.{get_or, is_some, nat_lt, MatchOption, IfSome, list_all, option_copied}
+use Prelude.{drop_of_length-le, Header, below_of, not_below_of, first_true, Op}
 use Rattle.std.proofs.lemmas.List.{drop_more}
-use Rattle.vyrd_base.specs.declared.header.Header.{Header}
-use Rattle.vyrd_base.proofs.TestLaws.{below_of, not_below_of, first_true}
-use Rattle.vyrd_memory.specs.declared.op.Op.{Op}
 use Rattle.vyrd_memory.specs.Players.{are_callable, is_callable}
 use Rattle.vyrd_memory.proofs.player.Player.next_op.Goals as goal
 

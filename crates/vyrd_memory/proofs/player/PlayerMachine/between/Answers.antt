@@ -1,5 +1,4 @@
-use Rattle.std.proofs.Common.{◌≡◌, Bool, true, false, not, ◌∙◌, sym, ap}
-use Rattle.std.specs.Prelude.{drop, is_some}
+use Rattle.vyrd_memory.proofs.Prelude.{◌≡◌, Bool, true, false, not, ◌∙◌, sym, ap, drop, is_some}
 use Rattle.vyrd_memory.specs.Laws.Player.{player_between}
 use Rattle.vyrd_memory.proofs.player.PlayerMachine.between.Goals as goal
 

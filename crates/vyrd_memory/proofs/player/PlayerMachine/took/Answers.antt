@@ -1,7 +1,4 @@
-use Rattle.std.proofs.Common.{◌∙◌, sym}
-use Rattle.std.specs.Prelude.{drop}
-use Rattle.std.specs.Option.{option_map_or}
-use Rattle.vyrd_memory.specs.Scripts.{stop}
+use Rattle.vyrd_memory.proofs.Prelude.{◌∙◌, sym, drop, option_map_or, stop}
 use Rattle.vyrd_memory.specs.Laws.Player.{player_goes_on}
 use Rattle.vyrd_memory.proofs.player.PlayerMachine.took.Goals as goal
 

@@ -1,7 +1,4 @@
-use Rattle.std.proofs.Common.{◌∙◌, sym}
-use Rattle.std.specs.Prelude.{drop}
-use Rattle.vyrd_memory.specs.Underway.{IsUnderway}
-use Rattle.vyrd_memory.specs.Laws.Underway.{of_some, underway_sound}
+use Rattle.vyrd_memory.proofs.Prelude.{◌∙◌, sym, drop, IsUnderway, of_some, underway_sound}
 use Rattle.vyrd_memory.specs.Laws.Player.{player_wants}
 use Rattle.vyrd_memory.proofs.player.PlayerMachine.wants.Goals as goal
 

@@ -1,12 +1,9 @@
 -- The operation under way is sound and ends in time, so that its next place is, unless nothing is
 -- left there: then this is its return.
-use Rattle.std.proofs.Common.{◌∙◌, sym, ap, arith}
-use Rattle.std.specs.Option.{option_map_or}
-use Rattle.vyrd_memory.specs.Scripts.{stop, next_act, after_answer, IsAnswer}
-use Rattle.vyrd_memory.specs.Underway.{IsUnderway}
-use Rattle.vyrd_memory.specs.Laws.Underway.{of_some, is_of_some, underway_sound, underway_goes_on}
-use Rattle.vyrd_memory.specs.Laws.Underway.{underway_left, underway_next, underway_over}
-use Rattle.vyrd_memory.specs.Laws.Underway.{underway_ends}
+use Rattle.vyrd_memory.proofs.Prelude.{◌∙◌, sym, ap, arith, option_map_or, stop, next_act}
+use Rattle.vyrd_memory.proofs.Prelude.{after_answer, IsAnswer, IsUnderway, of_some, underway_sound}
+use Rattle.vyrd_memory.specs.Laws.Underway.{is_of_some, underway_goes_on, underway_left}
+use Rattle.vyrd_memory.specs.Laws.Underway.{underway_next, underway_over, underway_ends}
 use Rattle.vyrd_memory.proofs.underway.Underway.go_on.Goals as goal
 
 pub took-requires-clause-sound : goal.took-requires-clause-sound

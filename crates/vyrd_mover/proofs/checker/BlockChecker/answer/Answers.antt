@@ -1,9 +1,5 @@
-use Rattle.std.proofs.Common.{◌≡◌, ◌∙◌, map, ap, sym, subst}
-use Rattle.vyrd_base.specs.Histories.{cells_of}
-use Rattle.vyrd_mover.specs.declared.blocks.Blocks.TheVariants.{Reducible}
-use Rattle.vyrd_mover.specs.Blocks.{blocks_of}
-use Rattle.vyrd_mover.specs.Steps.{step_coded}
-use Rattle.vyrd_mover.specs.Taking.{HasTaken}
+use Rattle.vyrd_mover.proofs.Prelude.{◌≡◌, ◌∙◌, map, ap, sym, subst, cells_of, Reducible, blocks_of}
+use Rattle.vyrd_mover.proofs.Prelude.{step_coded, HasTaken}
 use Rattle.vyrd_mover.proofs.CheckLaws.{answer_is, each_is_gathered}
 use Rattle.vyrd_mover.proofs.checker.BlockChecker.answer.Goals as goal
 

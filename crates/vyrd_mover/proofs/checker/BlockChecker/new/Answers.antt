@@ -1,8 +1,5 @@
-use Rattle.std.proofs.Common.{◌∙◌, [], map, replicate, ap, sym, subst}
-use Rattle.vyrd_mover.specs.Steps.{step_coded}
-use Rattle.vyrd_mover.specs.LockSets.{words_for}
-use Rattle.vyrd_mover.specs.Usage.{unused}
-use Rattle.vyrd_mover.specs.Taking.{HasTaken}
+use Rattle.vyrd_mover.proofs.Prelude.{◌∙◌, [], map, replicate, ap, sym, subst, step_coded}
+use Rattle.vyrd_mover.proofs.Prelude.{words_for, unused, HasTaken}
 use Rattle.vyrd_mover.proofs.TakingLaws.{taken_nothing}
 use Rattle.vyrd_mover.proofs.checker.BlockChecker.new.Goals as goal
 

@@ -1,6 +1,5 @@
-use Rattle.std.proofs.Common.{◌≡◌, ◌∙◌, [], ◌∷◌, ◌++◌, map, ap, sym, subst}
-use Rattle.vyrd_mover.specs.Steps.{step_coded, code_of, step_of}
-use Rattle.vyrd_mover.specs.Taking.{HasTaken, IsNext}
+use Rattle.vyrd_mover.proofs.Prelude.{◌≡◌, ◌∙◌, [], ◌∷◌, ◌++◌, map, ap, sym, subst, step_coded}
+use Rattle.vyrd_mover.proofs.Prelude.{code_of, step_of, HasTaken, IsNext}
 use Rattle.vyrd_mover.proofs.TakingLaws.{taken_more}
 use Rattle.vyrd_mover.proofs.checker.BlockChecker.take.Goals as goal
 

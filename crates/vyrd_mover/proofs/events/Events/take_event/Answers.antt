@@ -1,6 +1,4 @@
-use Rattle.std.proofs.Common.{refl, ap, sym, ◌∙◌, subst}
-use Rattle.vyrd_mover.specs.HistoryReading.{unless_broken}
-use Rattle.vyrd_mover.specs.EventsRead.{HaveReadOn}
+use Rattle.vyrd_mover.proofs.Prelude.{refl, ap, sym, ◌∙◌, subst, unless_broken, HaveReadOn}
 use Rattle.vyrd_mover.proofs.EventsReadLaws.{counted, broken, may_follow, below_callers, in_ledger}
 use Rattle.vyrd_mover.proofs.events.Events.take_event.Goals as goal
 

@@ -1,6 +1,4 @@
-use Rattle.std.proofs.Common.{refl, sym, ◌∙◌, subst}
-use Rattle.std.specs.Prelude.{OnOk}
-use Rattle.vyrd_mover.specs.EventsRead.{HaveReadOn}
+use Rattle.vyrd_mover.proofs.Prelude.{refl, sym, ◌∙◌, subst, OnOk, HaveReadOn}
 use Rattle.vyrd_mover.proofs.EventLaws.{event_in_sound}
 use Rattle.vyrd_mover.proofs.EventsReadLaws.{line_says}
 use Rattle.vyrd_mover.proofs.events.Events.take_line.Goals as goal

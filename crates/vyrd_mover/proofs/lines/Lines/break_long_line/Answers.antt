@@ -1,7 +1,5 @@
-use Rattle.std.proofs.Common.{◌∙◌, ap, sym, cond}
-use Rattle.vyrd_base.proofs.ListLaws.{isnt_some}
-use Rattle.vyrd_mover.specs.declared.fault.HistoryRule.TheVariants.{AfterEnd, BadLine}
-use Rattle.vyrd_mover.specs.HistoryReading.{refused, unless_too_many}
+use Rattle.vyrd_mover.proofs.Prelude.{◌∙◌, ap, sym, cond, isnt_some, AfterEnd, BadLine, refused}
+use Rattle.vyrd_mover.proofs.Prelude.{unless_too_many}
 use Rattle.vyrd_mover.proofs.LinesLaws.{value_of, long_first, long_later}
 use Rattle.vyrd_mover.proofs.lines.Lines.break_long_line.Goals as goal
 use Rattle.vyrd_mover.proofs.lines.Lines.break_long_line.Goals.{then-is_none}

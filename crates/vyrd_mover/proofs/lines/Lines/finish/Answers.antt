@@ -1,5 +1,4 @@
-use Rattle.std.proofs.Common.{◌∙◌, ap, sym}
-use Rattle.vyrd_mover.specs.HistoryReading.{refused}
+use Rattle.vyrd_mover.proofs.Prelude.{◌∙◌, ap, sym, refused}
 use Rattle.vyrd_mover.proofs.LinesLaws.{ends_first, ends_later, at_later}
 use Rattle.vyrd_mover.proofs.lines.Lines.finish.Goals as goal
 

@@ -1,5 +1,4 @@
-use Rattle.std.proofs.Common.{◌≡◌, ◌<◌, ◌+◌, ◌∙◌, bit_and, get_or, set, length, arith, sym}
-use Rattle.std.proofs.Common.{subst}
+use Rattle.std.proofs.Common.{◌≡◌, ◌<◌, ◌+◌, ◌∙◌, bit_and, get_or, set, length, arith, sym, subst}
 use Rattle.std.proofs.lemmas.Grind.{get_or_default_zero}
 use Rattle.vyrd_mover.proofs.LockLaws.{IsMet, met_none, met_more, met_all}
 use Rattle.vyrd_mover.proofs.lock_set.LockSet.intersect_with.Goals as goal

@@ -1,5 +1,4 @@
-use Rattle.std.proofs.Common.{arith}
-use Rattle.vyrd_mover.specs.LockSets.{has_lock}
+use Rattle.vyrd_mover.proofs.Prelude.{arith, has_lock}
 use Rattle.vyrd_mover.proofs.LockLaws.{has_none, word_is_0}
 use Rattle.vyrd_mover.proofs.lock_set.LockSet.is_empty.Goals as goal
 

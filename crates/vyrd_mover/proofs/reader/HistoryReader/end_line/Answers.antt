@@ -1,6 +1,5 @@
-use Rattle.std.proofs.Common.{◌∙◌, ◌++◌, ◌∷◌, [], append_assoc, ap, sym, subst}
-use Rattle.vyrd_base.proofs.SplitLaws.{lacks}
-use Rattle.vyrd_mover.specs.HistoryReaders.{HasRead, ReaderState, IsAt}
+use Rattle.vyrd_mover.proofs.Prelude.{◌∙◌, ◌++◌, ◌∷◌, [], append_assoc, ap, sym, subst, lacks}
+use Rattle.vyrd_mover.proofs.Prelude.{HasRead, ReaderState, IsAt}
 use Rattle.vyrd_mover.proofs.ReaderLaws.{nothing_unfinished, whole_line}
 use Rattle.vyrd_mover.proofs.reader.HistoryReader.end_line.Goals as goal
 

@@ -1,5 +1,4 @@
-use Rattle.std.proofs.Common.{◌∙◌, ◌++◌, sym}
-use Rattle.vyrd_mover.specs.HistoryReaders.{HasRead, ReaderState}
+use Rattle.vyrd_mover.proofs.Prelude.{◌∙◌, ◌++◌, sym, HasRead, ReaderState}
 use Rattle.vyrd_mover.proofs.LinesLaws.{still_at_fault}
 use Rattle.vyrd_mover.proofs.ReaderLaws.{nothing_unfinished, fed_line, fed_all}
 use Rattle.vyrd_mover.proofs.FrontLaws.{fed_then}

@@ -1,5 +1,4 @@
-use Rattle.std.proofs.Common.{ℕ, List, length}
-use Rattle.vyrd_mover.specs.HistoryReaders.{HasRead, IsFedTo}
+use Rattle.vyrd_mover.proofs.Prelude.{ℕ, List, length, HasRead, IsFedTo}
 use Rattle.vyrd_mover.proofs.reader.HistoryReader.feed.Given as goal
 
 abbrev pub invariant-loop-line : goal.invariant-loop-line

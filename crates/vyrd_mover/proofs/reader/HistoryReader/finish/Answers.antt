@@ -1,9 +1,6 @@
-use Rattle.std.proofs.Common.{◌∙◌, ◌++◌, ap, sym, subst}
+use Rattle.vyrd_mover.proofs.Prelude.{◌∙◌, ◌++◌, ap, sym, subst, Reducible, history_reading}
+use Rattle.vyrd_mover.proofs.Prelude.{AreBlocksOf, HasRead}
 use Rattle.std.specs.Prelude.{IfOk}
-use Rattle.vyrd_mover.specs.declared.blocks.Blocks.TheVariants.{Reducible}
-use Rattle.vyrd_mover.specs.HistoryReading.{history_reading}
-use Rattle.vyrd_mover.specs.EventsRead.{AreBlocksOf}
-use Rattle.vyrd_mover.specs.HistoryReaders.{HasRead}
 use Rattle.vyrd_mover.proofs.ReaderLaws.{gathered_of}
 use Rattle.vyrd_mover.proofs.reader.HistoryReader.finish.Goals as goal
 

@@ -1,6 +1,5 @@
-use Rattle.std.proofs.Common.{◌∙◌, ◌<◌, ◌≤◌, ◌++◌, length, length-append, arith, sym, subst}
-use Rattle.vyrd_base.proofs.SplitLaws.{lacks-append}
-use Rattle.vyrd_mover.specs.HistoryReaders.{HasRead, ReaderState}
+use Rattle.vyrd_mover.proofs.Prelude.{◌∙◌, ◌<◌, ◌≤◌, ◌++◌, length, length-append, arith, sym, subst}
+use Rattle.vyrd_mover.proofs.Prelude.{lacks-append, HasRead, ReaderState}
 use Rattle.vyrd_mover.proofs.LinesLaws.{still_at_fault}
 use Rattle.vyrd_mover.proofs.ReaderLaws.{nothing_unfinished, more_unfinished}
 use Rattle.vyrd_mover.proofs.reader.HistoryReader.put.Goals as goal

@@ -1,5 +1,4 @@
-use Rattle.std.proofs.Common.{◌++◌, sym, subst}
-use Rattle.vyrd_mover.specs.HistoryReaders.{HasRead, ReaderState}
+use Rattle.vyrd_mover.proofs.Prelude.{◌++◌, sym, subst, HasRead, ReaderState}
 use Rattle.vyrd_mover.proofs.ReaderLaws.{fed_nothing}
 use Rattle.vyrd_mover.proofs.FrontLaws.{front_fed}
 use Rattle.vyrd_mover.proofs.reader.HistoryReader.take_events.Goals as goal

@@ -1,19 +1,10 @@
-use Rattle.std.proofs.Common.{◌≡◌, ℕ, suc, ◌+◌, ◌-◌, ◌<◌, List, [], ◌∷◌, ◌∙◌, map, arith, ap, sym}
-use Rattle.std.proofs.Common.{subst, get_or, take, drop, length, drop-cons, length-drop}
+use Rattle.vyrd_mover.proofs.Prelude
+use Prelude.{◌≡◌, ℕ, suc, ◌+◌, ◌-◌, ◌<◌, List, [], ◌∷◌, ◌∙◌, map, arith, ap, sym, subst, get_or}
+use Prelude.{take, drop, length, drop-cons, Header, Read, Stamped, newest_first, cells_of, Step}
+use Prelude.{line_of, is_race_free, step_coded, step_of, IsWithin, preceded_by, UsageKept, HasTaken}
+use Rattle.std.proofs.Common.{length-drop}
 use Rattle.std.proofs.Math.Seq.{drop-length}
-use Rattle.vyrd_base.specs.declared.header.Header.{Header}
-use Rattle.vyrd_base.specs.declared.history.Did.TheVariants.{Read}
-use Rattle.vyrd_base.specs.declared.history.Stamped.{Stamped}
-use Rattle.vyrd_base.specs.Places.{newest_first}
-use Rattle.vyrd_base.specs.Histories.{cells_of}
 use Rattle.vyrd_base.proofs.HeaderLaws.{some_callers}
-use Rattle.vyrd_mover.specs.declared.step.Step.{Step}
-use Rattle.vyrd_mover.specs.Blocks.{line_of}
-use Rattle.vyrd_mover.specs.RaceFree.{is_race_free}
-use Rattle.vyrd_mover.specs.Steps.{step_coded, step_of, IsWithin}
-use Rattle.vyrd_mover.specs.Ahead.{preceded_by}
-use Rattle.vyrd_mover.specs.Usage.{UsageKept}
-use Rattle.vyrd_mover.specs.Taking.{HasTaken}
 use Rattle.vyrd_mover.proofs.LegalPlaces.{MayCome, legal_event, in_range}
 use Rattle.vyrd_mover.proofs.StepLaws.{codes_count, code_at, role_within}
 use Rattle.vyrd_mover.proofs.SurveyLaws.{IsSurvey, survey_begins, survey_goes_on}

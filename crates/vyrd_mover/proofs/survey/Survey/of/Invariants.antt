@@ -1,9 +1,5 @@
-use Rattle.std.proofs.Common.{List, map, drop}
-use Rattle.vyrd_base.specs.declared.history.Stamped.{Stamped}
-use Rattle.vyrd_base.specs.Histories.{cells_of}
-use Rattle.vyrd_mover.specs.RaceFree.{is_race_free}
-use Rattle.vyrd_mover.specs.Steps.{step_coded}
-use Rattle.vyrd_mover.specs.Taking.{HasTaken}
+use Rattle.vyrd_mover.proofs.Prelude.{List, map, drop, Stamped, cells_of, is_race_free, step_coded}
+use Rattle.vyrd_mover.proofs.Prelude.{HasTaken}
 use Rattle.vyrd_mover.proofs.SurveyLaws.{IsSurvey}
 use Rattle.vyrd_mover.proofs.survey.Survey.of.Given as goal
 

@@ -1,5 +1,4 @@
-use Rattle.std.proofs.Common.{◌≡◌, ◌||◌, ◌∙◌, not, ap, sym, subst}
-use Rattle.vyrd_mover.specs.Usage.{IsUse, is_shared}
+use Rattle.vyrd_mover.proofs.Prelude.{◌≡◌, ◌||◌, ◌∙◌, not, ap, sym, subst, IsUse, is_shared}
 use Rattle.vyrd_mover.proofs.SeenLaws.{free_at_once, free_by_locks}
 use Rattle.vyrd_mover.proofs.UsageLaws.{at_once_true, at_once_second}
 use Rattle.vyrd_mover.proofs.usage.Usage.is_race_free.Goals as goal

@@ -1,6 +1,4 @@
-use Rattle.std.proofs.Common.{◌≡◌, ◌||◌, ◌∙◌, cond, ap, sym}
-use Rattle.vyrd_mover.specs.LockSets.{in_both}
-use Rattle.vyrd_mover.specs.Usage.{joined, is_used}
+use Rattle.vyrd_mover.proofs.Prelude.{◌≡◌, ◌||◌, ◌∙◌, cond, ap, sym, in_both, joined, is_used}
 use Rattle.vyrd_mover.proofs.UsageLaws.{when_unused, when_used, same_use, or_is_true, or_is_second}
 use Rattle.vyrd_mover.proofs.usage.Usage.see.Goals as goal
 use Rattle.vyrd_mover.proofs.usage.Usage.see.Goals.{in-Nobody+in_ok-self-inside, in_default}

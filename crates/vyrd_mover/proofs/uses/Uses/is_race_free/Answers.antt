@@ -1,5 +1,4 @@
-use Rattle.std.proofs.Common.{◌≡◌, ◌<◌, get_or, arith, ap, ◌∙◌, sym, subst}
-use Rattle.vyrd_mover.specs.Usage.{IsUse}
+use Rattle.vyrd_mover.proofs.Prelude.{◌≡◌, ◌<◌, get_or, arith, ap, ◌∙◌, sym, subst, IsUse}
 use Rattle.vyrd_mover.proofs.uses.Uses.is_race_free.Goals as goal
 
 pub returns : goal.returns

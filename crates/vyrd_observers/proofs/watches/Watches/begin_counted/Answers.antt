@@ -1,18 +1,12 @@
-use Rattle.std.proofs.Common.{◌≡◌, ◌+◌, ◌*◌, ◌≤◌, ⊎_elim, Option, Some, true, List, [], ◌∷◌, length}
-use Rattle.std.proofs.Common.{map, set, slice_get, refl, subst, ap, sym, ◌∙◌, arith}
-use Rattle.std.proofs.lemmas.List.{set-set, length-set}
-use Rattle.std.proofs.lemmas.Option.{slice_get_within}
-use Rattle.vyrd_base.specs.Entries.{has_method}
-use Rattle.vyrd_base.proofs.ListLaws.{slice_get-is}
-use Rattle.vyrd_observers.specs.declared.watch.Watch.{Watch}
-use Rattle.vyrd_observers.specs.Watching.{Watched, Seen, unwatched, open_count, answer_count}
-use Rattle.vyrd_observers.specs.Trails.{Asked, seen_by, with_asker, kept_by}
-use Rattle.vyrd_observers.specs.Costs.{owed}
-use Rattle.vyrd_observers.specs.Order.{AreInOrder}
+use Rattle.vyrd_observers.proofs.Prelude
+use Prelude.{◌≡◌, ◌+◌, ◌*◌, ◌≤◌, ⊎_elim, Option, Some, true, List, [], ◌∷◌, length, map, set}
+use Prelude.{slice_get, refl, subst, ap, sym, ◌∙◌, arith, length-set, slice_get_within, has_method}
+use Prelude.{slice_get-is, Watch, Watched, Seen, unwatched, open_count, answer_count, Asked}
+use Prelude.{seen_by, with_asker, kept_by, owed, AreInOrder}
+use Rattle.std.proofs.lemmas.List.{set-set}
 use Rattle.vyrd_observers.proofs.CostLaws.{owed_by, owed_closed, answers_set, kept_set}
-use Rattle.vyrd_observers.proofs.TrailLaws.{seen_recounted, trail_of_seen}
+use Rattle.vyrd_observers.proofs.TrailLaws.{seen_recounted, trail_of_seen, trail_stays}
 use Rattle.vyrd_observers.proofs.CallersSee.{read_is, begins_seen}
-use Rattle.vyrd_observers.proofs.TrailLaws.{trail_stays}
 use Rattle.vyrd_observers.proofs.TrailCounts.{keeps_few, order_closed, order_begun, made_few}
 use Rattle.vyrd_observers.proofs.TrailCounts.{few_begun, few_askers}
 use Rattle.vyrd_observers.proofs.watches.Watches.begin_counted.Goals as goal

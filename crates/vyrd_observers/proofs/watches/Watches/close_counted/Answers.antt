@@ -1,6 +1,5 @@
-use Rattle.std.proofs.Common.{◌+◌, ◌*◌, ◌≤◌, set, ap, subst, ◌∙◌}
-use Rattle.vyrd_observers.specs.Watching.{Watched, unwatched}
-use Rattle.vyrd_observers.specs.Costs.{owed}
+use Rattle.vyrd_observers.proofs.Prelude.{◌+◌, ◌*◌, ◌≤◌, set, ap, subst, ◌∙◌, Watched, unwatched}
+use Rattle.vyrd_observers.proofs.Prelude.{owed}
 use Rattle.vyrd_observers.proofs.CostLaws.{owed_by, owed_closed}
 use Rattle.vyrd_observers.proofs.TrailCounts.{keeps_few, order_closed}
 use Rattle.vyrd_observers.proofs.watches.Watches.close_counted.Goals as goal

@@ -1,15 +1,11 @@
-use Rattle.std.proofs.Common.{◌≡◌, ◌+◌, ◌*◌, ◌≤◌, Some, None, ◌∷◌, length, set, drop, slice_get}
-use Rattle.std.proofs.Common.{subst, ap, sym, ◌∙◌, arith}
-use Rattle.std.proofs.lemmas.Option.{slice_get_within}
-use Rattle.vyrd_observers.specs.Watching.{Watched, KeepsFew, Seen, unwatched, has_answer}
-use Rattle.vyrd_observers.specs.Trails.{Asked, seen_from}
-use Rattle.vyrd_observers.specs.Costs.{owed}
-use Rattle.vyrd_observers.specs.Trails.{seen_by}
+use Rattle.vyrd_observers.proofs.Prelude.{◌≡◌, ◌+◌, ◌*◌, ◌≤◌, Some, None, ◌∷◌, length, set, drop}
+use Rattle.vyrd_observers.proofs.Prelude.{slice_get, subst, ap, sym, ◌∙◌, arith, slice_get_within}
+use Rattle.vyrd_observers.proofs.Prelude.{Watched, KeepsFew, Seen, unwatched, has_answer, Asked}
+use Rattle.vyrd_observers.proofs.Prelude.{seen_from, owed, seen_by, same_Some}
 use Rattle.vyrd_observers.proofs.CostLaws.{owed_by, owed_ended}
 use Rattle.vyrd_observers.proofs.CallersSee.{read_is, watch_read, seen_there, closed_stays}
 use Rattle.vyrd_observers.proofs.TrailCounts.{keeps_few, order_closed}
 use Rattle.vyrd_observers.proofs.watches.Watches.end_counted.Goals as goal
-use Rattle.std.proofs.lemmas.Option.{same_Some}
 
 pub index-requires-in-Some : goal.index-requires-in-Some
 index-requires-in-Some g c =

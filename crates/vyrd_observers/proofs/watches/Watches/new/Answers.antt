@@ -1,6 +1,4 @@
-use Rattle.std.proofs.Common.{ap, ◌∙◌}
-use Rattle.std.specs.Prelude.{replicate}
-use Rattle.vyrd_observers.specs.Watching.{unwatched}
+use Rattle.vyrd_observers.proofs.Prelude.{ap, ◌∙◌, replicate, unwatched}
 use Rattle.vyrd_observers.proofs.CostLaws.{nothing_owed}
 use Rattle.vyrd_observers.proofs.CallersSee.{none_watched}
 use Rattle.vyrd_observers.proofs.watches.Watches.new.Goals as goal

@@ -1,9 +1,6 @@
-use Rattle.vyrd_base.specs.Rules.{rules_by}
-use Rattle.std.proofs.Common.{length, map, slice_get, subst, ap, sym, ◌∙◌, arith}
-use Rattle.std.proofs.lemmas.List.{length-map}
-use Rattle.vyrd_observers.specs.Watching.{Watched}
-use Rattle.vyrd_observers.specs.Watching.{AreCurrent, AllSee}
-use Rattle.vyrd_observers.specs.Trails.{AreAsking, after_state, seen_by}
+use Rattle.vyrd_observers.proofs.Prelude.{rules_by, length, map, slice_get, subst, ap, sym, ◌∙◌}
+use Rattle.vyrd_observers.proofs.Prelude.{arith, length-map, Watched, AreCurrent, AllSee, AreAsking}
+use Rattle.vyrd_observers.proofs.Prelude.{after_state, seen_by}
 use Rattle.vyrd_observers.proofs.SeeingLaws.{seen_all, seen_current}
 use Rattle.vyrd_observers.proofs.CallersSee.{callers_see}
 use Rattle.vyrd_observers.proofs.TrailCounts.{keeps_few}

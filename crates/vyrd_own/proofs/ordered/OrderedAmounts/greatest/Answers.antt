@@ -1,5 +1,4 @@
-use Rattle.std.proofs.Common.{ap, ◌∙◌}
-use Rattle.vyrd_base.specs.Own.Expressions.{greatest_to}
+use Rattle.vyrd_own.proofs.Prelude.{ap, ◌∙◌, greatest_to}
 use Rattle.vyrd_own.proofs.OrderLaws.{greatest_found, greatest_none}
 use Rattle.vyrd_own.proofs.ordered.OrderedAmounts.greatest.Goals as goal
 

@@ -1,5 +1,4 @@
-use Rattle.std.proofs.Common.{ap, ◌∙◌}
-use Rattle.vyrd_base.specs.Own.Expressions.{least_from}
+use Rattle.vyrd_own.proofs.Prelude.{ap, ◌∙◌, least_from}
 use Rattle.vyrd_own.proofs.OrderLaws.{least_found, least_none}
 use Rattle.vyrd_own.proofs.ordered.OrderedAmounts.least.Goals as goal
 

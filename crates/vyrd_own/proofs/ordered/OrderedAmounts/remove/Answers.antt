@@ -1,6 +1,5 @@
-use Rattle.std.proofs.Common.{subst, sym, ap, ◌∙◌}
-use Rattle.vyrd_base.specs.Amounts.{IsAmounts, with_amount}
-use Rattle.vyrd_base.proofs.AmountLaws.{IsAmounts-with_amount}
+use Rattle.vyrd_own.proofs.Prelude.{subst, sym, ap, ◌∙◌, IsAmounts, with_amount}
+use Rattle.vyrd_own.proofs.Prelude.{IsAmounts-with_amount}
 use Rattle.vyrd_base.proofs.AmountMaps.{remove-with_amount}
 use Rattle.vyrd_own.proofs.ordered.OrderedAmounts.remove.Goals as goal
 

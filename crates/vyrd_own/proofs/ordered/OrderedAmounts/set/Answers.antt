@@ -1,8 +1,6 @@
-use Rattle.std.proofs.Common.{subst, sym, ap, ◌∙◌}
-use Rattle.std.specs.Prelude.{unwrap_or}
+use Rattle.vyrd_own.proofs.Prelude.{subst, sym, ap, ◌∙◌, unwrap_or, IsAmounts, amount_of}
+use Rattle.vyrd_own.proofs.Prelude.{with_amount, IsAmounts-with_amount}
 use Rattle.std.proofs.lemmas.Result.{err_from_is_err_and}
-use Rattle.vyrd_base.specs.Amounts.{IsAmounts, amount_of, with_amount}
-use Rattle.vyrd_base.proofs.AmountLaws.{IsAmounts-with_amount}
 use Rattle.vyrd_base.proofs.AmountMaps.{lookup-find, insert-with_amount}
 use Rattle.vyrd_own.proofs.ordered.OrderedAmounts.set.Goals as goal
 

@@ -1,6 +1,5 @@
-use Rattle.std.proofs.Common.{ap, ◌∙◌}
-use Rattle.std.specs.Prelude.{filter, nat_le, slice_index_or, reverse}
-use Rattle.vyrd_base.specs.Own.Expressions.{most, greatest_to}
+use Rattle.vyrd_own.proofs.Prelude.{ap, ◌∙◌, filter, nat_le, slice_index_or, reverse, most}
+use Rattle.vyrd_own.proofs.Prelude.{greatest_to}
 use Rattle.vyrd_own.proofs.MarkLaws.{keys_of-marked}
 use Rattle.vyrd_own.proofs.shown.ShownAmounts.greatest.Goals as goal
 

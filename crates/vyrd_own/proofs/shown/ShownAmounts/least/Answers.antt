@@ -1,6 +1,4 @@
-use Rattle.std.proofs.Common.{ap, ◌∙◌}
-use Rattle.std.specs.Prelude.{filter, nat_le, slice_index_or}
-use Rattle.vyrd_base.specs.Own.Expressions.{most, least_from}
+use Rattle.vyrd_own.proofs.Prelude.{ap, ◌∙◌, filter, nat_le, slice_index_or, most, least_from}
 use Rattle.vyrd_own.proofs.MarkLaws.{keys_of-marked}
 use Rattle.vyrd_own.proofs.shown.ShownAmounts.least.Goals as goal
 

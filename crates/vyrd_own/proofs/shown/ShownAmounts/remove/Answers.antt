@@ -1,7 +1,5 @@
-use Rattle.std.proofs.Common.{ap, sym, ◌∙◌, subst}
-use Rattle.vyrd_base.specs.Amounts.{IsAmounts, with_amount}
-use Rattle.vyrd_base.proofs.AmountLaws.{IsAmounts-with_amount}
-use Rattle.vyrd_own.specs.Marks.{marked}
+use Rattle.vyrd_own.proofs.Prelude.{ap, sym, ◌∙◌, subst, IsAmounts, with_amount}
+use Rattle.vyrd_own.proofs.Prelude.{IsAmounts-with_amount, marked}
 use Rattle.vyrd_own.proofs.MarkLaws.{marked_with}
 use Rattle.vyrd_own.proofs.shown.ShownAmounts.remove.Goals as goal
 

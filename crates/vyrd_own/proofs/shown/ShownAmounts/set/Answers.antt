@@ -1,8 +1,5 @@
-use Rattle.std.proofs.Common.{◌≡◌, ap, sym, ◌∙◌, subst}
-use Rattle.std.specs.Prelude.{min}
-use Rattle.vyrd_base.specs.Amounts.{IsAmounts, amount_of, with_amount}
-use Rattle.vyrd_base.proofs.AmountLaws.{IsAmounts-with_amount}
-use Rattle.vyrd_own.specs.Marks.{marked}
+use Rattle.vyrd_own.proofs.Prelude.{◌≡◌, ap, sym, ◌∙◌, subst, min, IsAmounts, amount_of}
+use Rattle.vyrd_own.proofs.Prelude.{with_amount, IsAmounts-with_amount, marked}
 use Rattle.vyrd_own.proofs.MarkLaws.{unmarked, marked_with, marked_stays}
 use Rattle.vyrd_own.proofs.SetLaws.{taken_back}
 use Rattle.vyrd_own.proofs.shown.ShownAmounts.set.Goals as goal

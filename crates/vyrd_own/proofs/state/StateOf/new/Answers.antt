@@ -1,7 +1,4 @@
-use Rattle.std.proofs.Common.{sym, subst, ◌∙◌, ap, []}
-use Rattle.vyrd_base.specs.Amounts.{IsAmounts}
-use Rattle.vyrd_base.specs.Own.Steps.{hidden_with}
-use Rattle.vyrd_base.proofs.AmountLaws.{no_amounts}
+use Rattle.vyrd_own.proofs.Prelude.{sym, subst, ◌∙◌, ap, [], IsAmounts, hidden_with, no_amounts}
 use Rattle.vyrd_own.proofs.SetLaws.{formed_set}
 use Rattle.vyrd_own.proofs.state.StateOf.new.Goals as goal
 

@@ -1,14 +1,9 @@
-use Rattle.std.proofs.Common.{◌≡◌, ℕ, ◌+◌, ◌≤◌, Bool, true, false, cond, List, [], length, ap}
-use Rattle.std.proofs.Common.{sym, ◌∙◌, subst, arith}
-use Rattle.vyrd_base.specs.Amounts.{Amounts, IsAmounts}
-use Rattle.vyrd_base.proofs.AmountLaws.{no_amounts}
-use Rattle.vyrd_base.specs.Own.Steps.{with_effects}
-use Rattle.vyrd_own.specs.Apart.{lists_after}
+use Rattle.vyrd_own.proofs.Prelude.{◌≡◌, ℕ, ◌+◌, ◌≤◌, Bool, true, false, cond, List, [], length, ap}
+use Rattle.vyrd_own.proofs.Prelude.{sym, ◌∙◌, subst, arith, Amounts, IsAmounts, no_amounts}
+use Rattle.vyrd_own.proofs.Prelude.{with_effects, lists_after, Effect, shown_after, hidden_after}
+use Rattle.vyrd_own.proofs.Prelude.{sets_price}
 use Rattle.vyrd_own.proofs.SetLaws.{formed_set}
 use Rattle.vyrd_own.proofs.ApartLaws.{each_part}
-use Rattle.vyrd_base.specs.declared.own.effect.Effect.{Effect}
-use Rattle.vyrd_own.specs.Sets.{shown_after, hidden_after}
-use Rattle.vyrd_own.specs.Prices.{sets_price}
 use Rattle.vyrd_own.proofs.PriceLaws.{sets_split, gathered_few}
 use Rattle.vyrd_own.proofs.state.StateOf.put_all_counted.Goals as goal
 

@@ -1,5 +1,4 @@
-use Rattle.std.proofs.Common.{ap, sym, ◌∙◌, arith}
-use Rattle.std.specs.Prelude.{◌||◌}
+use Rattle.vyrd_own.proofs.Prelude.{ap, sym, ◌∙◌, arith, ◌||◌}
 use Rattle.vyrd_own.proofs.ApartLaws.{clears_more, shown_more, hidden_more, or_of}
 use Rattle.vyrd_own.proofs.updates.Updates.gather.Goals as goal
 use Rattle.vyrd_own.proofs.updates.Updates.gather.Goals.{then-branch, else-branch}

@@ -1,8 +1,5 @@
-use Rattle.std.proofs.Common.{◌≡◌, ◌≤◌, ◌+◌, drop, []}
-use Rattle.std.specs.Prelude.{◌||◌}
-use Rattle.std.specs.List.{list_any}
-use Rattle.vyrd_base.specs.Own.Steps.{is_clearing}
-use Rattle.vyrd_own.specs.Sets.{shown_after, hidden_after}
+use Rattle.vyrd_own.proofs.Prelude.{◌≡◌, ◌≤◌, ◌+◌, drop, [], ◌||◌, list_any, is_clearing}
+use Rattle.vyrd_own.proofs.Prelude.{shown_after, hidden_after}
 use Rattle.vyrd_own.proofs.updates.Updates.gather.Given as goal
 
 abbrev pub invariant-loop-effect : goal.invariant-loop-effect

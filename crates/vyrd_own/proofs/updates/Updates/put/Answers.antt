@@ -1,6 +1,4 @@
-use Rattle.std.proofs.Common.{ap, sym, ◌∙◌, subst}
-use Rattle.vyrd_base.specs.Own.Steps.{hidden_with}
-use Rattle.vyrd_own.specs.Sets.{AreAdded}
+use Rattle.vyrd_own.proofs.Prelude.{ap, sym, ◌∙◌, subst, hidden_with, AreAdded}
 use Rattle.vyrd_own.proofs.updates.Updates.put.Goals as goal
 
 pub returns-in-Err-clause-shown_same : goal.returns-in-Err-clause-shown_same

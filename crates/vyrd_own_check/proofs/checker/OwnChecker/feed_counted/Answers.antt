@@ -1,8 +1,6 @@
-use Rattle.std.proofs.Common.{◌≡◌, [], ◌++◌, refl, append_assoc, append-nil, take-append-drop, ap}
-use Rattle.std.proofs.Common.{subst, sym, ◌∙◌}
-use Rattle.vyrd_base.specs.Own.LogVerdicts.{own_text_verdict_so_far}
-use Rattle.vyrd_own_check.specs.Checking.{HasChecked}
-use Rattle.vyrd_own_check.specs.CheckerView.{checker_in}
+use Rattle.vyrd_own_check.proofs.Prelude.{◌≡◌, [], ◌++◌, refl, append_assoc, append-nil, ap, subst}
+use Rattle.vyrd_own_check.proofs.Prelude.{sym, ◌∙◌, own_text_verdict_so_far, HasChecked, checker_in}
+use Rattle.std.proofs.Common.{take-append-drop}
 use Rattle.vyrd_own_check.proofs.CheckedLaws.{so_far_is, checked_all, checked_stands, empty_of}
 use Rattle.vyrd_own_check.proofs.CostLaws.{first_part, parts_paid, stands_paid, all_paid}
 use Rattle.vyrd_own_check.proofs.checker.OwnChecker.feed_counted.Goals as goal

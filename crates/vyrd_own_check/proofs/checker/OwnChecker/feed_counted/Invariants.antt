@@ -1,9 +1,5 @@
-use Rattle.std.proofs.Common.{◌≡◌, ◌+◌, ◌≤◌, ◌++◌, List, ℕ, false, length}
-use Rattle.vyrd_own_check.specs.Checking.{limit_of, HasChecked}
-use Rattle.vyrd_own_check.specs.Costs.{bytes_cost}
-use Rattle.vyrd_own_check.specs.Owed.{checker_debt}
-use Rattle.vyrd_own_check.specs.KeptView.{kept_in}
-use Rattle.vyrd_own_check.specs.CheckerView.{checker_in}
+use Rattle.vyrd_own_check.proofs.Prelude.{◌≡◌, ◌+◌, ◌≤◌, ◌++◌, List, ℕ, false, length, limit_of}
+use Rattle.vyrd_own_check.proofs.Prelude.{HasChecked, bytes_cost, checker_debt, kept_in, checker_in}
 use Rattle.vyrd_own_check.proofs.checker.OwnChecker.feed_counted.Given as goal
 
 abbrev pub invariant-loop-rest : goal.invariant-loop-rest

@@ -1,9 +1,5 @@
-use Rattle.std.proofs.Common.{◌++◌, subst, sym}
+use Rattle.vyrd_own_check.proofs.Prelude.{◌++◌, subst, sym, IsLimit, FollowsBy, checker_in, kept_in}
 use Rattle.std.proofs.Math.Logic.{∥∥₁_map}
-use Rattle.vyrd_base.specs.Limits.{IsLimit}
-use Rattle.vyrd_own_check.specs.Checking.{FollowsBy}
-use Rattle.vyrd_own_check.specs.CheckerView.{checker_in}
-use Rattle.vyrd_own_check.specs.KeptView.{kept_in}
 use Rattle.vyrd_own_check.proofs.CostLaws.{part_paid}
 use Rattle.vyrd_own_check.proofs.checker.OwnChecker.feed_part.Goals as goal
 

@@ -1,6 +1,4 @@
-use Rattle.std.proofs.Common.{[], subst, sym}
-use Rattle.vyrd_base.specs.Limits.{IsLimit}
-use Rattle.vyrd_own_check.specs.KeptView.{kept_in}
+use Rattle.vyrd_own_check.proofs.Prelude.{[], subst, sym, IsLimit, kept_in}
 use Rattle.vyrd_own_check.proofs.CostLaws.{unread, nothing_owed}
 use Rattle.vyrd_own_check.proofs.checker.OwnChecker.new.Goals as goal
 

@@ -1,5 +1,4 @@
-use Rattle.std.proofs.Common.{get_or, ap, ◌∙◌}
-use Rattle.vyrd_own_check.specs.Numbers.{number_from}
+use Rattle.vyrd_own_check.proofs.Prelude.{get_or, ap, ◌∙◌, number_from}
 use Rattle.vyrd_own_check.proofs.NumberLaws.{number_there, number_past}
 use Rattle.vyrd_own_check.proofs.numbers.LineNumbers.number_or.Goals as goal
 

@@ -1,6 +1,5 @@
-use Rattle.std.proofs.Common.{◌++◌, ◌∷◌, [], length, ap, ◌∙◌, arith}
+use Rattle.vyrd_own_check.proofs.Prelude.{◌++◌, ◌∷◌, [], length, ap, ◌∙◌, arith, number_from}
 use Rattle.vyrd_base.proofs.PlaceLaws.{length_below}
-use Rattle.vyrd_own_check.specs.Numbers.{number_from}
 use Rattle.vyrd_own_check.proofs.NumberLaws.{numbers_more, are_more}
 use Rattle.vyrd_own_check.proofs.numbers.LineNumbers.push.Goals as goal
 

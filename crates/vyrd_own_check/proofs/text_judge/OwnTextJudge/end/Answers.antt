@@ -1,16 +1,8 @@
-use Rattle.std.proofs.Common.{◌+◌, ◌≤◌, subst, sym, ap, ◌∙◌}
-use Rattle.std.proofs.Math.Logic.{∥∥₁_elim}
-use Rattle.vyrd_base.specs.Rules.{rules_by}
-use Rattle.vyrd_base.specs.Own.LogVerdicts.{own_text_verdict}
-use Rattle.vyrd_base.specs.Verdicts.{verdict}
-use Rattle.vyrd_base.specs.declared.verdict.Verdict.TheVariants.{Malformed}
-use Rattle.vyrd_own_check.specs.KeptView.{kept_in}
-use Rattle.vyrd_own_check.specs.LogReadings.{read_so_far}
-use Rattle.vyrd_own_check.specs.Checking.{limit_of, IsJudging}
-use Rattle.vyrd_base.specs.Own.Log.{OwnReading}
+use Rattle.vyrd_own_check.proofs.Prelude.{◌+◌, ◌≤◌, subst, sym, ap, ◌∙◌, ∥∥₁_elim, rules_by}
+use Rattle.vyrd_own_check.proofs.Prelude.{own_text_verdict, verdict, Malformed, kept_in}
+use Rattle.vyrd_own_check.proofs.Prelude.{read_so_far, limit_of, IsJudging, OwnReading, where_same}
 use Rattle.vyrd_own_check.proofs.CostLaws.{end_is}
 use Rattle.vyrd_own_check.proofs.ReadingFacts.{whole_faulty, whole_accepted, not_ended}
-use Rattle.vyrd_judge.proofs.EndFacts.{where_same}
 use Rattle.vyrd_own_check.proofs.text_judge.OwnTextJudge.end.Goals as goal
 
 pub returns-in-Err-Malformed-clause-verdict : goal.returns-in-Err-Malformed-clause-verdict

@@ -1,15 +1,10 @@
-use Rattle.std.proofs.Common.{◌+◌, ◌≤◌, ◌++◌, ap, subst, sym, ◌∙◌}
-use Rattle.std.specs.Option.{option_or}
-use Rattle.vyrd_base.specs.Own.LogVerdicts.{told_in_text}
-use Rattle.vyrd_own_log.specs.ReaderView.{state_in}
-use Rattle.vyrd_own_check.specs.KeptView.{kept_in}
-use Rattle.vyrd_own_check.specs.LogReadings.{read_so_far}
-use Rattle.vyrd_own_check.specs.Checking.{OwnCheckerKept, limit_of}
+use Rattle.vyrd_own_check.proofs.Prelude.{◌+◌, ◌≤◌, ◌++◌, ap, subst, sym, ◌∙◌, option_or}
+use Rattle.vyrd_own_check.proofs.Prelude.{told_in_text, state_in, kept_in, read_so_far}
+use Rattle.vyrd_own_check.proofs.Prelude.{OwnCheckerKept, limit_of, judge_owes, following_cost}
 use Rattle.vyrd_own_check.proofs.ReadingFacts.{first_none, none_told}
 use Rattle.vyrd_own_check.proofs.FedLaws.{Fed, grown_on, numbers_room, fed_own, fed_follows}
 use Rattle.vyrd_own_check.proofs.FedLaws.{fed_ready, fed_room, fed_answer, fed_undecided, fed_paid}
 use Rattle.vyrd_own_check.proofs.EndedLaws.{ended_answer, ended_undecided, ended_paid}
-use Rattle.vyrd_own_check.specs.Owed.{judge_owes, following_cost}
 use Rattle.vyrd_own_check.proofs.text_judge.OwnTextJudge.take_in.Goals as goal
 
 pub extend-requires : goal.extend-requires

@@ -1,7 +1,4 @@
-use Rattle.std.proofs.Common.{sym, subst, arith}
-use Rattle.vyrd_own_log.specs.declared.stage.Found.{Found}
-use Rattle.vyrd_own_log.specs.States.{LineState, IsSteady}
-use Rattle.vyrd_own_log.specs.StateView.{state_of}
+use Rattle.vyrd_own_log.proofs.Prelude.{sym, subst, arith, Found, LineState, IsSteady, state_of}
 use Rattle.vyrd_own_log.proofs.SteadyLaws.{entry_is, starts_is}
 use Rattle.vyrd_own_log.proofs.line_reader.LineReader.take_line.Goals as goal
 

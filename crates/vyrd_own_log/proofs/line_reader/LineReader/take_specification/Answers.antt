@@ -1,9 +1,6 @@
-use Rattle.std.proofs.Common.{◌≡◌, true, ap, sym, ◌∙◌, subst}
-use Rattle.vyrd_base.specs.Own.Reader.{SoFar}
+use Rattle.vyrd_own_log.proofs.Prelude.{◌≡◌, true, ap, sym, ◌∙◌, subst, SoFar, Found, are_callable}
+use Rattle.vyrd_own_log.proofs.Prelude.{LineState}
 use Rattle.vyrd_own_text.specs.Meaning.{so_far}
-use Rattle.vyrd_own_log.specs.declared.stage.Found.{Found}
-use Rattle.vyrd_own_log.specs.Callable.{are_callable}
-use Rattle.vyrd_own_log.specs.States.{LineState}
 use Rattle.vyrd_own_log.proofs.CallableLaws.{next_callable}
 use Rattle.vyrd_own_log.proofs.line_reader.LineReader.take_specification.Goals as goal
 

@@ -1,8 +1,5 @@
-use Rattle.std.proofs.Common.{◌++◌, ap, sym, ◌∙◌}
-use Rattle.vyrd_own_log.specs.KeptView.{kept_of}
-use Rattle.vyrd_own_log.specs.StateView.{state_of}
-use Rattle.vyrd_own.specs.Layout.{texts}
-use Rattle.vyrd_own_log.specs.Steps.{own_step, lines_of}
+use Rattle.vyrd_own_log.proofs.Prelude.{◌++◌, ap, sym, ◌∙◌, kept_of, state_of, texts, own_step}
+use Rattle.vyrd_own_log.proofs.Prelude.{lines_of}
 use Rattle.vyrd_own_log.proofs.ReadLaws.{line_fed, line_kept, three_ok, any_ok}
 use Rattle.vyrd_own_log.proofs.piece_reader.PieceReader.end_line.Goals as goal
 

@@ -1,9 +1,5 @@
-use Rattle.std.proofs.Common.{[], ◌++◌, ap, sym, refl, ◌∙◌}
-use Rattle.std.proofs.lemmas.List.{append-nil}
-use Rattle.vyrd_own_log.specs.KeptView.{kept_of}
-use Rattle.vyrd_own_log.specs.StateView.{state_of}
-use Rattle.vyrd_own.specs.Layout.{texts}
-use Rattle.vyrd_own_log.specs.Steps.{own_step, lines_of}
+use Rattle.vyrd_own_log.proofs.Prelude.{[], ◌++◌, ap, sym, refl, ◌∙◌, append-nil, kept_of, state_of}
+use Rattle.vyrd_own_log.proofs.Prelude.{texts, own_step, lines_of}
 use Rattle.vyrd_own_log.proofs.ReadLaws.{line_fed, line_kept, three_ok, any_ok}
 use Rattle.vyrd_own_log.proofs.piece_reader.PieceReader.end_unfinished.Goals as goal
 

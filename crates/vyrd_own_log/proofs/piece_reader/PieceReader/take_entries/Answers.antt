@@ -1,5 +1,4 @@
-use Rattle.std.proofs.Common.{◌≡◌, ◌≤◌, [], rules, refl, sym, arith}
-use Rattle.vyrd_own_log.specs.KeptView.{kept_of}
+use Rattle.vyrd_own_log.proofs.Prelude.{◌≡◌, ◌≤◌, [], rules, refl, sym, arith, kept_of}
 use Rattle.vyrd_own_log.proofs.ReadLaws.{no_fault}
 use Rattle.vyrd_own_log.proofs.FrontLaws.{nothing_front, one_more_fed, behind_shorter}
 use Rattle.vyrd_own_log.proofs.piece_reader.PieceReader.take_entries.Goals as goal

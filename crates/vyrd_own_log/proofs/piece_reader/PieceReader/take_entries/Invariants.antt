@@ -1,6 +1,4 @@
-use Rattle.std.proofs.Common.{◌+◌, ◌-◌, ◌≤◌, length}
-use Rattle.vyrd_own_log.specs.KeptView.{kept_of}
-use Rattle.vyrd_own_log.specs.Readers.{IsFedFront, IsSound}
+use Rattle.vyrd_own_log.proofs.Prelude.{◌+◌, ◌-◌, ◌≤◌, length, kept_of, IsFedFront, IsSound}
 use Rattle.vyrd_own_log.proofs.FrontLaws.{at_line}
 use Rattle.vyrd_own_log.proofs.piece_reader.PieceReader.take_entries.Given as goal
 

@@ -1,7 +1,4 @@
-use Rattle.std.proofs.Common.{◌∷◌, [], ap, ℕ}
-use Rattle.std.specs.Global.{Vec}
-use Rattle.vyrd_own.specs.Layout.{texts}
-use Rattle.vyrd_own_log.specs.KeptView.{kept_of}
+use Rattle.vyrd_own_log.proofs.Prelude.{◌∷◌, [], ap, ℕ, Vec, texts, kept_of}
 use Rattle.vyrd_own_log.proofs.ReadLaws.{fed_then, taken_fed, one_ok}
 use Rattle.vyrd_own_log.proofs.piece_reader.PieceReader.take_line.Goals as goal
 

@@ -1,8 +1,4 @@
-use Rattle.std.specs.Global.{Vec}
-use Rattle.vyrd_own.specs.Layout.{texts}
-use Rattle.std.proofs.Common.{ℕ, ap, sym, ◌∙◌, subst}
-use Rattle.vyrd_own_log.specs.KeptView.{kept_of}
-use Rattle.vyrd_own_log.specs.Readers.{IsFed}
+use Rattle.vyrd_own_log.proofs.Prelude.{Vec, texts, ℕ, ap, sym, ◌∙◌, subst, kept_of, IsFed}
 use Rattle.vyrd_own_log.proofs.ReadLaws.{fed_then, taken_fed, one_ok}
 use Rattle.vyrd_own_log.proofs.FrontLaws.{line_front, front_then}
 use Rattle.vyrd_own_log.proofs.piece_reader.PieceReader.take_piece.Goals as goal

@@ -1,6 +1,4 @@
-use Rattle.std.proofs.Common.{◌≡◌, length}
-use Rattle.vyrd_own_log.specs.KeptView.{kept_of}
-use Rattle.vyrd_own_log.specs.Readers.{IsFedFront, IsSafe, IsSound}
+use Rattle.vyrd_own_log.proofs.Prelude.{◌≡◌, length, kept_of, IsFedFront, IsSafe, IsSound}
 use Rattle.vyrd_own_log.proofs.piece_reader.PieceReader.take_piece.Given as goal
 
 abbrev pub invariant-loop-line : goal.invariant-loop-line

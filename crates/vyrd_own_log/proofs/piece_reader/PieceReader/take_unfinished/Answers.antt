@@ -1,6 +1,5 @@
-use Rattle.std.proofs.Common.{sym, refl, ◌∙◌, length, ◌++◌, arith, length-append}
-use Rattle.vyrd_own_log.specs.KeptView.{kept_of}
-use Rattle.vyrd_own_log.specs.StateView.{state_of}
+use Rattle.vyrd_own_log.proofs.Prelude.{sym, refl, ◌∙◌, length, ◌++◌, arith, length-append, kept_of}
+use Rattle.vyrd_own_log.proofs.Prelude.{state_of}
 use Rattle.vyrd_own_log.proofs.ReadLaws.{fault_taken, rest_is, long_is, some_of, no_fault}
 use Rattle.vyrd_own_log.proofs.piece_reader.PieceReader.take_unfinished.Goals as goal
 

@@ -1,6 +1,4 @@
-use Rattle.std.proofs.Common.{subst}
-use Rattle.vyrd_text.specs.Answered.{IsAnswer}
-use Rattle.vyrd_own_log.specs.ReaderView.{state_in}
+use Rattle.vyrd_own_log.proofs.Prelude.{subst, IsAnswer, state_in}
 use Rattle.vyrd_own_log.proofs.ReadLaws.{fed_read, fed_entries, fed_numbers, fed_fault, unless}
 use Rattle.vyrd_own_log.proofs.ReadLaws.{ok_of}
 use Rattle.vyrd_own_log.proofs.reader.OwnLogReader.feed.Goals as goal

@@ -1,6 +1,4 @@
-use Rattle.std.proofs.Common.{subst}
-use Rattle.vyrd_text.specs.Answered.{IsAnswer}
-use Rattle.vyrd_own_log.specs.ReaderView.{state_in}
+use Rattle.vyrd_own_log.proofs.Prelude.{subst, IsAnswer, state_in}
 use Rattle.vyrd_own_log.proofs.ReadLaws.{end_fault_is, end_alike, end_ended}
 use Rattle.vyrd_own_log.proofs.reader.OwnLogReader.finish.Goals as goal
 

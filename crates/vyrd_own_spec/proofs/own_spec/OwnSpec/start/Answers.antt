@@ -1,8 +1,5 @@
-use Rattle.std.proofs.Common.{ℕ, List, length, ap, sym, ◌∙◌}
-use Rattle.std.specs.Arc.{arc_value}
-use Rattle.vyrd_base.specs.Own.OwnRules.{is_whole}
-use Rattle.vyrd_base.specs.Own.Reader.{written_in}
-use Rattle.vyrd_own.specs.Layout.{written}
+use Rattle.vyrd_own_spec.proofs.Prelude.{ℕ, List, length, ap, sym, ◌∙◌, arc_value, is_whole}
+use Rattle.vyrd_own_spec.proofs.Prelude.{written_in, written}
 use Rattle.vyrd_own_spec.proofs.StartLaws.{few_registers, whole_is}
 use Rattle.vyrd_own_spec.proofs.own_spec.OwnSpec.start.Goals as goal
 

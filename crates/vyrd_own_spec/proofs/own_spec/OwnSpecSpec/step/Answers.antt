@@ -1,6 +1,4 @@
-use Rattle.std.specs.Prelude.{◌==◌}
-use Rattle.std.specs.Arc.{arc_value}
-use Rattle.vyrd_base.specs.Own.Reader.{written_in}
+use Rattle.vyrd_own_spec.proofs.Prelude.{◌==◌, arc_value, written_in}
 use Rattle.vyrd_own_spec.proofs.TouchLaws.{touched_shown}
 use Rattle.vyrd_own_spec.proofs.own_spec.OwnSpecSpec.step.Goals as goal
 

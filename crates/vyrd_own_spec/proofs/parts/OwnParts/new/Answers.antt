@@ -1,8 +1,5 @@
-use Rattle.std.proofs.Common.{◌/◌, ap, sym, ◌∙◌, subst}
-use Rattle.vyrd_base.specs.Own.Programs.{Written}
-use Rattle.vyrd_base.specs.Own.Reader.{written_in}
-use Rattle.vyrd_own.specs.Layout.{show_of, written}
-use Rattle.vyrd_own_spec.specs.Parts.{width_of, AreFew}
+use Rattle.vyrd_own_spec.proofs.Prelude.{◌/◌, ap, sym, ◌∙◌, subst, Written, written_in, show_of}
+use Rattle.vyrd_own_spec.proofs.Prelude.{written, width_of, AreFew}
 use Rattle.vyrd_own_spec.proofs.PartLaws.{are_few}
 use Rattle.vyrd_own_spec.proofs.CallLaws.{length-mapped}
 use Rattle.vyrd_own_spec.proofs.parts.OwnParts.new.Goals as goal

@@ -1,6 +1,4 @@
-use Rattle.std.proofs.Common.{sym, subst}
-use Rattle.vyrd_own.specs.Layout.{texts}
-use Rattle.vyrd_own_spec.specs.Small.{IsSmall}
+use Rattle.vyrd_own_spec.proofs.Prelude.{sym, subst, texts, IsSmall}
 use Rattle.vyrd_own_spec.proofs.SmallLaws.{small_written}
 use Rattle.vyrd_own_spec.proofs.specification.Specification.new.Goals as goal
 

@@ -1,10 +1,6 @@
-use Rattle.std.proofs.Common.{ℕ, List, ◌≡◌, length, ap, subst, ◌∙◌}
-use Rattle.std.specs.Prelude.{IfOk, option_map}
-use Rattle.std.specs.Arc.{arc_value}
-use Rattle.vyrd_base.specs.Rules.{own, rules_by}
-use Rattle.vyrd_base.specs.Starts.{state_at_start}
+use Rattle.vyrd_own_states.proofs.Prelude.{ℕ, List, ◌≡◌, length, ap, subst, ◌∙◌, IfOk, option_map}
+use Rattle.vyrd_own_states.proofs.Prelude.{arc_value, own, rules_by, state_at_start, OwnSpec}
 use Rattle.vyrd_witness.proofs.StartWords.{length_start}
-use Rattle.vyrd_own_spec.specs.declared.own_spec.OwnSpec.{OwnSpec}
 use Rattle.vyrd_own_spec.proofs.StandingLaws.{own_plain}
 use Rattle.vyrd_own_states.proofs.BeginLaws.{begins_so}
 use Rattle.vyrd_own_states.proofs.begins.FromSpecificationBegins.begin.Goals as goal

@@ -1,5 +1,4 @@
-use Rattle.std.proofs.Common.{ap, ◌∙◌}
-use Rattle.vyrd_base.specs.Amounts.{amount_of}
+use Rattle.vyrd_own_states.proofs.Prelude.{ap, ◌∙◌, amount_of}
 use Rattle.vyrd_own_states.proofs.OwnShownLaws.{are_whole, whole_seen}
 use Rattle.vyrd_own_states.proofs.own_shown.OwnShownShown.amount.Goals as goal
 

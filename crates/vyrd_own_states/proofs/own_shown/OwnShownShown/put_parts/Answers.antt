@@ -1,5 +1,4 @@
-use Rattle.std.proofs.Common.{◌≡◌, ◌++◌, subst}
-use Rattle.std.specs.Prelude.{OnOk}
+use Rattle.vyrd_own_states.proofs.Prelude.{◌≡◌, ◌++◌, subst, OnOk}
 use Rattle.vyrd_own_states.proofs.OwnGivenLaws.{own_parts_told}
 use Rattle.vyrd_own_states.proofs.own_shown.OwnShownShown.put_parts.Goals as goal
 

@@ -1,8 +1,5 @@
-use Rattle.std.proofs.Common.{◌<◌, [], take, slice_get, sym, ap, subst, ◌∙◌}
-use Rattle.vyrd_base.specs.Words.{words_with}
-use Rattle.vyrd_base.proofs.ShadowLaws.{caller_kept}
-use Rattle.vyrd_plain.specs.OpenBlocks.{IsBlockOf}
-use Rattle.vyrd_base.proofs.KeptLaws.{rules_at}
+use Rattle.vyrd_plain.proofs.Prelude.{◌<◌, [], take, slice_get, sym, ap, subst, ◌∙◌, words_with}
+use Rattle.vyrd_plain.proofs.Prelude.{caller_kept, IsBlockOf, rules_at}
 use Rattle.vyrd_plain.proofs.EffectFacts.{one_read}
 use Rattle.vyrd_plain.proofs.BlockFacts.{AreBlocks, block_there, blocks_at, effects_next}
 use Rattle.vyrd_plain.proofs.effects.Effects.step.Goals as goal

@@ -1,8 +1,6 @@
-use Rattle.std.proofs.Common.{◌≡◌, ◌<◌, [], ◌++◌, ◌+◌, slice_set, take, drop, refl, sym, subst, ap}
-use Rattle.std.proofs.Common.{◌∙◌}
-use Rattle.vyrd_base.specs.Places.{newest_first}
-use Rattle.vyrd_base.specs.Words.{effects_at, words_with}
-use Rattle.vyrd_plain.specs.OpenBlocks.{IsBlockOf}
+use Rattle.vyrd_plain.proofs.Prelude.{◌≡◌, ◌<◌, [], ◌++◌, ◌+◌, slice_set, take, drop, refl, sym}
+use Rattle.vyrd_plain.proofs.Prelude.{subst, ap, ◌∙◌, newest_first, effects_at, words_with}
+use Rattle.vyrd_plain.proofs.Prelude.{IsBlockOf}
 use Rattle.vyrd_plain.proofs.EffectFacts.{one_effect, write_effects, outer_effects, word_fits}
 use Rattle.vyrd_plain.proofs.EffectFacts.{one_read}
 use Rattle.vyrd_plain.proofs.effects.Effects.take_effect.Goals as goal

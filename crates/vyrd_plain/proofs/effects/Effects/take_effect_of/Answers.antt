@@ -1,10 +1,7 @@
-use Rattle.std.proofs.Common.{◌≡◌, [], ◌++◌, ◌+◌, cond, Some, take, drop, refl, sym, subst, ap, ◌∙◌}
-use Rattle.std.proofs.Common.{arith}
+use Rattle.vyrd_plain.proofs.Prelude.{◌≡◌, [], ◌++◌, ◌+◌, cond, Some, take, drop, refl, sym, subst}
+use Rattle.vyrd_plain.proofs.Prelude.{ap, ◌∙◌, arith, length-take, newest_first, effects_at}
+use Rattle.vyrd_plain.proofs.Prelude.{words_with, writes_ahead, writes_in}
 use Rattle.std.proofs.lemmas.Bool.{not-false}
-use Rattle.std.proofs.lemmas.List.{length-take}
-use Rattle.vyrd_base.specs.Places.{newest_first}
-use Rattle.vyrd_base.specs.Words.{effects_at, words_with, writes_ahead}
-use Rattle.vyrd_plain.specs.OpenBlocks.{writes_in}
 use Rattle.vyrd_plain.proofs.EffectFacts.{commit_effects, end_effects, inner_effects, one_read}
 use Rattle.vyrd_plain.proofs.effects.Effects.take_effect_of.Goals as goal
 

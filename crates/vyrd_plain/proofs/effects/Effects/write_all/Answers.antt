@@ -1,5 +1,4 @@
-use Rattle.std.proofs.Common.{◌<◌, sym, subst, ap, ◌∙◌}
-use Rattle.vyrd_base.specs.Layout.{plain_words}
+use Rattle.vyrd_plain.proofs.Prelude.{◌<◌, sym, subst, ap, ◌∙◌, plain_words}
 use Rattle.vyrd_plain.proofs.EffectFacts.{written_next, other_next, quiet_next, word_fits}
 use Rattle.vyrd_plain.proofs.effects.Effects.write_all.Goals as goal
 use Rattle.vyrd_plain.proofs.effects.Effects.write_all.Goals.{then-entry-caller+in-Write}

@@ -1,6 +1,4 @@
-use Rattle.std.proofs.Common.{◌≡◌, ℕ, List, [], ◌++◌, take, drop}
-use Rattle.vyrd_base.specs.Words.{words_with}
-use Rattle.vyrd_plain.specs.OpenBlocks.{writes_in}
+use Rattle.vyrd_plain.proofs.Prelude.{◌≡◌, ℕ, List, [], ◌++◌, take, drop, words_with, writes_in}
 use Rattle.vyrd_plain.proofs.effects.Effects.write_all.Given as goal
 
 abbrev pub invariant-loop-at : goal.invariant-loop-at

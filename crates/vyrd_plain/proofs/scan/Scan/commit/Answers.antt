@@ -1,14 +1,10 @@
-use Rattle.std.proofs.Common.{◌≡◌, Ok, Some, sym, ap, subst, ◌∙◌, slice_get}
+use Rattle.vyrd_plain.proofs.Prelude.{◌≡◌, Ok, Some, sym, ap, subst, ◌∙◌, slice_get, Header, Rules}
+use Rattle.vyrd_plain.proofs.Prelude.{rules_by, map, set, seeing, with_commit, first_difference}
+use Rattle.vyrd_plain.proofs.Prelude.{CommitFaults, Reply, View}
 use Rattle.vyrd_base.specs.Subjects.{is_built_in}
-use Rattle.vyrd_base.specs.declared.header.Header.{Header}
-use Rattle.vyrd_base.specs.Rules.{Rules, rules_by}
-use Rattle.std.specs.Prelude.{map, set}
-use Rattle.vyrd_plain.specs.Executions.{seeing, with_commit}
-use Rattle.vyrd_base.specs.Amounts.{first_difference}
 use Rattle.vyrd_base.specs.Views.{view_of_words}
-use Rattle.vyrd_plain.specs.Outcomes.{CommitFaults, CommitGoes}
+use Rattle.vyrd_plain.specs.Outcomes.{CommitGoes}
 use Rattle.vyrd_base.proofs.KeptLaws.{method_subject, method_args}
-use Rattle.vyrd_base.specs.declared.verdict.Why.TheVariants.{Reply, View}
 use Rattle.vyrd_plain.proofs.OutcomeLaws.{for_execution, refused, differs}
 use Rattle.vyrd_base.proofs.ListLaws.{is_none}
 use Rattle.vyrd_plain.proofs.scan.Scan.commit.Goals as goal

@@ -1,11 +1,6 @@
-use Rattle.std.proofs.Common.{◌≡◌, ◌<◌, Some, length, set, slice_get, sym, ap, ◌∙◌, arith}
-use Rattle.std.proofs.lemmas.Option.{same_Some}
-use Rattle.vyrd_base.specs.Rules.{rules_by}
-use Rattle.vyrd_base.specs.Entries.{has_method}
-use Rattle.vyrd_base.proofs.BlockLaws.{by_same}
-use Rattle.vyrd_base.proofs.ListLaws.{slice_get-set_same, slice_get-set_other}
-use Rattle.vyrd_base.proofs.TestLaws.{apart_of}
-use Rattle.vyrd_plain.specs.Executions.{with_commit}
+use Rattle.vyrd_plain.proofs.Prelude.{◌≡◌, ◌<◌, Some, length, set, slice_get, sym, ap, ◌∙◌, arith}
+use Rattle.vyrd_plain.proofs.Prelude.{same_Some, rules_by, has_method, by_same, slice_get-set_same}
+use Rattle.vyrd_plain.proofs.Prelude.{slice_get-set_other, apart_of, with_commit}
 use Rattle.vyrd_plain.proofs.scan.Scan.mark_committed.Goals as goal
 
 pub see-requires-clause-allowed : goal.see-requires-clause-allowed

@@ -1,9 +1,5 @@
-use Rattle.std.proofs.Common.{◌+◌, take, drop, refl, ap, subst, ◌∙◌}
-use Rattle.std.specs.Result.{IfOk}
-use Rattle.vyrd_base.specs.Rules.{rules_by}
-use Rattle.vyrd_base.specs.Commits.{next_reply}
-use Rattle.vyrd_plain.specs.OpenBlocks.{HasEffects}
-use Rattle.vyrd_plain.specs.Outcomes.{CommitGives}
+use Rattle.vyrd_plain.proofs.Prelude.{◌+◌, take, drop, refl, ap, subst, ◌∙◌, IfOk, rules_by}
+use Rattle.vyrd_plain.proofs.Prelude.{next_reply, HasEffects, CommitGives}
 use Rattle.vyrd_plain.proofs.StepLaws.{known_at, same_entry, running, allowed_all, leads_as}
 use Rattle.vyrd_plain.proofs.StepLaws.{leads_for, call_allowed, return_called}
 use Rattle.vyrd_base.proofs.CommitLaws.{commits_by}

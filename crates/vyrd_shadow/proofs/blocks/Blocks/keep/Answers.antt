@@ -1,6 +1,5 @@
-use Rattle.std.proofs.Common.{◌≡◌, ◌∙◌, Some, None, ap, sym, true, false, set}
-use Rattle.std.proofs.lemmas.List.{get_or_read}
-use Rattle.vyrd_shadow.specs.Blocks.{kept_by, with_kept, is_at}
+use Rattle.vyrd_shadow.proofs.Prelude.{◌≡◌, ◌∙◌, Some, None, ap, sym, true, false, set, get_or_read}
+use Rattle.vyrd_shadow.proofs.Prelude.{kept_by, with_kept, is_at}
 use Rattle.vyrd_shadow.proofs.PlacedLaws.{place_is, replaced_in, replaced_length, pushed_in}
 use Rattle.vyrd_shadow.proofs.PlacedLaws.{pushed_length}
 use Rattle.vyrd_shadow.proofs.blocks.Blocks.keep.Goals as goal

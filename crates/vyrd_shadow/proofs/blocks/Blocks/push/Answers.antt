@@ -1,5 +1,4 @@
-use Rattle.std.proofs.Common.{None}
-use Rattle.std.proofs.lemmas.List.{get_or_read}
+use Rattle.vyrd_shadow.proofs.Prelude.{None, get_or_read}
 use Rattle.vyrd_shadow.proofs.PlacedLaws.{pushed_read}
 use Rattle.vyrd_shadow.proofs.blocks.Blocks.push.Goals as goal
 

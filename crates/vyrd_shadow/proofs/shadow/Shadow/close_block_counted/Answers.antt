@@ -1,9 +1,6 @@
-use Rattle.std.proofs.Common.{◌≡◌, ◌<◌, ◌-◌, true, length, None, ap, sym, subst, arith}
-use Rattle.vyrd_base.specs.declared.log.Kind.TheVariants.{BlockClose, BlockCommit}
-use Rattle.vyrd_base.specs.Shape.{broken_rule}
-use Rattle.vyrd_base.proofs.BlockLaws.{entry}
-use Rattle.vyrd_shadow.specs.Blocks.{kept_by}
-use Rattle.vyrd_shadow.specs.Following.{ShadowKept, HasFollowed, is_open}
+use Rattle.vyrd_shadow.proofs.Prelude.{◌≡◌, ◌<◌, ◌-◌, true, length, None, ap, sym, subst, arith}
+use Rattle.vyrd_shadow.proofs.Prelude.{BlockClose, BlockCommit, broken_rule, entry, kept_by}
+use Rattle.vyrd_shadow.proofs.Prelude.{ShadowKept, HasFollowed, is_open}
 use Rattle.vyrd_shadow.proofs.SoundLaws.{sound_closed, effect_is}
 use Rattle.vyrd_shadow.proofs.FollowLaws.{followed_close, followed_commit}
 use Rattle.vyrd_shadow.proofs.shadow.Shadow.close_block_counted.Goals as goal

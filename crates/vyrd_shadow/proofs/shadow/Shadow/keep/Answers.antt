@@ -1,6 +1,5 @@
-use Rattle.std.proofs.Common.{◌<◌, ◌+◌, Some, None, cond, ap, ◌∙◌, arith, get_or, length, refl}
-use Rattle.vyrd_base.specs.Layout.{plain_words}
-use Rattle.vyrd_shadow.specs.Blocks.{kept_by, with_kept}
+use Rattle.vyrd_shadow.proofs.Prelude.{◌<◌, ◌+◌, Some, None, cond, ap, ◌∙◌, arith, get_or, length}
+use Rattle.vyrd_shadow.proofs.Prelude.{refl, plain_words, kept_by, with_kept}
 use Rattle.vyrd_shadow.proofs.SoundLaws.{sound_kept}
 use Rattle.vyrd_shadow.proofs.shadow.Shadow.keep.Goals as goal
 

@@ -1,7 +1,4 @@
-use Rattle.std.proofs.Common.{[], ◌∙◌, ap, sym, subst}
-use Rattle.std.proofs.lemmas.Result.{IfOk-weaker}
-use Rattle.std.specs.Prelude.{replicate}
-use Rattle.vyrd_shadow.specs.Following.{HasFollowed}
+use Rattle.vyrd_shadow.proofs.Prelude.{[], ◌∙◌, ap, sym, subst, IfOk-weaker, replicate, HasFollowed}
 use Rattle.vyrd_shadow.proofs.FollowLaws.{followed_start, zeros_at_start}
 use Rattle.vyrd_shadow.proofs.shadow.Shadow.new.Goals as goal
 

@@ -1,8 +1,5 @@
-use Rattle.std.proofs.Common.{◌≡◌, ◌<◌, None, subst, sym, arith}
-use Rattle.vyrd_base.specs.declared.log.Kind.TheVariants.{BlockOpen}
-use Rattle.vyrd_base.specs.Shape.{broken_rule}
-use Rattle.vyrd_base.proofs.BlockLaws.{entry}
-use Rattle.vyrd_shadow.specs.Following.{ShadowKept, HasFollowed}
+use Rattle.vyrd_shadow.proofs.Prelude.{◌≡◌, ◌<◌, None, subst, sym, arith, BlockOpen, broken_rule}
+use Rattle.vyrd_shadow.proofs.Prelude.{entry, ShadowKept, HasFollowed}
 use Rattle.vyrd_shadow.proofs.FollowLaws.{followed_open}
 use Rattle.vyrd_shadow.proofs.shadow.Shadow.open_block_counted.Goals as goal
 

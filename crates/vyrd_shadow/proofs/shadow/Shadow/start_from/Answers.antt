@@ -1,6 +1,4 @@
-use Rattle.std.proofs.Common.{[], ◌∙◌, sym, subst}
-use Rattle.std.proofs.lemmas.Result.{IfOk-weaker}
-use Rattle.vyrd_shadow.specs.Following.{HasFollowed}
+use Rattle.vyrd_shadow.proofs.Prelude.{[], ◌∙◌, sym, subst, IfOk-weaker, HasFollowed}
 use Rattle.vyrd_shadow.proofs.FollowLaws.{followed_start}
 use Rattle.vyrd_shadow.proofs.shadow.Shadow.start_from.Goals as goal
 

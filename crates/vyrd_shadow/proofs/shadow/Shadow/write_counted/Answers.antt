@@ -1,8 +1,5 @@
-use Rattle.std.proofs.Common.{◌≡◌, ◌<◌, ◌∷◌, ◌++◌, [], sym, subst, arith, true, false, length}
-use Rattle.std.proofs.lemmas.Result.{on_ok_weaker}
-use Rattle.vyrd_base.specs.declared.log.Kind.TheVariants.{Write}
-use Rattle.vyrd_base.proofs.BlockLaws.{entry}
-use Rattle.vyrd_shadow.specs.Following.{HasFollowed, is_open}
+use Rattle.vyrd_shadow.proofs.Prelude.{◌≡◌, ◌<◌, ◌∷◌, ◌++◌, [], sym, subst, arith, true, false}
+use Rattle.vyrd_shadow.proofs.Prelude.{length, on_ok_weaker, Write, entry, HasFollowed, is_open}
 use Rattle.vyrd_shadow.proofs.FollowLaws.{followed_through, followed_kept}
 use Rattle.vyrd_shadow.proofs.PlacedLaws.{free_by_rules}
 use Rattle.vyrd_shadow.proofs.shadow.Shadow.write_counted.Goals as goal

@@ -1,5 +1,4 @@
-use Rattle.std.proofs.Common.{◌≤◌, length, refl, ap, sym, subst, arith}
-use Rattle.vyrd_shape.specs.Stamps.{AreGiven, SameOrder}
+use Rattle.vyrd_shape.proofs.Prelude.{◌≤◌, length, refl, ap, sym, subst, arith, AreGiven, SameOrder}
 use Rattle.vyrd_shape.proofs.OrderLaws.{kept_order, ranked_order}
 use Rattle.vyrd_shape.proofs.commits.Commits.add.Goals as goal
 use Rattle.vyrd_shape.proofs.commits.Commits.add.Goals.{then-self, else-self}

@@ -1,5 +1,4 @@
-use Rattle.std.proofs.Common.{◌≡◌, ◌<◌, ◌∙◌, sym, length, get_or}
-use Rattle.std.proofs.lemmas.List.{get_or_read}
+use Rattle.vyrd_shape.proofs.Prelude.{◌≡◌, ◌<◌, ◌∙◌, sym, length, get_or, get_or_read}
 use Rattle.vyrd_shape.proofs.ChainLaws.{linked_hold}
 use Rattle.vyrd_shape.proofs.holders.Holders.hold.Goals as goal
 

@@ -1,7 +1,5 @@
-use Rattle.std.proofs.Common.{◌≡◌, ◌<◌, ◌≤◌, ◌-◌, ◌∙◌, ap, sym, arith, length, get_or, not, true}
-use Rattle.std.specs.Prelude.{◌==◌}
-use Rattle.std.proofs.lemmas.List.{get_or_read}
-use Rattle.std.proofs.lemmas.Bool.Decides.{nat_tests}
+use Rattle.vyrd_shape.proofs.Prelude.{◌≡◌, ◌<◌, ◌≤◌, ◌-◌, ◌∙◌, ap, sym, arith, length, get_or, not}
+use Rattle.vyrd_shape.proofs.Prelude.{true, ◌==◌, get_or_read, nat_tests}
 use Rattle.vyrd_shape.proofs.ChainLaws.{another_none, another_is}
 use Rattle.vyrd_shape.proofs.holders.Holders.is_held_by_another.Goals as goal
 

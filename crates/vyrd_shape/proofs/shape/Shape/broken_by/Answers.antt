@@ -1,10 +1,6 @@
-use Rattle.std.proofs.Common.{◌≡◌, ◌<◌, ◌∙◌, ap, sym, false, Some, cond, arith}
-use Rattle.std.specs.Prelude.{nat_le}
-use Rattle.std.proofs.lemmas.Bool.Decides.{nat_tests}
-use Rattle.vyrd_base.specs.declared.verdict.Rule.TheVariants.{CallerRange}
-use Rattle.vyrd_base.specs.Shape.{checks_of, first_broken}
-use Rattle.vyrd_shape.specs.Phases.{phase_of}
-use Rattle.vyrd_shape.specs.Following.{HasFollowed}
+use Rattle.vyrd_shape.proofs.Prelude.{◌≡◌, ◌<◌, ◌∙◌, ap, sym, false, Some, cond, arith, nat_le}
+use Rattle.vyrd_shape.proofs.Prelude.{nat_tests, CallerRange, checks_of, first_broken, phase_of}
+use Rattle.vyrd_shape.proofs.Prelude.{HasFollowed}
 use Rattle.vyrd_shape.proofs.ShapeLaws.{kept_by, phase_is}
 use Rattle.vyrd_shape.proofs.shape.Shape.broken_by.Goals as goal
 

@@ -1,6 +1,4 @@
-use Rattle.std.proofs.Common.{◌≡◌, ◌∙◌, ap, sym, true, false, not}
-use Rattle.std.specs.Prelude.{is_none}
-use Rattle.vyrd_base.specs.Shape.{is_raced}
+use Rattle.vyrd_shape.proofs.Prelude.{◌≡◌, ◌∙◌, ap, sym, true, false, not, is_none, is_raced}
 use Rattle.vyrd_shape.proofs.ShapeLaws.{raced_rule, clear_rule, first_rule}
 use Rattle.vyrd_shape.proofs.shape.Shape.broken_by_write.Goals as goal
 use Rattle.vyrd_shape.proofs.shape.Shape.broken_by_write.Goals.{else-is_none-via-then-is_none+else-is_raced}

@@ -1,5 +1,4 @@
-use Rattle.std.proofs.Common.{◌∙◌, ap, sym}
-use Rattle.vyrd_base.specs.Shape.{checks_of, first_broken}
+use Rattle.vyrd_shape.proofs.Prelude.{◌∙◌, ap, sym, checks_of, first_broken}
 use Rattle.vyrd_shape.proofs.shape.Shape.broken_in.Goals as goal
 
 pub returns-in-Return-clause-rule : goal.returns-in-Return-clause-rule

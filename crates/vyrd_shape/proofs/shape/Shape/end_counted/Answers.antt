@@ -1,8 +1,5 @@
-use Rattle.std.proofs.Common.{◌≡◌, ◌∙◌, ap, sym, true, false, refl}
-use Rattle.std.specs.Prelude.{is_some}
-use Rattle.std.specs.List.{list_any}
-use Rattle.vyrd_base.specs.Verdicts.{is_call_open}
-use Rattle.vyrd_shape.specs.Following.{HasFollowed}
+use Rattle.vyrd_shape.proofs.Prelude.{◌≡◌, ◌∙◌, ap, sym, true, false, refl, is_some, list_any}
+use Rattle.vyrd_shape.proofs.Prelude.{is_call_open, HasFollowed}
 use Rattle.vyrd_shape.proofs.ShapeLaws.{kept_by, call_open_is}
 use Rattle.vyrd_shape.proofs.shape.Shape.end_counted.Goals as goal
 

@@ -1,12 +1,8 @@
-use Rattle.std.proofs.Common.{◌≡◌, ◌<◌, ◌≤◌, ◌+◌, ◌&&◌, ℕ, true, false, List, ◌∷◌, ◌∙◌, ap, sym}
-use Rattle.std.proofs.Common.{subst, set, None, arith}
-use Rattle.vyrd_base.specs.Callers.{has_block, has_inner_commit}
-use Rattle.vyrd_base.specs.Shape.{broken_rule}
-use Rattle.vyrd_base.specs.Words.{is_lone_commit}
-use Rattle.vyrd_shape.specs.Phases.{phase_of}
-use Rattle.vyrd_shape.specs.Holding.{holders_after}
-use Rattle.vyrd_shape.specs.Stamps.{AreOrdered, AreRaised, CommitStamps, effect_stamp, takes_effect}
-use Rattle.vyrd_shape.specs.Following.{ShapeKept, HasFollowed}
+use Rattle.vyrd_shape.proofs.Prelude.{◌≡◌, ◌<◌, ◌≤◌, ◌+◌, ◌&&◌, ℕ, true, false, List, ◌∷◌, ◌∙◌, ap}
+use Rattle.vyrd_shape.proofs.Prelude.{sym, subst, set, None, arith, has_block, has_inner_commit}
+use Rattle.vyrd_shape.proofs.Prelude.{broken_rule, is_lone_commit, phase_of, holders_after}
+use Rattle.vyrd_shape.proofs.Prelude.{AreOrdered, AreRaised, CommitStamps, effect_stamp}
+use Rattle.vyrd_shape.proofs.Prelude.{takes_effect, ShapeKept, HasFollowed}
 use Rattle.vyrd_shape.specs.declared.shape.Shape.TheInside.{Inside}
 use Rattle.vyrd_shape.proofs.OrderLaws.{AreHeld, ordered_next, added_inside}
 use Rattle.vyrd_shape.proofs.ShapeLaws.{kept_by, followed_by, phase_is}

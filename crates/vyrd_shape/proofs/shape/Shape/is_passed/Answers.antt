@@ -1,8 +1,5 @@
-use Rattle.std.proofs.Common.{◌≡◌, ◌<◌, ◌∙◌, ap, sym, true, false, ◌&&◌, get_or}
-use Rattle.std.specs.Prelude.{nat_lt}
-use Rattle.vyrd_base.specs.Callers.{has_inner_commit}
-use Rattle.vyrd_base.specs.Layout.{plain_words}
-use Rattle.vyrd_shape.specs.Following.{HasFollowed}
+use Rattle.vyrd_shape.proofs.Prelude.{◌≡◌, ◌<◌, ◌∙◌, ap, sym, true, false, ◌&&◌, get_or, nat_lt}
+use Rattle.vyrd_shape.proofs.Prelude.{has_inner_commit, plain_words, HasFollowed}
 use Rattle.vyrd_shape.proofs.ShapeLaws.{kept_by, passed_is}
 use Rattle.vyrd_shape.proofs.shape.Shape.is_passed.Goals as goal
 

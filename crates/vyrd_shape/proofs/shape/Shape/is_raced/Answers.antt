@@ -1,8 +1,5 @@
-use Rattle.std.proofs.Common.{◌≡◌, ◌<◌, ◌∙◌, ap, sym, ◌||◌}
-use Rattle.vyrd_base.specs.Layout.{plain_words}
-use Rattle.vyrd_base.specs.Shape.{is_held_by_other}
-use Rattle.vyrd_base.specs.Words.{is_passed}
-use Rattle.vyrd_shape.specs.Following.{HasFollowed}
+use Rattle.vyrd_shape.proofs.Prelude.{◌≡◌, ◌<◌, ◌∙◌, ap, sym, ◌||◌, plain_words, is_held_by_other}
+use Rattle.vyrd_shape.proofs.Prelude.{is_passed, HasFollowed}
 use Rattle.vyrd_shape.proofs.ShapeLaws.{kept_by, raced_is}
 use Rattle.vyrd_shape.proofs.shape.Shape.is_raced.Goals as goal
 

@@ -1,7 +1,4 @@
-use Rattle.std.proofs.Common.{ap, ◌∙◌}
-use Rattle.vyrd_base.specs.Amounts.{amount_of}
-use Rattle.vyrd_base.specs.States.{showing}
-use Rattle.vyrd_spec.specs.Rows.{row_amounts}
+use Rattle.vyrd_spec.proofs.Prelude.{ap, ◌∙◌, amount_of, showing, row_amounts}
 use Rattle.vyrd_spec.proofs.RowAmounts.{nothing_in_row}
 use Rattle.vyrd_spec.proofs.buffers.BufferSpecBuiltIn.start.Goals as goal
 

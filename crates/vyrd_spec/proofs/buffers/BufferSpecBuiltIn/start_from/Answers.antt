@@ -1,10 +1,5 @@
-use Rattle.std.proofs.Common.{◌≡◌, Some, None, rules, ap, ◌∙◌, ◌^◌}
-use Rattle.vyrd_base.specs.Subjects.{is_built_in}
-use Rattle.vyrd_base.specs.declared.subject.Subject.TheVariants.{Buffers}
-use Rattle.vyrd_base.specs.Amounts.{collected}
-use Rattle.vyrd_base.specs.Buffers.{buffer_at, buffer_parts}
-use Rattle.vyrd_base.specs.Views.{parts_of}
-use Rattle.vyrd_spec.specs.Rows.{row_amounts}
+use Rattle.vyrd_spec.proofs.Prelude.{◌≡◌, Some, None, rules, ap, ◌∙◌, ◌^◌, is_built_in, Buffers}
+use Rattle.vyrd_spec.proofs.Prelude.{collected, buffer_at, buffer_parts, parts_of, row_amounts}
 use Rattle.vyrd_spec.specs.Texts.{sound_texts}
 use Rattle.vyrd_spec.proofs.BufferWordLaws.{is_buffer_at, text_shown, given_text, small_text}
 use Rattle.vyrd_spec.proofs.SoundRows.{first_row, many_in, row_shows, sound_where, unsound_where}

@@ -1,10 +1,5 @@
-use Rattle.std.proofs.Common.{◌≡◌, Some, None, rules, ap, ◌∙◌, ◌^◌}
-use Rattle.vyrd_base.specs.Subjects.{is_built_in}
-use Rattle.vyrd_base.specs.declared.subject.Subject.TheVariants.{Cache}
-use Rattle.vyrd_base.specs.Amounts.{collected}
-use Rattle.vyrd_base.specs.Cache.{chunk_at, chunk_parts}
-use Rattle.vyrd_base.specs.Views.{parts_of}
-use Rattle.vyrd_spec.specs.Rows.{row_amounts}
+use Rattle.vyrd_spec.proofs.Prelude.{◌≡◌, Some, None, rules, ap, ◌∙◌, ◌^◌, is_built_in, Cache}
+use Rattle.vyrd_spec.proofs.Prelude.{collected, chunk_at, chunk_parts, parts_of, row_amounts}
 use Rattle.vyrd_spec.specs.Chunks.{sound_pairs}
 use Rattle.vyrd_spec.proofs.ChunkWordLaws.{is_sound_at, pair_shown, given_pair, small_pair}
 use Rattle.vyrd_spec.proofs.SoundRows.{first_row, many_in, row_shows, sound_where, unsound_where}

@@ -1,7 +1,6 @@
-use Rattle.std.proofs.Common.{arith, ap, sym, ◌∙◌}
+use Rattle.vyrd_spec.proofs.Prelude.{arith, ap, sym, ◌∙◌, row_amounts, row_formed, is_touched}
+use Rattle.vyrd_spec.proofs.Prelude.{with_touched}
 use Rattle.vyrd_base.specs.declared.subject.Method.TheVariants.{Cache as OfCache}
-use Rattle.vyrd_spec.specs.Rows.{row_amounts, row_formed}
-use Rattle.vyrd_spec.specs.Touching.{is_touched, with_touched}
 use Rattle.vyrd_spec.proofs.CacheSteps.{pairs_after}
 use Rattle.vyrd_spec.proofs.StepMeets.{touched_makes, same_answer}
 use Rattle.vyrd_spec.proofs.cache.CacheSpecSpec.step.Goals as goal

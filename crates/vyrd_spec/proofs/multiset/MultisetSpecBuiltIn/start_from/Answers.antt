@@ -1,9 +1,5 @@
-use Rattle.std.proofs.Common.{ap, sym, subst}
-use Rattle.vyrd_base.specs.Subjects.{is_built_in}
-use Rattle.vyrd_base.specs.declared.subject.Subject.TheVariants.{Multiset}
-use Rattle.vyrd_base.specs.Amounts.{IsAmounts}
-use Rattle.vyrd_base.specs.Views.{parts_of}
-use Rattle.vyrd_base.proofs.SumLaws.{IsAmounts-collected}
+use Rattle.vyrd_spec.proofs.Prelude.{ap, sym, subst, is_built_in, Multiset, IsAmounts, parts_of}
+use Rattle.vyrd_spec.proofs.Prelude.{IsAmounts-collected}
 use Rattle.vyrd_spec.proofs.SlotLaws.{first_counts}
 use Rattle.vyrd_spec.proofs.StartFromLaws.{no_state, a_state, few_parts}
 use Rattle.vyrd_spec.proofs.multiset.MultisetSpecBuiltIn.start_from.Goals as goal

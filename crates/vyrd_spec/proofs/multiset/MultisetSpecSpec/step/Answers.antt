@@ -1,7 +1,6 @@
-use Rattle.std.proofs.Common.{Ok, ap, sym, arith, ◌+◌, ◌∙◌}
+use Rattle.vyrd_spec.proofs.Prelude.{Ok, ap, sym, arith, ◌+◌, ◌∙◌, most_after, is_touched}
+use Rattle.vyrd_spec.proofs.Prelude.{with_touched}
 use Rattle.vyrd_base.specs.declared.subject.Method.TheVariants.{Multiset as OfMultiset}
-use Rattle.vyrd_spec.specs.Bounds.{most_after}
-use Rattle.vyrd_spec.specs.Touching.{is_touched, with_touched}
 use Rattle.vyrd_spec.proofs.MultisetSteps.{multiset_steps, counts_after, weaker_counts}
 use Rattle.vyrd_spec.proofs.StepMeets.{touched_makes, same_answer}
 use Rattle.vyrd_spec.proofs.multiset.MultisetSpecSpec.step.Goals as goal

@@ -1,5 +1,4 @@
-use Rattle.std.proofs.Common.{◌+◌, ◌∙◌, sym}
-use Rattle.vyrd_spec.specs.NodeKeys.{is_sound_below}
+use Rattle.vyrd_spec.proofs.Prelude.{◌+◌, ◌∙◌, sym, is_sound_below}
 use Rattle.vyrd_spec.proofs.RowLaws.{one_fails, passes_more}
 use Rattle.vyrd_spec.proofs.nodes.Nodes.are_sound_below.Goals as goal
 

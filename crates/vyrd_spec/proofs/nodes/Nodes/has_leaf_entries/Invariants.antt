@@ -1,8 +1,4 @@
-use Rattle.std.proofs.Common.{◌≡◌, true}
-use Rattle.std.specs.List.{list_all}
-use Rattle.vyrd_base.specs.Places.{numbers_below}
-use Rattle.vyrd_base.specs.Tree.{is_leaf_entry}
-use Rattle.vyrd_spec.specs.NodeKeys.{entry_at}
+use Rattle.vyrd_spec.proofs.Prelude.{◌≡◌, true, list_all, numbers_below, is_leaf_entry, entry_at}
 use Rattle.vyrd_spec.proofs.nodes.Nodes.has_leaf_entries.Given as goal
 
 abbrev pub invariant-loop-place : goal.invariant-loop-place

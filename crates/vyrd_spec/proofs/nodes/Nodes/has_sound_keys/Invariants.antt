@@ -1,7 +1,4 @@
-use Rattle.std.proofs.Common.{◌≡◌, true}
-use Rattle.std.specs.List.{list_all}
-use Rattle.vyrd_base.specs.Places.{numbers_below}
-use Rattle.vyrd_spec.specs.NodeKeys.{is_sound_key}
+use Rattle.vyrd_spec.proofs.Prelude.{◌≡◌, true, list_all, numbers_below, is_sound_key}
 use Rattle.vyrd_spec.proofs.nodes.Nodes.has_sound_keys.Given as goal
 
 abbrev pub invariant-loop-place : goal.invariant-loop-place

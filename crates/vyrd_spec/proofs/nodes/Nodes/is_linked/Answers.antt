@@ -1,5 +1,4 @@
-use Rattle.std.proofs.Common.{arith}
-use Rattle.vyrd_base.proofs.TestLaws.{is_same}
+use Rattle.vyrd_spec.proofs.Prelude.{arith, is_same}
 use Rattle.vyrd_spec.proofs.NodeLaws.{linked_end, linked_on}
 use Rattle.vyrd_spec.proofs.nodes.Nodes.is_linked.Goals as goal
 

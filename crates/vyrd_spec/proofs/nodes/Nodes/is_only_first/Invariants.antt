@@ -1,7 +1,4 @@
-use Rattle.std.proofs.Common.{◌≡◌}
-use Rattle.std.specs.Prelude.{count_by}
-use Rattle.vyrd_base.specs.Places.{numbers_below}
-use Rattle.vyrd_spec.specs.NodeKeys.{is_first_of}
+use Rattle.vyrd_spec.proofs.Prelude.{◌≡◌, count_by, numbers_below, is_first_of}
 use Rattle.vyrd_spec.proofs.nodes.Nodes.is_only_first.Given as goal
 
 abbrev pub invariant-loop-other : goal.invariant-loop-other

@@ -1,8 +1,4 @@
-use Rattle.std.proofs.Common.{sym, subst}
-use Rattle.vyrd_base.specs.declared.subject.Subject.TheVariants.{Tree}
-use Rattle.vyrd_base.specs.Amounts.{IsAmounts}
-use Rattle.vyrd_base.specs.Views.{parts_of}
-use Rattle.vyrd_base.proofs.SumLaws.{IsAmounts-collected}
+use Rattle.vyrd_spec.proofs.Prelude.{sym, subst, Tree, IsAmounts, parts_of, IsAmounts-collected}
 use Rattle.vyrd_spec.proofs.StartFromLaws.{no_state, a_state}
 use Rattle.vyrd_spec.proofs.tree.TreeSpecBuiltIn.start_from.Goals as goal
 

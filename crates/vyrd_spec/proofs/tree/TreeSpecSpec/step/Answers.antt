@@ -1,6 +1,5 @@
-use Rattle.std.proofs.Common.{Ok, ap, sym, arith, ◌∙◌}
+use Rattle.vyrd_spec.proofs.Prelude.{Ok, ap, sym, arith, ◌∙◌, is_touched, with_touched}
 use Rattle.vyrd_base.specs.declared.subject.Method.TheVariants.{Tree as OfTree}
-use Rattle.vyrd_spec.specs.Touching.{is_touched, with_touched}
 use Rattle.vyrd_spec.proofs.TreeSteps.{tree_steps, values_after}
 use Rattle.vyrd_spec.proofs.StepMeets.{touched_makes, same_answer}
 use Rattle.vyrd_spec.proofs.tree.TreeSpecSpec.step.Goals as goal

@@ -1,5 +1,4 @@
-use Rattle.std.proofs.Common.{ap, subst, sym, ◌∙◌, length, ◌<◌, ◌^◌}
-use Rattle.std.specs.Prelude.{All}
+use Rattle.vyrd_states.proofs.Prelude.{ap, subst, sym, ◌∙◌, length, ◌<◌, ◌^◌, All}
 use Rattle.std.proofs.lemmas.Result.{IfOk-weaker}
 use Rattle.vyrd_witness.proofs.StartWords.{length_start}
 use Rattle.vyrd_states.proofs.StartLaws.{begins_so, words_small}

@@ -1,5 +1,4 @@
-use Rattle.std.proofs.Common.{◌≡◌, ◌≢◌, ℕ, ◌+◌, ◌<◌, ◌≤◌}
-use Rattle.vyrd_table.specs.Places.{place_at}
+use Rattle.vyrd_table.proofs.Prelude.{◌≡◌, ◌≢◌, ℕ, ◌+◌, ◌<◌, ◌≤◌, place_at}
 use Rattle.vyrd_table.proofs.places.Places.find.Given as goal
 
 abbrev pub invariant-loop-i : goal.invariant-loop-i

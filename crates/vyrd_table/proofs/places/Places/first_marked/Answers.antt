@@ -1,7 +1,5 @@
-use Rattle.std.proofs.Common.{take, ap, sym, subst, ◌∙◌, not}
-use Rattle.std.proofs.lemmas.List.{get_or_default}
-use Rattle.vyrd_table.specs.First.{IsFirst, IsFirstOf}
-use Rattle.vyrd_table.specs.Places.{AreNew, entries_in, place_at}
+use Rattle.vyrd_table.proofs.Prelude.{take, ap, sym, subst, ◌∙◌, not, get_or_default, IsFirst}
+use Rattle.vyrd_table.proofs.Prelude.{IsFirstOf, AreNew, entries_in, place_at}
 use Rattle.vyrd_table.proofs.FirstLaws.{first_next}
 use Rattle.vyrd_table.proofs.MovedLaws.{none_come, all_come, entries_more, places_new}
 use Rattle.vyrd_table.proofs.MovedLaws.{unseen_before}

@@ -1,6 +1,4 @@
-use Rattle.std.proofs.Common.{take}
-use Rattle.vyrd_table.specs.First.{IsFirst}
-use Rattle.vyrd_table.specs.Places.{entries_in}
+use Rattle.vyrd_table.proofs.Prelude.{take, IsFirst, entries_in}
 use Rattle.vyrd_table.proofs.places.Places.first_marked.Given as goal
 
 abbrev pub invariant-loop-pair : goal.invariant-loop-pair

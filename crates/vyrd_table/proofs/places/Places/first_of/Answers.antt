@@ -1,5 +1,4 @@
-use Rattle.std.proofs.Common.{refl}
-use Rattle.vyrd_table.specs.Places.{first_place}
+use Rattle.vyrd_table.proofs.Prelude.{refl, first_place}
 use Rattle.vyrd_table.proofs.places.Places.first_of.Goals as goal
 
 pub returns : goal.returns

@@ -1,7 +1,5 @@
-use Rattle.std.proofs.Common.{[], ap, sym, subst, ◌∙◌}
-use Rattle.std.proofs.lemmas.Result.{IfOk-weaker}
-use Rattle.vyrd_table.specs.Entries.{IsEntries}
-use Rattle.vyrd_table.specs.Places.{AreNew, entries_in}
+use Rattle.vyrd_table.proofs.Prelude.{[], ap, sym, subst, ◌∙◌, IfOk-weaker, IsEntries, AreNew}
+use Rattle.vyrd_table.proofs.Prelude.{entries_in}
 use Rattle.vyrd_table.proofs.EntryLaws.{no_entries}
 use Rattle.vyrd_table.proofs.MovedLaws.{entries_new, entries_again, places_new}
 use Rattle.vyrd_table.proofs.places.Places.listed.Goals as goal

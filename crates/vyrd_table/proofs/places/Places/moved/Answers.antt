@@ -1,8 +1,6 @@
-use Rattle.std.proofs.Common.{[], ap, sym, subst, ◌∙◌, arith, length}
-use Rattle.std.specs.Prelude.{count_by}
+use Rattle.vyrd_table.proofs.Prelude.{[], ap, sym, subst, ◌∙◌, arith, length, count_by, entries_of}
+use Rattle.vyrd_table.proofs.Prelude.{is_taken, is_named, AreNew, entries_in}
 use Rattle.std.proofs.lemmas.List.Sums.{count_by-le-length}
-use Rattle.vyrd_table.specs.Placed.{entries_of}
-use Rattle.vyrd_table.specs.Places.{is_taken, is_named, AreNew, entries_in}
 use Rattle.vyrd_table.proofs.MovedLaws.{entries_new, entries_again, places_new, length_in}
 use Rattle.vyrd_table.proofs.PlaceLaws.{rest_fewer}
 use Rattle.vyrd_table.proofs.places.Places.moved.Goals as goal

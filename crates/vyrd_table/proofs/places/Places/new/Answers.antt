@@ -1,6 +1,5 @@
-use Rattle.std.proofs.Common.{◌+◌, ◌-◌, ◌^◌, [], ap, sym, subst, ◌∙◌, arith}
-use Rattle.vyrd_table.specs.Places.{ArePlaces, is_named, entries_in}
-use Rattle.std.specs.Prelude.{count_by}
+use Rattle.vyrd_table.proofs.Prelude.{◌+◌, ◌-◌, ◌^◌, [], ap, sym, subst, ◌∙◌, arith, ArePlaces}
+use Rattle.vyrd_table.proofs.Prelude.{is_named, entries_in, count_by}
 use Rattle.vyrd_table.proofs.NameLaws.{new_unnamed}
 use Rattle.vyrd_table.proofs.PlaceLaws.{new_places, new_entries}
 use Rattle.vyrd_table.proofs.places.Places.new.Goals as goal

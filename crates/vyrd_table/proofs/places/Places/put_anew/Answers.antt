@@ -1,9 +1,8 @@
-use Rattle.std.proofs.Common.{◌≡◌, false, ◌+◌, ◌≤◌, ◌∙◌, ap, sym, subst, arith, OnOk, OnErr, Result}
-use Rattle.std.proofs.Common.{Ok, Err}
+use Rattle.vyrd_table.proofs.Prelude.{◌≡◌, false, ◌+◌, ◌≤◌, ◌∙◌, ap, sym, subst, arith, value_of}
+use Rattle.vyrd_table.proofs.Prelude.{with_value, ArePlaces, is_named, one_name, entries_in}
+use Rattle.vyrd_table.proofs.Prelude.{names_in, count_by}
+use Rattle.std.proofs.Common.{OnOk, OnErr, Result, Ok, Err}
 use Rattle.std.proofs.lemmas.Result.{on_ok_weaker, on_err_weaker}
-use Rattle.vyrd_table.specs.Entries.{value_of, with_value}
-use Rattle.vyrd_table.specs.Places.{ArePlaces, is_named, one_name, entries_in, names_in}
-use Rattle.std.specs.Prelude.{count_by}
 use Rattle.vyrd_table.proofs.NameLaws.{names_set, names_with_value, names_taken_out}
 use Rattle.vyrd_table.proofs.PlaceLaws.{value_missing, free_places, free_entries, rest_places}
 use Rattle.vyrd_table.proofs.PlaceLaws.{rest_entries, rest_fewer}

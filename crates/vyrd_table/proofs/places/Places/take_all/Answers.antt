@@ -1,8 +1,5 @@
-use Rattle.std.proofs.Common.{ℕ, refl, cond, ◌+◌, ap, sym, ◌∙◌, arith, length, take}
-use Rattle.std.proofs.lemmas.List.{get_or_default}
-use Rattle.vyrd_table.specs.Placed.{entries_of}
-use Rattle.vyrd_table.specs.Places.{one_name, entries_in}
-use Rattle.vyrd_table.specs.Entries.{with_value}
+use Rattle.vyrd_table.proofs.Prelude.{ℕ, refl, cond, ◌+◌, ap, sym, ◌∙◌, arith, length, take}
+use Rattle.vyrd_table.proofs.Prelude.{get_or_default, entries_of, one_name, entries_in, with_value}
 use Rattle.vyrd_table.proofs.MovedLaws.{no_more, none_come, all_come, entries_more, count_more}
 use Rattle.vyrd_table.proofs.MovedLaws.{count_few, names_more, names_few}
 use Rattle.vyrd_table.proofs.PlaceLaws.{entries_formed}

@@ -1,5 +1,4 @@
-use Rattle.std.proofs.Common.{subst, sym, ◌∙◌, arith}
-use Rattle.vyrd_table.specs.Places.{IsFoundAt}
+use Rattle.vyrd_table.proofs.Prelude.{subst, sym, ◌∙◌, arith, IsFoundAt}
 use Rattle.vyrd_table.proofs.PlaceLaws.{read_value, value_missing, rest_fewer}
 use Rattle.vyrd_table.proofs.PriceLaws.{question_mono}
 use Rattle.vyrd_table.proofs.places.Places.value_at.Goals as goal

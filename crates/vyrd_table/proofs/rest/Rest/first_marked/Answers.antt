@@ -1,5 +1,4 @@
-use Rattle.std.proofs.Common.{◌≡◌, Some, None, ap, cond, sym, subst, ◌∙◌}
-use Rattle.vyrd_table.specs.First.{IsFirst}
+use Rattle.vyrd_table.proofs.Prelude.{◌≡◌, Some, None, ap, cond, sym, subst, ◌∙◌, IsFirst}
 use Rattle.vyrd_table.proofs.FirstLaws.{first_in, first_is}
 use Rattle.vyrd_table.proofs.rest.Rest.first_marked.Goals as goal
 

@@ -1,6 +1,4 @@
-use Rattle.std.proofs.Common.{ap, ◌∙◌, sym}
-use Rattle.std.specs.Prelude.{unwrap_or}
-use Rattle.std.proofs.lemmas.Result.{err_from_is_err_and}
+use Rattle.vyrd_table.proofs.Prelude.{ap, ◌∙◌, sym, unwrap_or, err_from_is_err_and}
 use Rattle.vyrd_table.proofs.EntryLaws.{lookup-find, insert-with_value, remove-with_value}
 use Rattle.vyrd_table.proofs.rest.Rest.put.Goals as goal
 

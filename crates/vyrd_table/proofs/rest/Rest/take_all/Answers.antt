@@ -1,7 +1,5 @@
-use Rattle.std.proofs.Common.{ap, cond, sym, subst, take, ◌∙◌}
-use Rattle.std.proofs.lemmas.List.{get_or_default}
-use Rattle.vyrd_table.specs.Entries.{IsEntries, with_value}
-use Rattle.vyrd_table.specs.Places.{entries_in}
+use Rattle.vyrd_table.proofs.Prelude.{ap, cond, sym, subst, take, ◌∙◌, get_or_default, IsEntries}
+use Rattle.vyrd_table.proofs.Prelude.{with_value, entries_in}
 use Rattle.vyrd_table.proofs.MovedLaws.{none_come, all_come, entries_more}
 use Rattle.vyrd_table.proofs.PlaceLaws.{entries_formed}
 use Rattle.vyrd_table.proofs.rest.Rest.take_all.Goals as goal

@@ -1,5 +1,4 @@
-use Rattle.std.proofs.Common.{◌≡◌, take}
-use Rattle.vyrd_table.specs.Places.{entries_in}
+use Rattle.vyrd_table.proofs.Prelude.{◌≡◌, take, entries_in}
 use Rattle.vyrd_table.proofs.rest.Rest.take_all.Given as goal
 
 abbrev pub invariant-loop-pair : goal.invariant-loop-pair

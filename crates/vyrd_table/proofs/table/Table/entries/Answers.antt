@@ -1,6 +1,4 @@
-use Rattle.std.proofs.Common.{subst}
-use Rattle.vyrd_table.specs.Contents.{Contents}
-use Rattle.vyrd_table.specs.Entries.{IsEntries}
+use Rattle.vyrd_table.proofs.Prelude.{subst, Contents, IsEntries}
 use Rattle.vyrd_table.proofs.PlaceLaws.{entries_formed}
 use Rattle.vyrd_table.proofs.table.Table.entries.Goals as goal
 

@@ -1,7 +1,4 @@
-use Rattle.std.proofs.Common.{subst}
-use Rattle.vyrd_table.specs.Contents.{Contents, IsSlotOf}
-use Rattle.vyrd_table.specs.Entries.{IsEntries}
-use Rattle.vyrd_table.specs.Places.{IsFoundAt}
+use Rattle.vyrd_table.proofs.Prelude.{subst, Contents, IsSlotOf, IsEntries, IsFoundAt}
 use Rattle.vyrd_table.proofs.PlaceLaws.{entries_formed}
 use Rattle.vyrd_table.proofs.table.Table.find_counted.Goals as goal
 

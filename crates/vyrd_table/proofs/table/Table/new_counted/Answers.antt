@@ -1,5 +1,4 @@
-use Rattle.std.proofs.Common.{arith}
-use Rattle.std.proofs.Math.Pow.{pow_mono}
+use Rattle.vyrd_table.proofs.Prelude.{arith, pow_mono}
 use Rattle.vyrd_table.proofs.table.Table.new_counted.Goals as goal
 
 pub returns-in_err-new-clause-steps : goal.returns-in_err-new-clause-steps

@@ -1,6 +1,4 @@
-use Rattle.std.proofs.Common.{◌-◌, sym, subst, arith}
-use Rattle.vyrd_table.specs.Growing.{HasRoom}
-use Rattle.vyrd_table.specs.Placed.{names_of}
+use Rattle.vyrd_table.proofs.Prelude.{◌-◌, sym, subst, arith, HasRoom, names_of}
 use Rattle.vyrd_table.proofs.GrowingLaws.{fewer_names, table_kept}
 use Rattle.vyrd_table.proofs.NameLaws.{one_at_most}
 use Rattle.vyrd_table.proofs.table.Table.put_anew.Goals as goal

@@ -1,6 +1,4 @@
-use Rattle.std.proofs.Common.{Some, sym, subst}
-use Rattle.vyrd_table.specs.Contents.{Contents, IsSlotOf}
-use Rattle.vyrd_table.specs.Places.{IsFoundAt}
+use Rattle.vyrd_table.proofs.Prelude.{Some, sym, subst, Contents, IsSlotOf, IsFoundAt}
 use Rattle.vyrd_table.proofs.GrowingLaws.{table_kept}
 use Rattle.vyrd_table.proofs.table.Table.put_counted.Goals as goal
 

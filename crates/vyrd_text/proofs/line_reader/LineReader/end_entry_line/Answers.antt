@@ -1,9 +1,6 @@
-use Rattle.std.proofs.Common.{◌+◌, sym, ◌∙◌, ap, subst, true, false, ◌≡◌, [], ◌∷◌, refl}
-use Rattle.vyrd_base.specs.Lines.{entry_in}
-use Rattle.vyrd_base.proofs.TestLaws.{isnt_below}
-use Rattle.vyrd_text.specs.Readers.{LineState}
-use Rattle.vyrd_text.specs.ReaderView.{state_of}
-use Rattle.vyrd_text.specs.Steps.{IsLineTaken, with_line}
+use Rattle.vyrd_text.proofs.Prelude.{◌+◌, sym, ◌∙◌, ap, subst, true, false, ◌≡◌, [], ◌∷◌, refl}
+use Rattle.vyrd_text.proofs.Prelude.{entry_in, isnt_below, LineState, state_of, IsLineTaken}
+use Rattle.vyrd_text.proofs.Prelude.{with_line}
 use Rattle.vyrd_text.proofs.LineSteps.{end_read, entry_read, bad_entry, is_word_true, is_word_false}
 use Rattle.vyrd_text.proofs.line_reader.LineReader.end_entry_line.Goals as goal
 

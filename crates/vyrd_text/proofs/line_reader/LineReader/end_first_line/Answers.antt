@@ -1,5 +1,4 @@
-use Rattle.std.proofs.Common.{sym}
-use Rattle.vyrd_text.specs.ReaderView.{state_of}
+use Rattle.vyrd_text.proofs.Prelude.{sym, state_of}
 use Rattle.vyrd_text.proofs.LineSteps.{first_good, first_bad}
 use Rattle.vyrd_text.proofs.line_reader.LineReader.end_first_line.Goals as goal
 

@@ -1,5 +1,4 @@
-use Rattle.vyrd_base.proofs.TestLaws.{is_below, isnt_below}
-use Rattle.vyrd_text.specs.ReaderView.{state_of}
+use Rattle.vyrd_text.proofs.Prelude.{is_below, isnt_below, state_of}
 use Rattle.vyrd_text.proofs.LineSteps.{too_many, after_end_line}
 use Rattle.vyrd_text.proofs.line_reader.LineReader.end_later_line.Goals as goal
 

@@ -1,6 +1,4 @@
-use Rattle.std.proofs.Common.{sym, ◌∙◌}
-use Rattle.vyrd_base.proofs.TestLaws.{isnt_below}
-use Rattle.vyrd_text.specs.ReaderView.{state_of}
+use Rattle.vyrd_text.proofs.Prelude.{sym, ◌∙◌, isnt_below, state_of}
 use Rattle.vyrd_text.proofs.LineSteps.{bad_start, start_read}
 use Rattle.vyrd_text.proofs.line_reader.LineReader.end_start_line.Goals as goal
 

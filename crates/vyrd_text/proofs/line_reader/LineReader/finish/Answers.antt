@@ -1,8 +1,6 @@
-use Rattle.std.proofs.Common.{◌≡◌, [], Some, None, true, false, refl, subst, sym, ◌∙◌, ap}
+use Rattle.vyrd_text.proofs.Prelude.{◌≡◌, [], Some, None, true, false, refl, subst, sym, ◌∙◌, ap}
+use Rattle.vyrd_text.proofs.Prelude.{LineState, goes_on, IsNoticed, state_of}
 use Rattle.vyrd_text.specs.Answered.{IsAnswer}
-use Rattle.vyrd_text.specs.Readers.{LineState, goes_on}
-use Rattle.vyrd_text.specs.Steps.{IsNoticed}
-use Rattle.vyrd_text.specs.ReaderView.{state_of}
 use Rattle.vyrd_text.proofs.ViewLaws.{fault_none, fault_some, header_of_ended, rule_none, rule_some}
 use Rattle.vyrd_text.proofs.ReadLaws.{fault_at_end, fine_at_end, ended_at_end, unfinished_at_end}
 use Rattle.vyrd_text.proofs.line_reader.LineReader.finish.Goals as goal

@@ -1,6 +1,4 @@
-use Rattle.std.proofs.Common.{arith}
-use Rattle.vyrd_text.specs.Readers.{LineState}
-use Rattle.vyrd_text.specs.ReaderView.{state_of}
+use Rattle.vyrd_text.proofs.Prelude.{arith, LineState, state_of}
 use Rattle.vyrd_text.proofs.ReaderLaws.{none_of, some_of}
 use Rattle.vyrd_text.proofs.AheadLaws.{ahead_first, ahead_begun}
 use Rattle.vyrd_text.proofs.line_reader.LineReader.most_starts.Goals as goal

@@ -1,7 +1,4 @@
-use Rattle.std.proofs.Common.{ap, sym, ◌∙◌, refl}
-use Rattle.vyrd_text.specs.Readers.{LineState}
-use Rattle.vyrd_text.specs.Steps.{starts_of, entries_of}
-use Rattle.vyrd_text.specs.ReaderView.{state_of}
+use Rattle.vyrd_text.proofs.Prelude.{ap, sym, ◌∙◌, refl, LineState, starts_of, entries_of, state_of}
 use Rattle.vyrd_text.proofs.ReaderLaws.{line_at_once, line_then}
 use Rattle.vyrd_text.proofs.line_reader.LineReader.take_line.Goals as goal
 

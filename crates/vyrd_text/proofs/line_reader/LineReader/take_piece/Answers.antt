@@ -1,8 +1,6 @@
-use Rattle.std.proofs.Common.{[], ◌∷◌, ◌++◌, arith, refl, ap, sym, ◌∙◌, subst, append_assoc}
-use Rattle.std.specs.Prelude.{◌==◌, count_by}
-use Rattle.std.proofs.lemmas.List.{append-nil}
-use Rattle.vyrd_text.specs.Ahead.{starts_ahead}
-use Rattle.vyrd_text.specs.Steps.{IsFed, starts_of, entries_of}
+use Rattle.vyrd_text.proofs.Prelude.{[], ◌∷◌, ◌++◌, arith, refl, ap, sym, ◌∙◌, subst, append_assoc}
+use Rattle.vyrd_text.proofs.Prelude.{◌==◌, count_by, append-nil, starts_ahead, IsFed, starts_of}
+use Rattle.vyrd_text.proofs.Prelude.{entries_of}
 use Rattle.vyrd_text.proofs.PieceLaws.{count_line}
 use Rattle.vyrd_text.proofs.ReadLaws.{fed_then}
 use Rattle.vyrd_text.proofs.EntrySteps.{nothing_taken, fed_on}

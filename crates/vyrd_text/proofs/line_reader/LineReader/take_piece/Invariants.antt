@@ -1,7 +1,5 @@
-use Rattle.std.proofs.Common.{◌≡◌, ℕ, ◌+◌, ◌≤◌, List, ◌++◌, length, vec_len}
-use Rattle.std.specs.Prelude.{◌==◌, count_by, vec_capacity}
-use Rattle.vyrd_text.specs.Ahead.{starts_ahead}
-use Rattle.vyrd_text.specs.Steps.{IsFed}
+use Rattle.vyrd_text.proofs.Prelude.{◌≡◌, ℕ, ◌+◌, ◌≤◌, List, ◌++◌, length, vec_len, ◌==◌, count_by}
+use Rattle.vyrd_text.proofs.Prelude.{vec_capacity, starts_ahead, IsFed}
 use Rattle.vyrd_text.proofs.line_reader.LineReader.take_piece.Given as goal
 
 abbrev pub invariant-loop-line : goal.invariant-loop-line

@@ -1,5 +1,4 @@
-use Rattle.std.proofs.Common.{arith, sym, refl}
-use Rattle.vyrd_text.specs.ReaderView.{state_of, fault_of}
+use Rattle.vyrd_text.proofs.Prelude.{arith, sym, refl, state_of, fault_of}
 use Rattle.vyrd_text.proofs.EntrySteps.{nothing_fed, entries_fed, none_mapped}
 use Rattle.vyrd_text.proofs.line_reader.LineReader.take_whole_entries.Goals as goal
 

@@ -1,9 +1,5 @@
-use Rattle.std.proofs.Common.{arith, subst, Some, None}
-use Rattle.vyrd_base.specs.declared.verdict.Rule.TheVariants.{TooManyLines}
-use Rattle.vyrd_base.specs.declared.verdict.Rule.TheVariants.{BadEntry}
-use Rattle.vyrd_text.specs.Readers.{LineState}
-use Rattle.vyrd_text.specs.Steps.{IsRuleOfRest}
-use Rattle.vyrd_text.specs.ReaderView.{state_of}
+use Rattle.vyrd_text.proofs.Prelude.{arith, subst, Some, None, TooManyLines, BadEntry, LineState}
+use Rattle.vyrd_text.proofs.Prelude.{IsRuleOfRest, state_of}
 use Rattle.vyrd_text.proofs.ReaderLaws.{none_of, some_of}
 use Rattle.vyrd_text.proofs.RestSteps.{first_long, first_short, rest_past, rest_after_end}
 use Rattle.vyrd_text.proofs.RestSteps.{rest_long, rest_short}

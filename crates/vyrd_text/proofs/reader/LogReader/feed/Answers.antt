@@ -1,5 +1,4 @@
-use Rattle.vyrd_text.specs.Readers.{lines_of}
-use Rattle.vyrd_text.specs.Steps.{IsFed}
+use Rattle.vyrd_text.proofs.Prelude.{lines_of, IsFed}
 use Rattle.vyrd_text.proofs.ReaderLaws.{reader_with}
 use Rattle.vyrd_text.proofs.ReadLaws.{fed_read, fed_start, fed_entries, fed_fault, unless}
 use Rattle.vyrd_text.proofs.reader.LogReader.feed.Goals as goal

@@ -1,5 +1,4 @@
-use Rattle.std.proofs.Common.{ap}
-use Rattle.vyrd_text.specs.Readers.{ReaderState}
+use Rattle.vyrd_text.proofs.Prelude.{ap, ReaderState}
 use Rattle.vyrd_text.specs.LogView.{reader_of}
 use Rattle.vyrd_text.proofs.ReadLaws.{noticed_of, whole_read}
 use Rattle.vyrd_text.proofs.reader.LogReader.finish.Goals as goal

@@ -1,5 +1,4 @@
-use Rattle.std.proofs.Common.{arith, refl}
-use Rattle.vyrd_trace.specs.Records.{look_first}
+use Rattle.vyrd_trace.proofs.Prelude.{arith, refl, look_first}
 use Rattle.vyrd_trace.proofs.Claiming.{claims_cell}
 use Rattle.vyrd_trace.proofs.board.Board.claim_lock.Goals as goal
 

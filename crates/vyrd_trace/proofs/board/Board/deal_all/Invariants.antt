@@ -1,7 +1,5 @@
-use Rattle.std.proofs.Common.{◌≡◌, ◌+◌, [], vec_len, vec_capacity}
-use Rattle.vyrd_trace.specs.Records.{record_of}
-use Rattle.vyrd_trace.specs.Steps.{IsSame}
-use Rattle.vyrd_trace.specs.Hands.{AreNew, sharing}
+use Rattle.vyrd_trace.proofs.Prelude.{◌≡◌, ◌+◌, [], vec_len, vec_capacity, record_of, IsSame}
+use Rattle.vyrd_trace.proofs.Prelude.{AreNew, sharing}
 use Rattle.vyrd_trace.proofs.board.Board.deal_all.Given as goal
 
 abbrev pub invariant-loop-caller : goal.invariant-loop-caller

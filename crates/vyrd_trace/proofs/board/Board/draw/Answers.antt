@@ -1,5 +1,4 @@
-use Rattle.std.proofs.Common.{arith, subst}
-use Rattle.vyrd_trace.specs.Steps.{MayDraw}
+use Rattle.vyrd_trace.proofs.Prelude.{arith, subst, MayDraw}
 use Rattle.vyrd_trace.proofs.Drawing.{draws}
 use Rattle.vyrd_trace.proofs.board.Board.draw.Goals as goal
 

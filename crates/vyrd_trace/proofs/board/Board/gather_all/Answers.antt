@@ -1,10 +1,7 @@
-use Rattle.std.proofs.Common.{◌≡◌, [], ◌∷◌, ◌++◌, sym, ap, ◌∙◌}
+use Rattle.vyrd_trace.proofs.Prelude.{◌≡◌, [], ◌∷◌, ◌++◌, sym, ap, ◌∙◌, own_lane, Sitting, HandView}
+use Rattle.vyrd_trace.proofs.Prelude.{own_lane_of}
 use Rattle.std.proofs.lemmas.List.{map-append}
 use Rattle.std.proofs.lemmas.List.Elements.{All-rest}
-use Rattle.vyrd_trace.specs.Records.{own_lane}
-use Rattle.vyrd_trace.specs.Steps.{Sitting}
-use Rattle.vyrd_trace.specs.Hands.{HandView}
-use Rattle.vyrd_trace.specs.Closing.{own_lane_of}
 use Rattle.vyrd_trace.proofs.board.Board.gather_all.Goals as goal
 
 pub loop-hand-preserved : goal.loop-hand-preserved

@@ -1,9 +1,4 @@
-use Rattle.std.proofs.Common.{◌≡◌, true}
-use Rattle.std.specs.List.{All}
-use Rattle.vyrd_trace.specs.Hands.{HandView}
-use Rattle.vyrd_trace.specs.declared.record.Stage.TheVariants.{Rest}
-use Rattle.vyrd_trace.specs.Records.{own_lane}
-use Rattle.vyrd_trace.specs.Closing.{own_lanes}
+use Rattle.vyrd_trace.proofs.Prelude.{◌≡◌, true, All, HandView, Rest, own_lane, own_lanes}
 use Rattle.vyrd_trace.proofs.board.Board.gather_all.Given as goal
 
 abbrev pub invariant-loop-hand : goal.invariant-loop-hand

@@ -1,10 +1,6 @@
-use Rattle.std.proofs.Common.{◌≡◌, ◌++◌, true, take, drop, List, length, sym, ap, ◌∙◌, subst}
-use Rattle.std.specs.List.{sum_by}
-use Rattle.vyrd_base.specs.declared.history.Stamped.{Stamped}
-use Rattle.vyrd_base.specs.Histories.{is_legal}
-use Rattle.vyrd_trace.specs.Lanes.{cells_in, last_values}
-use Rattle.vyrd_trace.specs.Hands.{HandView}
-use Rattle.vyrd_trace.specs.Closing.{HasHistory, IsMerge, lanes_of}
+use Rattle.vyrd_trace.proofs.Prelude.{◌≡◌, ◌++◌, true, take, drop, List, length, sym, ap, ◌∙◌}
+use Rattle.vyrd_trace.proofs.Prelude.{subst, sum_by, Stamped, is_legal, cells_in, last_values}
+use Rattle.vyrd_trace.proofs.Prelude.{HandView, HasHistory, IsMerge, lanes_of}
 use Rattle.vyrd_trace.proofs.Closings.{is_merge, size, back, AreParts}
 use Rattle.vyrd_trace.proofs.traced.Traced.close.Goals as goal
 

@@ -1,7 +1,5 @@
-use Rattle.std.proofs.Common.{◌≡◌, ◌+◌, ◌-◌, sym, ap, ◌∙◌, subst, arith}
-use Rattle.vyrd_trace.specs.declared.plan.Plan.{Plan}
+use Rattle.vyrd_trace.proofs.Prelude.{◌≡◌, ◌+◌, ◌-◌, sym, ap, ◌∙◌, subst, arith, Plan, HasHistory}
 use Rattle.vyrd_trace.specs.Hands.{TracedView}
-use Rattle.vyrd_trace.specs.Closing.{HasHistory}
 use Rattle.vyrd_trace.proofs.Closings.{has_history}
 use Rattle.vyrd_trace.proofs.traced.Traced.end.Goals as goal
 

@@ -1,8 +1,5 @@
-use Rattle.std.proofs.Common.{ℕ, List, [], sym, ◌∙◌, subst}
-use Rattle.atomic_table.specs.Table.{opening}
-use Rattle.vyrd_trace.specs.declared.plan.Plan.{Plan}
-use Rattle.vyrd_trace.specs.Records.{first_record}
-use Rattle.vyrd_trace.specs.Rule.{TraceKept}
+use Rattle.vyrd_trace.proofs.Prelude.{ℕ, List, [], sym, ◌∙◌, subst, opening, Plan, first_record}
+use Rattle.vyrd_trace.proofs.Prelude.{TraceKept}
 use Rattle.vyrd_trace.proofs.Dealing.{opens}
 use Rattle.vyrd_trace.proofs.traced.Traced.new.Goals as goal
 

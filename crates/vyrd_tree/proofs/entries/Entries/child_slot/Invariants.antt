@@ -1,5 +1,4 @@
-use Rattle.std.proofs.Common.{◌≡◌, ◌<◌, take, map}
-use Rattle.vyrd_tree.specs.Procedures.Walk.{child_place}
+use Rattle.vyrd_tree.proofs.Prelude.{◌≡◌, ◌<◌, take, map, child_place}
 use Rattle.vyrd_tree.proofs.entries.Entries.child_slot.Given as goal
 
 abbrev pub invariant-loop-place : goal.invariant-loop-place

@@ -1,9 +1,5 @@
-use Rattle.std.proofs.Common.{◌≡◌, ◌∙◌, length, ap, rules}
-use Rattle.vyrd_base.specs.declared.log.Kind.TheVariants.{BlockOpen}
-use Rattle.vyrd_memory.specs.declared.act.Act.TheVariants.{Mark}
-use Rattle.vyrd_memory.specs.Scripts.{perform}
-use Rattle.vyrd_tree.specs.Cells.{unlock_node}
-use Rattle.vyrd_memory.specs.Scripts.{returns as reply}
+use Rattle.vyrd_tree.proofs.Prelude.{◌≡◌, ◌∙◌, length, ap, rules, BlockOpen, Mark, unlock_node}
+use Rattle.vyrd_memory.specs.Scripts.{perform, returns as reply}
 use Rattle.vyrd_tree.proofs.Steps.Entry.{added, overflows}
 use Rattle.vyrd_tree.proofs.task.Task.add.Goals as goal
 

@@ -1,6 +1,4 @@
-use Rattle.std.proofs.Common.{◌∙◌, refl, arith}
-use Rattle.std.specs.Prelude.{take}
-use Rattle.vyrd_tree.specs.Rests.Visits.{arrived_at}
+use Rattle.vyrd_tree.proofs.Prelude.{◌∙◌, refl, arith, take, arrived_at}
 use Rattle.vyrd_tree.proofs.Steps.Entry.{added_child}
 use Rattle.vyrd_tree.proofs.task.Task.add_child.Goals as goal
 

@@ -1,7 +1,4 @@
-use Rattle.std.proofs.Common.{◌≡◌, ◌∙◌, ap, sym}
-use Rattle.std.specs.Prelude.{take, None}
-use Rattle.vyrd_tree.specs.Procedures.{place_of}
-use Rattle.vyrd_tree.specs.Rests.Visits.{arrived_at}
+use Rattle.vyrd_tree.proofs.Prelude.{◌≡◌, ◌∙◌, ap, sym, take, None, place_of, arrived_at}
 use Rattle.vyrd_tree.proofs.Steps.Entry.{inserted_new}
 use Rattle.vyrd_tree.proofs.task.Task.insert.Goals as goal
 

@@ -1,6 +1,4 @@
-use Rattle.std.proofs.Common.{◌≡◌, ◌∙◌, length, ap, sym, arith, rules}
-use Rattle.vyrd_memory.specs.Scripts.{after_answer}
-use Rattle.vyrd_tree.specs.Rests.Visits.{loading}
+use Rattle.vyrd_tree.proofs.Prelude.{◌≡◌, ◌∙◌, length, ap, sym, arith, rules, after_answer, loading}
 use Rattle.vyrd_tree.proofs.Steps.Loads.{value_kept}
 use Rattle.vyrd_tree.proofs.task.Task.loaded.Goals as goal
 

@@ -1,7 +1,5 @@
-use Rattle.std.proofs.Common.{take, ap, ◌∙◌}
+use Rattle.vyrd_tree.proofs.Prelude.{take, ap, ◌∙◌, unlock_node, place_of, reply_of}
 use Rattle.vyrd_memory.specs.Scripts as scripts
-use Rattle.vyrd_tree.specs.Cells.{unlock_node}
-use Rattle.vyrd_tree.specs.Procedures.{place_of, reply_of}
 use Rattle.vyrd_tree.proofs.task.Task.look_up.Goals as goal
 
 pub returns : goal.returns

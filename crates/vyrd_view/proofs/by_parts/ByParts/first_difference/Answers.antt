@@ -1,7 +1,5 @@
-use Rattle.std.proofs.Common.{◌≡◌, ◌*◌, false, ap, ◌∙◌}
-use Rattle.vyrd_base.specs.Amounts.{first_difference}
-use Rattle.vyrd_view.specs.Decoded.{HaveRoom, padded}
-use Rattle.vyrd_view.specs.Known.{view_by}
+use Rattle.vyrd_view.proofs.Prelude.{◌≡◌, ◌*◌, false, ap, ◌∙◌, first_difference, HaveRoom, padded}
+use Rattle.vyrd_view.proofs.Prelude.{view_by}
 use Rattle.vyrd_view.proofs.RoomLaws.{room_shows, room_length}
 use Rattle.vyrd_view.proofs.by_parts.ByParts.first_difference.Goals as goal
 

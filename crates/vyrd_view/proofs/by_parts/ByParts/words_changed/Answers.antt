@@ -1,11 +1,7 @@
-use Rattle.std.proofs.Common.{◌≡◌, ℕ, ◌+◌, ◌*◌, ◌≤◌, false, length, take, ap, sym, ◌∙◌, subst}
-use Rattle.std.proofs.Common.{◌++◌, drop, arith}
-use Rattle.std.proofs.Math.Nat.{mul-le-mul_left, mul-le-mul_right}
-use Rattle.std.proofs.lemmas.Result.{on_ok_weaker}
-use Rattle.vyrd_base.proofs.PlaceLaws.{length_below}
-use Rattle.vyrd_view.specs.Comparing.{AgreeElsewhere}
-use Rattle.vyrd_view.specs.Decoded.{HaveRoom, padded, pair_at, pairs_by}
-use Rattle.vyrd_view.specs.Kept.{ComparedKept}
+use Rattle.vyrd_view.proofs.Prelude.{◌≡◌, ℕ, ◌+◌, ◌*◌, ◌≤◌, false, length, take, ap, sym, ◌∙◌}
+use Rattle.vyrd_view.proofs.Prelude.{subst, ◌++◌, drop, arith, mul-le-mul_left, mul-le-mul_right}
+use Rattle.vyrd_view.proofs.Prelude.{on_ok_weaker, length_below, AgreeElsewhere, HaveRoom, padded}
+use Rattle.vyrd_view.proofs.Prelude.{pair_at, pairs_by, ComparedKept}
 use Rattle.vyrd_view.proofs.OutcomeLaws.{of_sound}
 use Rattle.vyrd_view.proofs.RoomLaws.{more_room, room_agrees, room_others, room_whole, room_stays}
 use Rattle.vyrd_view.proofs.RoomLaws.{front_length, written_back}

@@ -1,6 +1,4 @@
-use Rattle.std.proofs.Common.{◌≡◌, false, ap, ◌∙◌}
-use Rattle.vyrd_base.specs.Amounts.{first_difference}
-use Rattle.vyrd_view.specs.Known.{view_by}
+use Rattle.vyrd_view.proofs.Prelude.{◌≡◌, false, ap, ◌∙◌, first_difference, view_by}
 use Rattle.vyrd_view.proofs.ReadyLaws.{walked_shows}
 use Rattle.vyrd_view.proofs.leaves.Leaves.first_difference.Goals as goal
 

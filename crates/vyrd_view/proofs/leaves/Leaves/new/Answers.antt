@@ -1,8 +1,5 @@
-use Rattle.std.proofs.Common.{◌≡◌, ℕ, ◌+◌, ◌*◌, false, true, length, length-set, replicate, set, ap}
-use Rattle.std.proofs.Common.{sym}
-use Rattle.std.proofs.Common.{◌∙◌, arith}
-use Rattle.std.proofs.lemmas.List.{length-replicate}
-use Rattle.vyrd_base.specs.Amounts.{given}
+use Rattle.vyrd_view.proofs.Prelude.{◌≡◌, ℕ, ◌+◌, ◌*◌, false, true, length, length-set, replicate}
+use Rattle.vyrd_view.proofs.Prelude.{set, ap, sym, ◌∙◌, arith, length-replicate, given}
 use Rattle.vyrd_view.proofs.CurrentLaws.{given_copies}
 use Rattle.vyrd_view.proofs.ReadyLaws.{first_walked}
 use Rattle.vyrd_view.proofs.leaves.Leaves.new.Goals as goal

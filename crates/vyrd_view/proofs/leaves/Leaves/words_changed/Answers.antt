@@ -1,5 +1,4 @@
-use Rattle.std.proofs.Common.{ap, sym, ◌∙◌, subst}
-use Rattle.vyrd_view.specs.Chained.{IsWalked}
+use Rattle.vyrd_view.proofs.Prelude.{ap, sym, ◌∙◌, subst, IsWalked}
 use Rattle.vyrd_view.proofs.leaves.Leaves.words_changed.Goals as goal
 
 pub leaves_changed-requires-clause-walked : goal.leaves_changed-requires-clause-walked

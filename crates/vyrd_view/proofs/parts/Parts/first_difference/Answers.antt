@@ -1,8 +1,5 @@
-use Rattle.std.proofs.Common.{◌≡◌, false, refl, ap, sym, ◌∙◌}
-use Rattle.vyrd_base.specs.Amounts.{amount_of, collected, first_difference}
-use Rattle.vyrd_base.proofs.SumLaws.{amount_of-collected}
-use Rattle.vyrd_view.specs.Sided.{specified_of}
-use Rattle.vyrd_view.specs.Summed.{sum_at}
+use Rattle.vyrd_view.proofs.Prelude.{◌≡◌, false, refl, ap, sym, ◌∙◌, amount_of, collected}
+use Rattle.vyrd_view.proofs.Prelude.{first_difference, amount_of-collected, specified_of, sum_at}
 use Rattle.vyrd_view.proofs.ApartLaws.{least_is_first}
 use Rattle.vyrd_view.proofs.parts.Parts.first_difference.Goals as goal
 

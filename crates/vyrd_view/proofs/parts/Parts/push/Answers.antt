@@ -1,6 +1,5 @@
-use Rattle.std.proofs.Common.{◌-◌, ◌^◌, [], ◌∷◌, subst, sym, arith}
-use Rattle.vyrd_base.proofs.SumLaws.{given-append, part_at_most}
-use Rattle.vyrd_view.specs.Pairs.{EachAtMost}
+use Rattle.vyrd_view.proofs.Prelude.{◌-◌, ◌^◌, [], ◌∷◌, subst, sym, arith, given-append}
+use Rattle.vyrd_view.proofs.Prelude.{part_at_most, EachAtMost}
 use Rattle.vyrd_view.proofs.PairLaws.{each-push}
 use Rattle.vyrd_view.proofs.parts.Parts.push.Goals as goal
 

@@ -1,6 +1,5 @@
-use Rattle.std.proofs.Common.{◌≡◌, ℕ, List, ap, sym, ◌∙◌, get_or, set}
+use Rattle.vyrd_view.proofs.Prelude.{◌≡◌, ℕ, List, ap, sym, ◌∙◌, get_or, set, ComparedKept}
 use Rattle.std.proofs.lemmas.List.{set-get_or}
-use Rattle.vyrd_view.specs.Kept.{ComparedKept}
 use Rattle.vyrd_view.proofs.parts.Parts.replace.Goals as goal
 
 both_same : (x y : ℕ × ℕ) → x.0 ≡ y.0 → x.1 ≡ y.1 → x ≡ y

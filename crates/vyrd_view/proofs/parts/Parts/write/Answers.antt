@@ -1,7 +1,6 @@
-use Rattle.std.proofs.Common.{◌≡◌, ℕ, ◌-◌, ◌*◌, ◌^◌, ◌<◌, ◌≤◌, false, ap, sym, ◌∙◌, arith, get_or}
-use Rattle.std.proofs.Common.{set, length, length-set}
-use Rattle.vyrd_base.specs.Amounts.{given, part_given}
-use Rattle.vyrd_base.proofs.SumLaws.{given-set, own_part}
+use Rattle.vyrd_view.proofs.Prelude.{◌≡◌, ℕ, ◌-◌, ◌*◌, ◌^◌, ◌<◌, ◌≤◌, false, ap, sym, ◌∙◌, arith}
+use Rattle.vyrd_view.proofs.Prelude.{get_or, set, length, length-set, given, part_given, own_part}
+use Rattle.vyrd_base.proofs.SumLaws.{given-set}
 use Rattle.vyrd_view.specs.Laws.Sums.{each_bounds}
 use Rattle.vyrd_view.proofs.PlacedLaws.{each-set}
 use Rattle.vyrd_view.proofs.PairLaws.{part-le-given}

@@ -1,5 +1,4 @@
-use Rattle.std.proofs.Common.{ap, sym, ◌∙◌}
-use Rattle.vyrd_view.specs.declared.both.Both.{Both}
+use Rattle.vyrd_view.proofs.Prelude.{ap, sym, ◌∙◌, Both}
 use Rattle.vyrd_view.proofs.SidedLaws.{shown_is, specified_is}
 use Rattle.vyrd_view.proofs.sides.Sides.at.Goals as goal
 

@@ -1,5 +1,4 @@
-use Rattle.std.proofs.Common.{refl}
-use Rattle.vyrd_view.specs.declared.sides.Sides.{Sides}
+use Rattle.vyrd_view.proofs.Prelude.{refl, Sides}
 use Rattle.vyrd_view.proofs.SidedLaws.{is_settled, fresh_settled, fresh_shown, fresh_specified}
 use Rattle.vyrd_view.proofs.sides.Sides.new.Goals as goal
 

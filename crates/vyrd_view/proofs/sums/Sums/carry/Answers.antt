@@ -1,10 +1,7 @@
-use Rattle.std.proofs.Common.{◌≡◌, ℕ, ◌+◌, ◌-◌, ◌*◌, ◌^◌, ◌==◌, if◌then◌else◌}
-use Rattle.std.proofs.Common.{◌∙◌, arith}
-use Rattle.std.proofs.lemmas.Result.{on_ok_weaker}
-use Rattle.vyrd_base.specs.Amounts.{with_amount}
+use Rattle.vyrd_view.proofs.Prelude.{◌≡◌, ℕ, ◌+◌, ◌-◌, ◌*◌, ◌^◌, ◌==◌, if◌then◌else◌, ◌∙◌, arith}
+use Rattle.vyrd_view.proofs.Prelude.{on_ok_weaker, with_amount, shown_at, specified_of, IsSettled}
+use Rattle.vyrd_view.proofs.Prelude.{sum_at}
 use Rattle.vyrd_view.specs.Sided as sided
-use Rattle.vyrd_view.specs.Sided.{shown_at, specified_of}
-use Rattle.vyrd_view.specs.Summed.{IsSettled, sum_at}
 use Rattle.vyrd_view.proofs.SidedLaws.{settled_of, with_same_amount}
 use Rattle.vyrd_view.proofs.SummedLaws.{settled_sums, sums_settled, sum_is, sum_carries, bare_stays}
 use Rattle.vyrd_view.proofs.sums.Sums.carry.Goals as goal

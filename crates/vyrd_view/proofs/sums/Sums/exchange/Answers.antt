@@ -1,8 +1,5 @@
-use Rattle.std.proofs.Common.{◌≡◌, ℕ, ◌+◌, ◌-◌, ◌==◌, if◌then◌else◌, ap, ◌∙◌, arith}
-use Rattle.std.proofs.lemmas.Result.{on_ok_weaker}
-use Rattle.vyrd_base.specs.Amounts.{with_amount}
-use Rattle.vyrd_view.specs.Sided.{shown_at, specified_of}
-use Rattle.vyrd_view.specs.Summed.{sum_at}
+use Rattle.vyrd_view.proofs.Prelude.{◌≡◌, ℕ, ◌+◌, ◌-◌, ◌==◌, if◌then◌else◌, ap, ◌∙◌, arith}
+use Rattle.vyrd_view.proofs.Prelude.{on_ok_weaker, with_amount, shown_at, specified_of, sum_at}
 use Rattle.vyrd_view.proofs.SidedLaws.{settled_of, with_same_amount}
 use Rattle.vyrd_view.proofs.SummedLaws.{settled_sums, sides_settle, sum_moves}
 use Rattle.vyrd_view.proofs.sums.Sums.exchange.Goals as goal

@@ -1,9 +1,5 @@
-use Rattle.std.proofs.Common.{subst}
-use Rattle.std.specs.Prelude.{IfSome}
-use Rattle.std.specs.Prelude.{◌<◌, ◌^◌}
-use Rattle.vyrd_base.specs.Amounts.{amount_of}
-use Rattle.vyrd_view.specs.Apart.{IsLeastApart}
-use Rattle.vyrd_view.specs.Sided.{shown_at, specified_of}
+use Rattle.vyrd_view.proofs.Prelude.{subst, amount_of, IsLeastApart, shown_at, specified_of}
+use Rattle.std.specs.Prelude.{IfSome, ◌<◌, ◌^◌}
 use Rattle.vyrd_view.proofs.SummedLaws.{settled_sums, apart_uncarried, apart_carried, apart_either}
 use Rattle.vyrd_view.proofs.sums.Sums.first_difference.Goals as goal
 

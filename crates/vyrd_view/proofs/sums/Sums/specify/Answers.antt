@@ -1,8 +1,5 @@
-use Rattle.std.proofs.lemmas.Result.{on_ok_weaker}
-use Rattle.std.proofs.Common.{◌≡◌, ℕ}
+use Rattle.vyrd_view.proofs.Prelude.{on_ok_weaker, ◌≡◌, ℕ, shown_at, IsSettled, sum_at}
 use Rattle.vyrd_view.specs.Sided as sided
-use Rattle.vyrd_view.specs.Sided.{shown_at}
-use Rattle.vyrd_view.specs.Summed.{IsSettled, sum_at}
 use Rattle.vyrd_view.proofs.SummedLaws.{settled_sums, sides_settle, sum_stays}
 use Rattle.vyrd_view.proofs.sums.Sums.specify.Goals as goal
 

@@ -1,7 +1,5 @@
-use Rattle.std.proofs.Common.{◌≡◌, ap, ◌∙◌, vec_len}
-use Rattle.vyrd_base.specs.Rules.{Rules, rules_by}
-use Rattle.vyrd_witness.specs.Changes.{words_through}
-use Rattle.vyrd_witness.specs.Effects.{effects_along}
+use Rattle.vyrd_witness.proofs.Prelude.{◌≡◌, ap, ◌∙◌, vec_len, Rules, rules_by, words_through}
+use Rattle.vyrd_witness.proofs.Prelude.{effects_along}
 use Rattle.vyrd_witness.proofs.EffectLaws.{pass_next, changes_next}
 use Rattle.vyrd_witness.proofs.WrittenLaws.{there_fit}
 use Rattle.vyrd_witness.proofs.walk.Walk.changes.Goals as goal

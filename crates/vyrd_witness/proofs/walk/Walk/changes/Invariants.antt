@@ -1,9 +1,5 @@
-use Rattle.std.proofs.Common.{◌≡◌, take, vec_len}
-use Rattle.vyrd_base.specs.Places.{newest_first}
-use Rattle.vyrd_base.specs.Rules.{rules_by}
-use Rattle.vyrd_witness.specs.Changes.{amount_shown, changes_in, words_through}
-use Rattle.vyrd_witness.specs.Effects.{effects_along}
-use Rattle.vyrd_witness.specs.Phases.{ArePhases}
+use Rattle.vyrd_witness.proofs.Prelude.{◌≡◌, take, vec_len, newest_first, rules_by, amount_shown}
+use Rattle.vyrd_witness.proofs.Prelude.{changes_in, words_through, effects_along, ArePhases}
 use Rattle.vyrd_witness.proofs.walk.Walk.changes.Given as goal
 
 abbrev pub invariant-loop-at : goal.invariant-loop-at

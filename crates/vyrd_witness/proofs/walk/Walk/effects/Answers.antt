@@ -1,5 +1,4 @@
-use Rattle.std.proofs.Common.{ap, ◌∙◌, ◌++◌}
-use Rattle.vyrd_witness.specs.Effects.{effects_there}
+use Rattle.vyrd_witness.proofs.Prelude.{ap, ◌∙◌, ◌++◌, effects_there}
 use Rattle.vyrd_witness.proofs.EffectLaws.{along_next}
 use Rattle.vyrd_witness.proofs.walk.Walk.effects.Goals as goal
 

@@ -1,7 +1,4 @@
-use Rattle.std.proofs.Common.{◌≡◌, take}
-use Rattle.vyrd_base.specs.Places.{newest_first}
-use Rattle.vyrd_witness.specs.Effects.{effects_along}
-use Rattle.vyrd_witness.specs.Phases.{ArePhases}
+use Rattle.vyrd_witness.proofs.Prelude.{◌≡◌, take, newest_first, effects_along, ArePhases}
 use Rattle.vyrd_witness.proofs.walk.Walk.effects.Given as goal
 
 abbrev pub invariant-loop-at : goal.invariant-loop-at

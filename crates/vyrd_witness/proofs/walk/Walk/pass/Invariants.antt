@@ -1,9 +1,5 @@
-use Rattle.std.proofs.Common.{◌≡◌, take, vec_len}
-use Rattle.vyrd_base.specs.Layout.{plain_words}
-use Rattle.vyrd_base.specs.Places.{newest_first}
-use Rattle.vyrd_witness.specs.Changes.{words_through}
-use Rattle.vyrd_witness.specs.Effects.{effects_along}
-use Rattle.vyrd_witness.specs.Phases.{ArePhases}
+use Rattle.vyrd_witness.proofs.Prelude.{◌≡◌, take, vec_len, plain_words, newest_first}
+use Rattle.vyrd_witness.proofs.Prelude.{words_through, effects_along, ArePhases}
 use Rattle.vyrd_witness.proofs.walk.Walk.pass.Given as goal
 
 abbrev pub invariant-loop-at : goal.invariant-loop-at

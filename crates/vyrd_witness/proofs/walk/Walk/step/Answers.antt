@@ -1,5 +1,4 @@
-use Rattle.std.proofs.Common.{arith}
-use Rattle.vyrd_base.proofs.ListLaws.{slice_get-is}
+use Rattle.vyrd_witness.proofs.Prelude.{arith, slice_get-is}
 use Rattle.vyrd_witness.proofs.PhaseLaws.{caller_low, caller_inside, phase_kept, phases_next}
 use Rattle.vyrd_witness.proofs.walk.Walk.step.Goals as goal
 

@@ -1,7 +1,5 @@
-use Rattle.std.proofs.Common.{length, ◌<◌, arith}
-use Rattle.vyrd_words.specs.Cuts.{written}
+use Rattle.vyrd_words.proofs.Prelude.{length, ◌<◌, arith, written, is_same}
 use Rattle.vyrd_words.proofs.CountLaws.{byte_within, length-counts_of, place_below, late_added}
-use Rattle.vyrd_base.proofs.TestLaws.{is_same}
 use Rattle.vyrd_words.proofs.counts.Counts.add_late.Goals as goal
 
 pub set_apart-requires-clause-index : goal.set_apart-requires-clause-index

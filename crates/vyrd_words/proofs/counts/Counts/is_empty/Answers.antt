@@ -1,5 +1,4 @@
-use Rattle.std.proofs.Common.{length, ap, sym, ◌∙◌}
-use Rattle.std.specs.Prelude.{◌==◌}
+use Rattle.vyrd_words.proofs.Prelude.{length, ap, sym, ◌∙◌, ◌==◌}
 use Rattle.vyrd_words.proofs.CountLaws.{length-counts_of}
 use Rattle.vyrd_words.proofs.counts.Counts.is_empty.Goals as goal
 

@@ -1,13 +1,9 @@
-use Rattle.std.proofs.Common.{◌≡◌, ◌≤◌, ℕ, ◌∷◌, ◌++◌, length, take, drop, arith, ap, sym, ◌∙◌}
-use Rattle.std.proofs.Common.{subst}
-use Rattle.std.specs.Prelude.{map}
+use Rattle.vyrd_words.proofs.Prelude.{◌≡◌, ◌≤◌, ℕ, ◌∷◌, ◌++◌, length, take, drop, arith, ap, sym}
+use Rattle.vyrd_words.proofs.Prelude.{◌∙◌, subst, map, with_writes, with_writes-append, pending_for}
+use Rattle.vyrd_words.proofs.Prelude.{total, late_writes, Cuts, first_of, since_of, AreCuts}
+use Rattle.vyrd_words.proofs.Prelude.{AreKnown}
 use Rattle.std.specs.Result.{is_ok}
-use Rattle.vyrd_shadow.specs.Blocks.{with_writes}
-use Rattle.vyrd_shadow.proofs.WriteLaws.{with_writes-append}
-use Rattle.vyrd_words.specs.Costs.{pending_for}
-use Rattle.vyrd_words.specs.Counts.{total, late_writes}
 use Rattle.vyrd_words.proofs.PendingLaws.{first_pending}
-use Rattle.vyrd_words.specs.Cuts.{Cuts, first_of, since_of, AreCuts, AreKnown}
 use Rattle.vyrd_words.proofs.CutLaws.{sum-cons, advanced_both, late_both, first_in_range}
 use Rattle.vyrd_words.proofs.CutLaws.{first_taken, first_next, since_next}
 use Rattle.vyrd_words.proofs.FewLaws.{begun_next}

@@ -1,8 +1,6 @@
-use Rattle.std.proofs.Common.{ℕ, ◌++◌, ◌∷◌, [], ap, sym, subst, ◌∙◌}
-use Rattle.vyrd_words.specs.Costs.{pending_for}
-use Rattle.vyrd_words.specs.Counts.{late_writes}
+use Rattle.vyrd_words.proofs.Prelude.{ℕ, ◌++◌, ◌∷◌, [], ap, sym, subst, ◌∙◌, pending_for}
+use Rattle.vyrd_words.proofs.Prelude.{late_writes, Cuts, AreCuts, first_of, since_of, begun_of}
 use Rattle.vyrd_words.proofs.PendingLaws.{push_pending}
-use Rattle.vyrd_words.specs.Cuts.{Cuts, AreCuts, first_of, since_of, begun_of}
 use Rattle.vyrd_words.proofs.CutLaws.{first_push, since_push, pushed_cuts}
 use Rattle.vyrd_words.proofs.FewLaws.{begun_push}
 use Rattle.vyrd_words.proofs.views.Views.cut.Goals as goal

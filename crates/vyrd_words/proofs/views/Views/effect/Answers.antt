@@ -1,7 +1,4 @@
-use Rattle.std.proofs.Common.{◌<◌, sym, subst}
-use Rattle.std.proofs.Common.{arith}
-use Rattle.vyrd_base.specs.Layout.{plain_words}
-use Rattle.vyrd_words.specs.Cuts.{Cuts}
+use Rattle.vyrd_words.proofs.Prelude.{◌<◌, sym, subst, arith, plain_words, Cuts}
 use Rattle.vyrd_words.proofs.CutLaws.{one_waits, first_more, since_more, none_since, some_wait}
 use Rattle.vyrd_words.proofs.CutLaws.{first_at_once, since_at_once}
 use Rattle.vyrd_words.proofs.FewLaws.{begun_none, begun_more, begun_grows}

@@ -1,12 +1,7 @@
-use Rattle.std.proofs.Common.{◌≡◌, ◌<◌, ◌-◌, ◌++◌, ℕ, length, ap, sym, ◌∙◌, subst, arith}
-use Rattle.std.specs.Prelude.{All}
-use Rattle.std.specs.List.{sum_by}
-use Rattle.vyrd_base.specs.Layout.{plain_words}
-use Rattle.vyrd_shadow.specs.Blocks.{AreInRange}
-use Rattle.vyrd_words.specs.Costs.{pending_for}
-use Rattle.vyrd_words.specs.Counts.{late_writes}
-use Rattle.vyrd_words.specs.Cuts.{Cuts, AreCuts, first_of, since_of, begun_of, first_with}
-use Rattle.vyrd_words.specs.Cuts.{with_part, begun_with, written}
+use Rattle.vyrd_words.proofs.Prelude.{◌≡◌, ◌<◌, ◌-◌, ◌++◌, ℕ, length, ap, sym, ◌∙◌, subst, arith}
+use Rattle.vyrd_words.proofs.Prelude.{All, sum_by, plain_words, AreInRange, pending_for}
+use Rattle.vyrd_words.proofs.Prelude.{late_writes, Cuts, AreCuts, first_of, since_of, begun_of}
+use Rattle.vyrd_words.proofs.Prelude.{first_with, with_part, begun_with, written}
 use Rattle.vyrd_words.proofs.PendingLaws.{late_pending}
 use Rattle.vyrd_words.proofs.CutLaws.{late_at, first_late, since_late, late_cuts, written_in_range}
 use Rattle.vyrd_words.proofs.CutLaws.{length-since_of, first_far, since_far}

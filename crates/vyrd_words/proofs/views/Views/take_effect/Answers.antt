@@ -1,11 +1,8 @@
-use Rattle.std.proofs.Common.{◌≡◌, ◌<◌, ◌≤◌, ℕ, [], ◌∷◌, ◌++◌, length, take, drop, length-drop}
-use Rattle.std.proofs.Common.{arith, ap, sym, ◌∙◌, subst}
-use Rattle.std.specs.Prelude.{map}
-use Rattle.vyrd_base.specs.Layout.{plain_words}
-use Rattle.vyrd_words.specs.Costs.{pending_for}
+use Rattle.vyrd_words.proofs.Prelude.{◌≡◌, ◌<◌, ◌≤◌, ℕ, [], ◌∷◌, ◌++◌, length, take, drop}
+use Rattle.vyrd_words.proofs.Prelude.{length-drop, arith, ap, sym, ◌∙◌, subst, map, plain_words}
+use Rattle.vyrd_words.proofs.Prelude.{pending_for, Cuts, begun_of}
 use Rattle.vyrd_words.proofs.PendingLaws.{caught_pending, one_pending, none_late}
 use Rattle.vyrd_words.proofs.WordsLaws.{ok_two}
-use Rattle.vyrd_words.specs.Cuts.{Cuts, begun_of}
 use Rattle.vyrd_words.proofs.CutLaws.{at_once_both, now_at_once, none_waits, all_tail, always}
 use Rattle.vyrd_words.proofs.views.Views.take_effect.Goals as goal
 

@@ -1,14 +1,9 @@
-use Rattle.std.proofs.Common.{[], ◌≡◌, ◌<◌, ◌+◌, suc, length, Some, refl, ap, sym, ◌∙◌, arith}
+use Rattle.vyrd_words.proofs.Prelude.{[], ◌≡◌, ◌<◌, ◌+◌, suc, length, Some, refl, ap, sym, ◌∙◌}
+use Rattle.vyrd_words.proofs.Prelude.{arith, Call, Return, commit_count, sum_by, is_open}
+use Rattle.vyrd_words.proofs.Prelude.{kept_writes, WordsView, written, effect_words}
 use Rattle.std.proofs.lemmas.Option.{slice_get-get_or}
-use Rattle.vyrd_base.specs.declared.log.Kind.TheVariants.{Call, Return}
-use Rattle.vyrd_base.specs.Commits.{commit_count}
 use Rattle.vyrd_words.proofs.ShadowFacts.{call_followed, return_followed, commit_followed}
-use Rattle.std.specs.List.{sum_by}
 use Rattle.vyrd_shadow.specs.Costs.{owed}
-use Rattle.vyrd_shadow.specs.Following.{is_open, kept_writes}
-use Rattle.vyrd_words.specs.HasWords.{WordsView}
-use Rattle.vyrd_words.specs.Cuts.{written}
-use Rattle.vyrd_words.specs.Costs.{effect_words}
 use Rattle.vyrd_words.proofs.CutLaws.{always, length-written}
 use Rattle.vyrd_words.proofs.CostLaws.{paid_now, paid_at_most, paid_closed, one_changed}
 use Rattle.vyrd_words.proofs.CostLaws.{block_changed, one_word, block_words, priced}

@@ -1,5 +1,4 @@
-use Rattle.std.proofs.Common.{ap, arith}
-use Rattle.vyrd_base.specs.declared.header.Header.{Header}
+use Rattle.vyrd_words.proofs.Prelude.{ap, arith, Header}
 use Rattle.vyrd_words.proofs.WordsLaws.{numbers_first}
 use Rattle.vyrd_words.proofs.words.Words.new.Goals as goal
 
