@@ -7,6 +7,7 @@ from pathlib import Path
 from typing import NamedTuple
 
 from command import Ended
+from proofs import clauses_of, definitions_of, indent_of
 
 WIDTH = 100
 ROUNDS = 30  # each round shortens each long line, and none is so long
@@ -182,3 +183,25 @@ def wrapped(text):
     if meaning(new) != meaning(text):
         raise ValueError("its words would change")
     return new, stay
+
+
+def joined(text, names, whole=False):
+    """The text with each clause of these definitions in one line, up to `let`, unless a comment or a `where` stands in it. A right side
+    that began on a line of its own still does, unless the whole is wanted."""
+    lines = text.split("\n")
+    wanted = [it for it in definitions_of(lines) if it.name in names]
+    for clause in reversed(clauses_of(lines)):
+        part = lines[clause.line : clause.end]
+        inside = any(it.clauses <= clause.line < it.end for it in wanted)
+        if not inside or any("--" in line or line.strip() == "where" for line in part):
+            continue
+        # the brackets of cases stand by themselves
+        opening, closing = ("(", ")") if any("↦" in line for line in part) else (("(", "["), (")", "]"))
+        new = [part[0].rstrip()]
+        for line in map(str.strip, part[1:]):
+            if line.startswith("let ") or new[-1].endswith(" in") or (len(new) == 1 and new[0].endswith(" =") and not whole):
+                new.append(" " * (indent_of(part[0]) + 4) + line)
+            else:
+                new[-1] += ("" if new[-1].endswith(opening) or line.startswith(closing) else " ") + line
+        lines[clause.line : clause.end] = new
+    return "\n".join(lines)

@@ -5,6 +5,8 @@ from typing import NamedTuple
 
 OPEN, CLOSED = "([{", ")]}"
 SIGNATURE = re.compile(r"(?:pub )?([^\s(\[{]\S*) :(?: |$)")
+MODULE = re.compile(r"(?:pub )?module\b")
+NO_MODULE_END = re.compile(r"[)\]}]")  # of what such a line itself opens
 NO_CLAUSE = re.compile(r"--|#|(?:where|pub|unfoldable|unfolding|abbrev|record|data|use|open|module)\b")
 
 
@@ -28,12 +30,13 @@ class Clause(NamedTuple):
 
 
 class Definition(NamedTuple):
-    """A definition at the left edge: its signature's line, its first clause's, and the line behind all of it."""
+    """A definition at the left edge, or at that of a `module`: its signature's line, its first clause's, and the line behind all of it."""
 
     name: str
     line: int
     clauses: int
     end: int
+    indent: int = 0
 
 
 def indent_of(line):
@@ -162,15 +165,27 @@ def block_end(lines, at, indent, name):
     return end
 
 
+def edges_of(lines):
+    """How far the definitions of each line's `module` are indented, which is 0 where a line stands in none."""
+    edges, now = [], 0
+    for line in lines:
+        if line.strip() and indent_of(line) == 0:
+            now = 2 if MODULE.match(line) else now if now and NO_MODULE_END.match(line) else 0
+        edges.append(now)
+    return edges
+
+
 def definitions_of(lines):
-    """The definitions at the left edge that have a signature and clauses."""
-    found = []
+    """The definitions at the left edge, or at that of a `module`, that have a signature and clauses."""
+    found, edges = [], edges_of(lines)
     for it in signatures_of(lines):
-        if it.indent or lines[it.line].startswith(("abbrev", "unfoldable")):
+        if it.indent != edges[it.line] or (found and it.line < found[-1].end):
             continue
-        clauses = it.line + 1
-        while goes_on(lines, clauses, 0) or (clauses < len(lines) and lines[clauses].startswith("unfolding ")):
+        if lines[it.line].strip().startswith(("abbrev", "unfoldable")):
+            continue
+        clauses, edge = it.line + 1, " " * it.indent
+        while goes_on(lines, clauses, it.indent) or (clauses < len(lines) and lines[clauses].startswith(edge + "unfolding ")):
             clauses += 1
-        if clauses < len(lines) and lines[clauses].split(" ")[0] == it.name:
-            found.append(Definition(it.name, it.line, clauses, block_end(lines, clauses, 0, it.name)))
+        if clauses < len(lines) and indent_of(lines[clauses]) == it.indent and lines[clauses].split()[0:1] == [it.name]:
+            found.append(Definition(it.name, it.line, clauses, block_end(lines, clauses, it.indent, it.name), it.indent))
     return found

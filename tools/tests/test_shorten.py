@@ -7,6 +7,8 @@ import shutil
 import unittest
 
 import proofs
+from arguments import arguments_in
+from layout import joined
 from support import TOOLS, ScriptTest
 
 loader = importlib.machinery.SourceFileLoader("shorten", str(TOOLS / "shorten"))
@@ -45,6 +47,7 @@ for file in proofs/*.antt; do
         done
     done <FOLDER/refused
 done
+echo "crate made: modules loaded=0 checked=$(cat FOLDER/read)"
 exit $status
 """
 RATTLE = '#!/bin/sh\ncat "$2"\n'
@@ -68,6 +71,12 @@ class Places(unittest.TestCase):
     def test_a_record_ends_with_its_bracket(self):
         lines = "law : P\nlaw = record {\n  first = x;\n}\nnext : P\nnext = q".split("\n")
         self.assertEqual([(it.name, it.end) for it in proofs.definitions_of(lines)], [("law", 4), ("next", 6)])
+
+    def test_a_definition_of_a_module_stands_at_its_edge(self):
+        text = "module _ (a : A)\n    (b : B) where\n  pub law : P\n  law = q\n    where\n      p : P\n      p = q\n\n  next : P\n  next = law\n"
+        lines = (text + "last : Q\nlast = r\n").split("\n")
+        found = [("law", 2, 3, 7, 2), ("next", 8, 9, 10, 2), ("last", 10, 11, 12, 0)]
+        self.assertEqual([tuple(it) for it in proofs.definitions_of(lines)], found)
 
     def test_words_and_parts_keep_brackets_whole(self):
         self.assertEqual(proofs.words_of("f (g x) [y, z]"), ["f", "(g x)", "[y, z]"])
@@ -123,6 +132,48 @@ class Forms(unittest.TestCase):
         self.assertEqual(shorten.apart([behind, inner, outer]), [outer, behind])
 
 
+class Arguments(unittest.TestCase):
+    def found(self, text, *own):
+        def shown(it):
+            return (text[it.start : it.end], [shown(inner) for inner in it.inner]) if it.inner else text[it.start : it.end]
+
+        return [shown(it) for it in arguments_in(text, 0, len(text), own)]
+
+    def test_those_in_a_bracket_stand_in_it(self):
+        self.assertEqual(self.found("lemma (f aa (g bb)) cc.rest 1 ∙ other dd"), [("(f aa (g bb))", ["aa", ("(g bb)", ["bb"])]), "cc.rest", "dd"])
+
+    def test_types_binders_motives_and_lists_of_tactics_have_none(self):
+        self.assertEqual(self.found("let this : f aa ≡ bb = g cc in λ (x : h dd) ee. k ff"), ["cc", "ff"])
+        self.assertEqual(self.found("elim (f aa) as (λ b. g b bb) [ true ↦ h cc | false ↦ search (h dd, arith) ]"), ["aa", "cc"])
+
+    def test_what_is_never_found_by_itself_stays_and_is_looked_into(self):
+        self.assertEqual(self.found("subst (λ x. P xx) (sym (f aa)) (own bb (g cc)) ∙ (h dd) ee", "own"), ["xx", "aa", "cc", "dd"])
+
+    def test_comments_and_texts_are_passed_over(self):
+        self.assertEqual(self.found('lemma aa -- f bb (\n    "g cc" dd'), ["aa", '"g cc"', "dd"])
+
+
+class Layouts(unittest.TestCase):
+    def test_a_clause_is_one_line_up_to_let(self):
+        text = "law : P\nlaw = let x = f\n    a in\n    g (\n      x,\n    )\n\nother : P\nother =\n    q\n"
+        self.assertEqual(joined(text, {"law"}), text.replace("f\n    a in", "f a in").replace("g (\n      x,\n    )", "g (x,)"))
+
+    def test_a_right_side_stays_on_a_line_of_its_own(self):
+        text = "law : P\nlaw =\n    f a\n    b\n"
+        self.assertEqual(joined(text, {"law"}), "law : P\nlaw =\n    f a b\n")
+        self.assertEqual(joined(text, {"law"}, whole=True), "law : P\nlaw = f a b\n")
+
+    def test_the_brackets_of_cases_stand_by_themselves(self):
+        text = "law : P\nlaw = elim b [\n      true ↦ refl\n      | false ↦ (\n        q\n      )\n    ]\n"
+        self.assertEqual(joined(text, {"law"}), "law : P\nlaw = elim b [ true ↦ refl | false ↦ (q) ]\n")
+        text = "law : P\nlaw = f [\n      a,\n      b\n    ]\n"
+        self.assertEqual(joined(text, {"law"}), "law : P\nlaw = f [a, b]\n")
+
+    def test_a_clause_with_a_comment_stays(self):
+        text = "law : P\nlaw = f -- why\n    a\n"
+        self.assertEqual(joined(text, {"law"}), text)
+
+
 class Texts(unittest.TestCase):
     def test_local_functions_that_nothing_names_go(self):
         unused = LOCAL.replace("law b = by_test b", "law b = grind arith")
@@ -131,7 +182,15 @@ class Texts(unittest.TestCase):
 
     def test_a_definition_with_as_many_lines_stays_as_it_was(self):
         new = LAW.replace("law a b e = ap (λ x. f x) e\n    ∙ sym (same b)\n    ∙ refl", "law a b e = cc (same b)")
-        self.assertEqual(shorten.fewer_lines(LAW, new.replace("other = q", "other = r")), new)
+        self.assertEqual(shorten.fewer_lines(LAW, new.replace("other = q", "other = r"), {"law", "other"}), new)
+        self.assertEqual(shorten.fewer_lines(LAW, new, {"other"}), LAW)
+
+    def test_values_that_nothing_names_go_unless_a_tactic_may_have_used_them(self):
+        text = "law : P\nlaw = let x : A = f a in\n    let y = let z = b in g z in\n    h y\n"
+        self.assertEqual(shorten.without_unused_values(text, {"law"}), "law : P\nlaw = let y = let z = b in g z in\n    h y\n")
+        self.assertEqual(shorten.without_unused_values(text, {"other"}), text)
+        by_tactic = text.replace("h y", "search arith")
+        self.assertEqual(shorten.without_unused_values(by_tactic, {"law"}), by_tactic)
 
 
 @unittest.skipUnless(shutil.which("grep") and shutil.which("cut"), "the checks are made up of grep and cut")
@@ -145,6 +204,7 @@ class Crates(ScriptTest):
             path.write_text(text.replace("FOLDER", str(self.folder)))
             path.chmod(0o755)
         self.environment["PATH"] = f"{self.folder}/bin{os.pathsep}{self.environment['PATH']}"
+        (self.folder / "read").write_text("1")
         self.refuse()
 
     def refuse(self, *words):
@@ -173,12 +233,29 @@ class Crates(ScriptTest):
         self.assertEqual((new, said.out, said.status), (LAW, "made: 0 lines fewer\n", 0))
 
     def test_one_refused_part_of_a_copy_takes_no_other_along(self):
-        self.refuse("search", "grind", "cc (second")
+        self.refuse("search", "grind", "cc (second", "_")
         text = "law : A ≡ B\nlaw = pair\n    (ap (λ x. f x)\n    (first a) ∙ e)\n    (ap (λ x. f x)\n    (second a) ∙ e)\n"
         new, said = self.shortened(text)
-        self.assertEqual(said.out, "made: 1 lines fewer\n")
-        self.assertIn("(cc (first a))", new)
-        self.assertIn("(second a) ∙ e)", new)
+        self.assertEqual(said.out, "made: 4 lines fewer\n")
+        self.assertEqual(new, "law : A ≡ B\nlaw = pair (cc (first a)) (ap (λ x. f x) (second a) ∙ e)\n")
+
+    def test_arguments_give_way(self):
+        self.refuse("search", "grind")
+        text = "law : P\nlaw = lemma\n    (first here)\n    (second there)\n"
+        new, said = self.shortened(text)
+        self.assertEqual((new, said.out), ("law : P\nlaw = lemma _ _\n", "made: 2 lines fewer\n"))
+
+    def test_what_was_not_read_is_not_found(self):
+        self.refuse("search", "grind", "_")
+        (self.folder / "read").write_text("0")
+        new, said = self.shortened(LAW)
+        self.assertEqual((new.count("\n"), said.out, said.status), (6, "made: 2 lines fewer\n", 0))
+        self.assertEqual(len(self.calls()), 4)
+
+    def test_what_does_not_go_together_gives_way(self):
+        self.refuse("search", "grind", "_", "law a b e = cc")
+        new, said = self.shortened(LAW)
+        self.assertEqual((new, said.out, said.status), (LAW, "made: 0 lines fewer\n", 0))
 
     def test_steps_are_a_limit_of_the_search_alone(self):
         self.refuse(" cc", " grind", "steps 400000")
